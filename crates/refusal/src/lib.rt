@@ -1,0 +1,126 @@
+// The refusal numbers of document 01, each with a name.
+
+// The state, the store and the tables.
+pub const HELD_BEYOND: u32 = 1;
+
+pub const STORE_SHORT: u32 = 2;
+
+pub const TABLE_SHORT: u32 = 3;
+
+// The prelude, and the size of what is given whole.
+pub const MAGIC: u32 = 10;
+
+pub const VERSION: u32 = 11;
+
+pub const BLOCK_LENGTH: u32 = 12;
+
+pub const SIZE: u32 = 13;
+
+// The block.
+pub const DATASET_NOT_UTF8: u32 = 20;
+
+pub const SCHEMA: u32 = 21;
+
+pub const STYPE_IN: u32 = 22;
+
+pub const STYPE_OUT: u32 = 23;
+
+pub const LAYOUT_PAST_END: u32 = 24;
+
+pub const LAYOUT_BELOW_4: u32 = 25;
+
+pub const NO_LAYOUT: u32 = 26;
+
+pub const SYMBOLOGY_PAST_END: u32 = 27;
+
+pub const SYMBOLOGY_NOT_SPANNED: u32 = 28;
+
+// The symbology.
+pub const LIST_COUNT_MISSING: u32 = 30;
+
+pub const LIST_COUNT_LARGE: u32 = 31;
+
+pub const LIST_NOT_UTF8: u32 = 32;
+
+pub const MAPPING_COUNT_MISSING: u32 = 33;
+
+pub const MAPPING_COUNT_LARGE: u32 = 34;
+
+pub const MAPPING_SHORT: u32 = 35;
+
+pub const RAW_SYMBOL_NOT_UTF8: u32 = 36;
+
+pub const INTERVAL_COUNT_LARGE: u32 = 37;
+
+pub const START_DATE: u32 = 38;
+
+pub const END_DATE: u32 = 39;
+
+pub const SYMBOL_NOT_UTF8: u32 = 40;
+
+// The layout.
+pub const LAYOUT_TRUNCATED: u32 = 50;
+
+pub const SECTION_SHORT: u32 = 51;
+
+pub const NAME_HOLDS_NUL: u32 = 52;
+
+pub const NAME_NOT_UTF8: u32 = 53;
+
+pub const NAME_NOT_CLOSED: u32 = 54;
+
+pub const LABEL_TWICE: u32 = 55;
+
+// The rules.
+pub const STRUCT_SIZE: u32 = 60;
+
+pub const RTYPE_TWICE: u32 = 61;
+
+pub const RTYPE_RESERVED: u32 = 62;
+
+pub const BASE_BELOW_HEADER: u32 = 63;
+
+pub const BASE_NOT_OF_8: u32 = 64;
+
+pub const NAMES_AND_FIELDS: u32 = 70;
+
+pub const ID_TWICE: u32 = 71;
+
+pub const STRUCT_IN_STRUCT: u32 = 72;
+
+pub const DEF_INDEX: u32 = 73;
+
+pub const MISALIGNED: u32 = 74;
+
+pub const SIZE_ZERO: u32 = 75;
+
+pub const DECIMAL_SCALE: u32 = 76;
+
+pub const SYMBOL_WIDTH: u32 = 77;
+
+pub const FIELD_END: u32 = 78;
+
+pub const EXTENSION_MARK: u32 = 79;
+
+pub const PAST_BASE: u32 = 80;
+
+pub const BASE_GAP: u32 = 81;
+
+pub const BASE_UNFILLED: u32 = 82;
+
+pub const EXTENSION_GAP: u32 = 83;
+
+// The writer, and a row asked for its name.
+pub const ROWS_MALFORMED: u32 = 90;
+
+pub const COUNT_LARGE: u32 = 91;
+
+pub const NAME_LONG: u32 = 92;
+
+pub const NAME_TEXT: u32 = 93;
+
+pub const SECTION_LARGE: u32 = 94;
+
+pub const LABELS_NOT_RISING: u32 = 95;
+
+pub const OUTPUT_SHORT: u32 = 96;

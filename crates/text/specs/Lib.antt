@@ -1,0 +1,10 @@
+pub mod Utf8
+pub mod Rows
+pub mod Trim
+pub mod Date
+pub mod Hand
+pub mod Utf8Laws
+pub mod TrimLaws
+pub mod Single
+pub mod Runs
+pub mod Steps
