@@ -16,13 +16,13 @@ use Rattle.codec.specs.EditLaws.{put-zero, put-all, marks-kept, marks-pa
 
 -- ---- bytes and numbers: they stay
 
-pub moves-kept : {A : Type 0} (c : Codec A) → ((x : A) → c .bare x ≡ x) → ((p : ℕ) (x : A) → c .locate p x ≡ x) → Moves c (marks-kept c) 0
+unfoldable pub moves-kept : {A : Type 0} (c : Codec A) → ((x : A) → c .bare x ≡ x) → ((p : ℕ) (x : A) → c .locate p x ≡ x) → Moves c (marks-kept c) 0
 moves-kept c whole still = record {
   moves = λ f x y. y ≡ x;
   moved = λ f p q x y e lg same h. still q y ∙ sym (whole y) ∙ same ∙ whole x ∙ sym (still p x);
 }
 
-pub moves-padded : (k n m : ℕ) → Moves (padded k n m) (marks-padded k n m) 0
+unfoldable pub moves-padded : (k n m : ℕ) → Moves (padded k n m) (marks-padded k n m) 0
 unfolding padded
 moves-padded k n m = record { moves = λ f x y. y .0 ≡ x .0; moved = λ f p q x y e lg same h. ap (λ z. z .0) same }
 
@@ -33,7 +33,7 @@ module _ {A B : Type 0} (c : Codec A) (d : Codec B) (M : Marks c) (N : Marks d) 
   abbrev pub then-moves : (ℕ → ℕ) → A × B → A × B → Type 0
   then-moves f x y = K .moves f (x .0) (y .0) × W .moves f (x .1) (y .1)
 
-  then-moved : (f : ℕ → ℕ) (p q : ℕ) (x y : A × B) (e : Edit (then-marks c d M N x) (then-marks c d M N y)) → (c then d) .legal x → (c then d) .bare y ≡ (c then d) .bare x
+  pub then-moved : (f : ℕ → ℕ) (p q : ℕ) (x y : A × B) (e : Edit (then-marks c d M N x) (then-marks c d M N y)) → (c then d) .legal x → (c then d) .bare y ≡ (c then d) .bare x
       → ((n : ℕ) → n < length ((c then d) .print x) + k → f (p + n) ≡ q + (n + put e n)) → then-moves f ((c then d) .locate p x) ((c then d) .locate q y)
   unfolding _then_
   then-moved f p q x y (Edit.pair _ _ _ _ e1 e2) lg same h =
@@ -53,14 +53,14 @@ module _ {A B : Type 0} (c : Codec A) (d : Codec B) (M : Marks c) (N : Marks d) 
             ap f u ∙ h (length a + n) r ∙ omega (arith, ap (put e2) z, put-all e1 (length a + n) (omega arith))),
       )
 
-  pub moves-then : Moves (c then d) (marks-then c d M N) k
+  unfoldable pub moves-then : Moves (c then d) (marks-then c d M N) k
   unfolding _then_ marks-then
   moves-then = record { moves = then-moves; moved = then-moved }
 
 -- ---- under another name, with a test, with a place
 
 module _ {A : Type 0} (c : Codec A) (M : Marks c) (k : ℕ) (K : Moves c M k) where
-  pub moves-named : {B : Type 0} (to : A → B) (from : B → A) (same : (x : A) → from (to x) ≡ x) → Moves (named to from c) (marks-named c M to from same) k
+  unfoldable pub moves-named : {B : Type 0} (to : A → B) (from : B → A) (same : (x : A) → from (to x) ≡ x) → Moves (named to from c) (marks-named c M to from same) k
   unfolding named marks-named
   moves-named to from same = record {
     moves = λ f x y. K .moves f (from x) (from y);
@@ -69,12 +69,12 @@ module _ {A : Type 0} (c : Codec A) (M : Marks c) (k : ℕ) (K : Moves c M k) wh
         (K .moved f p q (from x) (from y) e lg (sym (same (c .bare (from y))) ∙ ap from eq ∙ same (c .bare (from x))) h);
   }
 
-  pub moves-checked : (test : A → Bool) (n : ℕ) (blind : (x : A) → test (c .bare x) ≡ test x) → Moves (checked test n c) (marks-checked c M test n blind) k
+  unfoldable pub moves-checked : (test : A → Bool) (n : ℕ) (blind : (x : A) → test (c .bare x) ≡ test x) → Moves (checked test n c) (marks-checked c M test n blind) k
   unfolding checked marks-checked
   moves-checked test n blind = record { moves = K .moves; moved = λ f p q x y e lg eq h. K .moved f p q x y e (lg .0) eq h }
 
   -- a place at the end of a value may be its start
-  pub moves-placed : k ≤ 1 → Moves (placed c) (marks-placed c M) 1
+  unfoldable pub moves-placed : k ≤ 1 → Moves (placed c) (marks-placed c M) 1
   unfolding placed marks-placed
   moves-placed one = record {
     moves = λ f x y. (y .0 ≡ f (x .0)) × K .moves f (x .1) (y .1);
@@ -86,7 +86,7 @@ module _ {A : Type 0} (c : Codec A) (M : Marks c) (k : ℕ) (K : Moves c M k) wh
 
 -- ---- a number that says how the rest is read
 
-put-kept : (u : List ℕ) (m : Marked) (e : Edit (kept u) m) (n : ℕ) → put e n ≡ 0
+pub put-kept : (u : List ℕ) (m : Marked) (e : Edit (kept u) m) (n : ℕ) → put e n ≡ 0
 put-kept u m (Edit.keep _) n = refl
 
 module _ {A : Type 0} (k w : ℕ) (size : A → ℕ) (c : ℕ → Codec A) (M : (n : ℕ) → Marks (c n)) (blind : (n : ℕ) (x : A) → size (c n .bare x) ≡ size x)
@@ -105,7 +105,7 @@ module _ {A : Type 0} (k w : ℕ) (size : A → ℕ) (c : ℕ → Codec A) (M : 
       → ((i : ℕ) → i < length (c (size x) .print x) + j → f (p + i) ≡ q + (i + put e i)) → K (size x) .moves f (c (size x) .locate p x) (c n .locate q y))
       (λ e lg eq h. K (size x) .moved f p q x y e lg eq h) same
 
-  sized-moved : (f : ℕ → ℕ) (p q : ℕ) (x y : A) (e : Edit (sized-marks k w size c M blind x) (sized-marks k w size c M blind y)) → sized k w size c .legal x
+  pub sized-moved : (f : ℕ → ℕ) (p q : ℕ) (x y : A) (e : Edit (sized-marks k w size c M blind x) (sized-marks k w size c M blind y)) → sized k w size c .legal x
       → sized k w size c .bare y ≡ sized k w size c .bare x → ((n : ℕ) → n < length (sized k w size c .print x) + j → f (p + n) ≡ q + (n + put e n))
       → sized-moves f (sized k w size c .locate p x) (sized k w size c .locate q y)
   unfolding sized
@@ -121,7 +121,7 @@ module _ {A : Type 0} (k w : ℕ) (size : A → ℕ) (c : ℕ → Codec A) (M : 
       let z : w + i - length u ≡ i = omega arith in
       ap f t ∙ h (w + i) r ∙ omega (arith, put-kept u _ e1 (w + i), ap (put e2) z)))
 
-  pub moves-sized : Moves (sized k w size c) (marks-sized k w size c M blind) j
+  unfoldable pub moves-sized : Moves (sized k w size c) (marks-sized k w size c M blind) j
   unfolding sized marks-sized
   moves-sized = record { moves = sized-moves; moved = sized-moved }
 
@@ -134,7 +134,7 @@ module _ {A : Type 0} (c : Codec A) (M : Marks c) (K : Moves c M 0) where
   times-moves f (x ∷ xs) [] = ⊥
   times-moves f (x ∷ xs) (y ∷ ys) = K .moves f x y × times-moves f xs ys
 
-  times-moved : (f : ℕ → ℕ) (p q : ℕ) (xs ys : List A) (e : Edit (times-marks c M xs) (times-marks c M ys)) → timesLegal c xs → timesBare c ys ≡ timesBare c xs
+  pub times-moved : (f : ℕ → ℕ) (p q : ℕ) (xs ys : List A) (e : Edit (times-marks c M xs) (times-marks c M ys)) → timesLegal c xs → timesBare c ys ≡ timesBare c xs
       → ((n : ℕ) → n < length (timesPrint c xs) + 0 → f (p + n) ≡ q + (n + put e n)) → times-moves f (timesLocate c p xs) (timesLocate c q ys)
   times-moved f p q [] [] e lg eq h = tt
   times-moved f p q [] (y ∷ ys) e lg eq h = absurd (let z : _≡_ {A = ℕ} 0 1 = cc in omega arith)
@@ -156,22 +156,22 @@ module _ {A : Type 0} (c : Codec A) (M : Marks c) (K : Moves c M 0) where
             ap f u ∙ h (length a + n) r ∙ omega (arith, ap (put e2) z, put-all e1 (length a + n) (omega arith))),
       )
 
-  pub moves-times : (n : ℕ) → Moves (times c n) (marks-times c M n) 0
+  unfoldable pub moves-times : (n : ℕ) → Moves (times c n) (marks-times c M n) 0
   unfolding times marks-times
   moves-times n = record { moves = times-moves; moved = λ f p q xs ys e lg eq h. times-moved f p q xs ys e (lg .1) eq h }
 
-  pub moves-distinct : (key : A → ℕ) (k : ℕ) (blind : (x : A) → key (c .bare x) ≡ key x) (n : ℕ) → Moves (distinct c key k n) (marks-distinct c M key k blind n) 0
+  unfoldable pub moves-distinct : (key : A → ℕ) (k : ℕ) (blind : (x : A) → key (c .bare x) ≡ key x) (n : ℕ) → Moves (distinct c key k n) (marks-distinct c M key k blind n) 0
   unfolding distinct marks-distinct
   moves-distinct key k blind n = record { moves = times-moves; moved = λ f p q xs ys e lg eq h. times-moved f p q xs ys e (distinct-legal c M key k blind xs [] (lg .1)) eq h }
 
 -- ---- a part with a length of its own, whose places are counted on
 
 -- the edit of a box's contents m into m′, which puts in the same before each of their places
-record Inside (m m′ : Marked) (w : ℕ) (r : List ℕ) (before : ℕ → ℕ) : Type 0 where
-  edit : Edit m m′
-  like : (n : ℕ) → n < length (bytesOf m ++ r) → before (w + n) ≡ put edit n
+pub record Inside (m m′ : Marked) (w : ℕ) (r : List ℕ) (before : ℕ → ℕ) : Type 0 where
+  pub edit : Edit m m′
+  pub like : (n : ℕ) → n < length (bytesOf m ++ r) → before (w + n) ≡ put edit n
 
-inside : (w own : ℕ) (m : Marked) (r : List ℕ) (b : Marked) (e : Edit (box w own m r) b) (m′ : Marked) (r′ : List ℕ) → b ≡ box w own m′ r′ → Inside m m′ w r (put e)
+pub inside : (w own : ℕ) (m : Marked) (r : List ℕ) (b : Marked) (e : Edit (box w own m r) b) (m′ : Marked) (r′ : List ℕ) → b ≡ box w own m′ r′ → Inside m m′ w r (put e)
 inside w own m r b (Edit.grow _ _ _ m1 _ r1 o e l h f) m′ r′ eq =
     let q : m1 ≡ m′ = cc in
     subst (λ v. Inside m v w r (put (Edit.grow w own m m1 r r1 o e l h f))) q (record {
@@ -183,7 +183,7 @@ inside w own m r b (Edit.grow _ _ _ m1 _ r1 o e l h f) m′ r′ eq =
     })
 
 module _ {A : Type 0} (k k′ k″ w own : ℕ) (spot : (ℕ → List ℕ → Type 0) → A → Type 0) (c : Codec A) (M : Marks c) (K : Moves c M 0) where
-  boxed-moved : (f : ℕ → ℕ) (p q : ℕ) (x y : A × List ℕ) (e : Edit (boxed-marks k k′ k″ w own (λ p. p) spot c M x) (boxed-marks k k′ k″ w own (λ p. p) spot c M y))
+  pub boxed-moved : (f : ℕ → ℕ) (p q : ℕ) (x y : A × List ℕ) (e : Edit (boxed-marks k k′ k″ w own (λ p. p) spot c M x) (boxed-marks k k′ k″ w own (λ p. p) spot c M y))
       → boxed k k′ k″ w own (λ p. p) spot c .legal x → boxed k k′ k″ w own (λ p. p) spot c .bare y ≡ boxed k k′ k″ w own (λ p. p) spot c .bare x
       → ((n : ℕ) → n < length (boxed k k′ k″ w own (λ p. p) spot c .print x) + 0 → f (p + n) ≡ q + (n + put e n))
       → K .moves f (c .locate (p + w) (x .0)) (c .locate (q + w) (y .0))
@@ -201,6 +201,6 @@ module _ {A : Type 0} (k k′ k″ w own : ℕ) (spot : (ℕ → List ℕ → Ty
       let t : p + w + n ≡ p + (w + n) = omega arith in
       ap f t ∙ h (w + n) r ∙ omega (arith, i .like n (omega arith)))
 
-  pub moves-boxed : Moves (boxed k k′ k″ w own (λ p. p) spot c) (marks-boxed k k′ k″ w own (λ p. p) spot c M) 0
+  unfoldable pub moves-boxed : Moves (boxed k k′ k″ w own (λ p. p) spot c) (marks-boxed k k′ k″ w own (λ p. p) spot c M) 0
   unfolding boxed marks-boxed
   moves-boxed = record { moves = λ f x y. K .moves f (x .0) (y .0); moved = boxed-moved }
