@@ -1,0 +1,32 @@
+-- Each public promise allows one answer: two outcomes that meet it are equal.
+-- Assumes nothing.
+use Prim.Native.Nat.{ℕ}
+use mathlib.Core.Path.{_≡_, sym, ap, _∙_}
+use mathlib.Core.List.{List}
+use denote.Ref.{RefT}
+use Rattle.wire.specs.declared.Got.{Got}
+use Rattle.byte_reader.specs.Reader.{after, moved, Stepped, LabelIs}
+use Rattle.byte_reader.specs.declared.ByteReader.{ByteReader}
+use Rattle.byte_reader.specs.declared.Label.{Label}
+use Rattle.wire.specs.Wire.{nameAt}
+
+-- of `new`
+pub new-one : (s : RefT (List ℕ)) (x y : ByteReader) → (x .buf ≡ s) × (x .pos ≡ 0) → (y .buf ≡ s) × (y .pos ≡ 0) → x ≡ y
+new-one s x y e f = λ i. record { buf = (e .0 ∙ sym (f .0)) i; pos = (e .1 ∙ sym (f .1)) i }
+
+-- of `take`, `u16` and `name`: the answer, and the reader after it
+pub step-one : {b m : ℕ} {f : List ℕ → ℕ → Got} {d x y : ByteReader} {r q : Got} → Stepped b m f d x r → Stepped b m f d y q → (r ≡ q) × (x ≡ y)
+step-one {d = d} g h =
+    let e = g .answer ∙ sym (h .answer) in
+    (e, g .reader ∙ (ap (moved d) e ∙ sym (h .reader)))
+
+-- of `u16_in` and `name_in`
+pub read-one : (f : List ℕ → ℕ → Got) (s : List ℕ) (at : ℕ) (r q : Got) → r ≡ f s at → q ≡ f s at → r ≡ q
+read-one f s at r q e g = e ∙ sym g
+
+-- of `label_in`
+pub label-one : {s : List ℕ} {at : ℕ} {x y : Label} → LabelIs s at x → LabelIs s at y → x ≡ y
+label-one {s} {at} {x} {y} g h =
+    let e : x .code ≡ y .code = g .code ∙ sym (h .code) in
+    let f : x .name ≡ y .name = g .name ∙ (ap (λ c. nameAt s (after c at)) e ∙ sym (h .name)) in
+    λ i. record { code = e i; name = f i }

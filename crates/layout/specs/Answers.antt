@@ -1,0 +1,38 @@
+-- What the public readers answer, and what they leave in the table.
+-- Assumes nothing.
+use Prim.Native.Nat.{ℕ, _*_, _/_}
+use mathlib.Core.Path.{_≡_}
+use mathlib.Core.List.{List, _++_}
+use lib.ListN.{length, drop}
+use lib.Dec.{leb}
+use Rattle.codec.specs.Codec.{Res, ok, refuse}
+use Rattle.wire.specs.Pick.{pick}
+use Rattle.wire.specs.Out.{flat}
+use Rattle.layout.specs.Layout.{Layout}
+use Rattle.layout.specs.Rows.{rows}
+use Rattle.layout.specs.Given.{layoutOf}
+use Rattle.layout.specs.declared.Verdict.{Verdict}
+use Rattle.layout.specs.declared.Verdict.the-variants.{Accepted}
+use Rattle.layout.specs.declared.Verdict.the-variants as Verdict'
+use Rattle.layout.specs.declared.Answer.{Answer}
+use Rattle.layout.specs.declared.Answer.the-variants.{Read, Short, Refused}
+
+-- without a table
+abbrev pub verdict : Res Layout → Verdict
+verdict (ok l j) = Accepted (l .version) (length (rows l))
+verdict (refuse k) = Verdict'.Refused k
+
+-- a table of cap rows is long enough, or short
+abbrev pub judge : ℕ → Res Layout → Answer
+judge cap (ok l j) = pick (leb (length (rows l)) cap) (Read (l .version) (length (rows l))) (Short (length (rows l)))
+judge cap (refuse k) = Refused k
+
+-- the rows stand at the front of the table, and the rest of it is as it was
+abbrev pub leave : List ℕ → Res Layout → List ℕ
+leave t (ok l j) = pick (leb (length (rows l)) (length t / 9)) (flat (rows l) ++ drop (9 * length (rows l)) t) t
+leave t (refuse k) = t
+
+-- what reading the layout s into the table t answers and leaves
+pub record Answers (s t t′ : List ℕ) (r : Answer) : Type 0 where
+  pub is : r ≡ judge (length t / 9) (layoutOf s)
+  pub leaves : t′ ≡ leave t (layoutOf s)

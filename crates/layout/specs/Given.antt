@@ -1,0 +1,46 @@
+-- The layout's formats with the text crate's UTF-8 and the entry length of the wire. Of D the proofs use 11 ≤ D only.
+-- Assumes nothing.
+use Prim.Native.Nat.{ℕ, _≤_}
+use native.Mathlib.Omega.{arith}
+use mathlib.Core.Path.{_≡_, refl}
+use mathlib.Core.List.{List}
+use lib.ListN.{length}
+use lib.Dec.{leb}
+use Rattle.codec.specs.Codec.{Res, refuse, Codec}
+use Rattle.text.specs.Utf8.{utf8}
+use Rattle.wire.specs.Pick.{pick}
+use Rattle.layout.specs.Layout
+use Rattle.layout.specs.Layout.{Entry, Fields, RecordL, StructL, Label, LabelDef}
+
+unfoldable pub D : ℕ
+D = 16
+
+pub D-least : 11 ≤ D
+unfolding D
+D-least = omega arith
+
+pub D-is : D ≡ 16
+unfolding D
+D-is = refl
+
+abbrev pub entry : Codec Entry
+entry = Layout.entry utf8 D
+
+abbrev pub fields : Codec Fields
+fields = Layout.fields utf8 D
+
+abbrev pub label : Codec Label
+label = Layout.label utf8
+
+abbrev pub recordL : Codec RecordL
+recordL = Layout.recordL utf8 D
+
+abbrev pub structL : Codec StructL
+structL = Layout.structL utf8 D
+
+abbrev pub labelDef : Codec LabelDef
+labelDef = Layout.labelDef utf8
+
+-- what a layout given whole is read as
+unfoldable pub layoutOf : List ℕ → Res Layout.Layout
+layoutOf s = pick (leb (length s) 4294967295) (Layout.readLayout utf8 D s) (refuse 13)

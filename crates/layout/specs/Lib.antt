@@ -1,0 +1,13 @@
+pub mod Layout
+pub mod Given
+pub mod Rows
+pub mod Answers
+pub mod Reader
+pub mod Labels
+pub mod LayoutLaws
+pub mod RowLaws
+pub mod TextLaws
+pub mod Examples
+pub mod Prints
+pub mod Single
+pub mod ReadLaws

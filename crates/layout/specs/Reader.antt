@@ -1,0 +1,61 @@
+-- What each part of the reader answers, from the formats: rows and the place after them, or the refusal.
+-- Places are counted from `base` before the section.
+-- Assumes nothing.
+use Prim.Native.Nat.{ℕ, _+_}
+use mathlib.Core.List.{List, [], _∷_, _++_, map}
+use lib.ListN.{getD}
+use lib.Dec.{eqb}
+use Rattle.codec.specs.Codec.{timesParse, distinctParse}
+use Rattle.text.specs.Utf8.{utf8}
+use Rattle.wire.specs.Pick.{pick}
+use Rattle.wire.specs.Wire.{name, u16At}
+use Rattle.wire.specs.Out.{Out, said, onGot, allRows}
+use Rattle.layout.specs.Layout
+use Rattle.layout.specs.Layout.{toRecord, toStruct, toLabelDef}
+use Rattle.layout.specs.Given.{D, entry, fields, label, recordL, structL, labelDef}
+use Rattle.layout.specs.Rows.{entryRow, nameRow, fieldRows, recordRows, structRows, labelRow, labelDefRows}
+
+-- the first eleven bytes of an entry
+abbrev pub entryBytes : List ℕ → ℕ → List ℕ
+entryBytes s at =
+    getD s at 0 ∷ getD s (at + 1) 0 ∷ getD s (at + 2) 0 ∷ getD s (at + 3) 0 ∷ getD s (at + 4) 0 ∷ getD s (at + 5) 0 ∷ getD s (at + 6) 0 ∷ getD s (at + 7) 0 ∷ getD s (at + 8) 0 ∷ getD s (at + 9) 0 ∷ getD s (at + 10) 0 ∷ []
+
+unfoldable pub entriesAt : ℕ → ℕ → List ℕ → ℕ → Out
+entriesAt base n s at = said (map entryRow) (timesParse entry n base s at)
+
+unfoldable pub namesAt : ℕ → ℕ → List ℕ → ℕ → Out
+namesAt base n s at = said (map nameRow) (timesParse name n base s at)
+
+unfoldable pub fieldsAt : ℕ → List ℕ → ℕ → Out
+fieldsAt base s at = said fieldRows (fields .parse base s at)
+
+-- labels, after labels of the codes `seen`
+unfoldable pub labelsAt : ℕ → List ℕ → ℕ → List ℕ → ℕ → Out
+labelsAt base seen n s at = said (map labelRow) (distinctParse label (λ l. l .code) 55 n seen base s at)
+
+-- a section's body by its kind: 0 a record, 1 a struct, else a label def
+unfoldable pub recordBody : ℕ → List ℕ → Out
+recordBody base s = said (λ z. recordRows (toRecord (z, []))) (Layout.recordBody utf8 D .parse base s 0)
+
+unfoldable pub structBody : ℕ → List ℕ → Out
+structBody base s = said (λ z. structRows (toStruct (z, []))) (Layout.structBody utf8 D .parse base s 0)
+
+unfoldable pub labelBody : ℕ → List ℕ → Out
+labelBody base s = said (λ z. labelDefRows (toLabelDef (z, []))) (Layout.labelBody utf8 .parse base s 0)
+
+unfoldable pub bodyOf : ℕ → ℕ → List ℕ → Out
+bodyOf kind base s = pick (eqb kind 0) (recordBody base s) (pick (eqb kind 1) (structBody base s) (labelBody base s))
+
+-- n items, each in a section of its own, whose body is handed on as its own part of the layout
+unfoldable pub sectionsAt : ℕ → ℕ → List ℕ → ℕ → Out
+sectionsAt kind n s at =
+    pick (eqb kind 0) (said (allRows recordRows) (timesParse recordL n 0 s at))
+    (pick (eqb kind 1) (said (allRows structRows) (timesParse structL n 0 s at)) (said (allRows labelDefRows) (timesParse labelDef n 0 s at)))
+
+-- a count and as many items
+unfoldable pub groupAt : ℕ → List ℕ → ℕ → Out
+groupAt kind s at = onGot (u16At s at) λ count p. sectionsAt kind count s p
+
+-- records, structs, label defs
+unfoldable pub groupsAt : List ℕ → ℕ → Out
+groupsAt s at = said (λ z. allRows recordRows (z .0) ++ (allRows structRows (z .1 .0) ++ allRows labelDefRows (z .1 .1))) (Layout.groups utf8 D .parse 0 s at)

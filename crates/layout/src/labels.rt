@@ -1,0 +1,80 @@
+// Labels whose codes differ.
+use super::rows;
+use wire::Got;
+ghost use mathlib.Core.Path.{_≡_};
+ghost use mathlib.Core.List.{[]};
+ghost use Prim.Native.Nat.{_<_};
+ghost use Rattle.marks.specs.Marks.{Marks};
+ghost use Rattle.wire.specs.Out.{Room, Ran};
+ghost use Rattle.layout.specs.Reader.{labelsAt};
+ghost use Rattle.layout.specs.Labels.{Cleared, Codes};
+
+// Labels whose codes differ. A code is marked when its label is read; at the end no mark is left.
+pub(crate) fn labels(
+    s: &[u8],
+    at: usize,
+    count: usize,
+    base: usize,
+    table: &mut [u32],
+    n: usize,
+    marks: &mut [u64; 1024],
+) -> Got
+    requires { ⌜ Room base (now s) at n ⌝ }
+    requires { ⌜ Marks (now marks) [] ⌝ }
+    ensures { λ r. ⌜ Ran 9 base (now (s .entry)) (labelsAt base [] count (now (s .entry)) at) n (now (table .entry)) (now (table .exit)) r ⌝ }
+    ensures { λ r. ⌜ Cleared r (now (marks .exit)) ⌝ }
+{
+    let mut todo = count;
+    let mut p = at;
+    let mut k = n;
+    while 0 < todo {
+        match wire::u16_at(s, p, refusal::LAYOUT_TRUNCATED) {
+            Got::Value {
+                value: code,
+                next: q,
+            } => match wire::name_at(s, q) {
+                Got::Value {
+                    value: len,
+                    next: e,
+                } => {
+                    let key = code as u16;
+                    if marks::is_marked(marks, key) {
+                        return Got::Refused(refusal::LABEL_TWICE);
+                    }
+                    marks::mark(marks, key);
+                    let row = rows::label_row(base + (q + 1), len, code);
+                    wire::put_row(table, k, &row);
+                    k += 1;
+                    p = e;
+                    todo -= 1;
+                }
+                Got::Refused(why) => return Got::Refused(why),
+            },
+            Got::Refused(why) => return Got::Refused(why),
+        }
+    }
+    unmark(s, at, count, marks);
+    Got::Value { value: k, next: p }
+}
+
+// Clears the marks of the codes of `count` labels from `at` on.
+fn unmark(s: &[u8], at: usize, count: usize, marks: &mut [u64; 1024])
+    requires { ⌜ Codes (now s) count at (now marks) ⌝ }
+    ensures { λ _. ⌜ Marks (now (marks .exit)) [] ⌝ }
+{
+    let mut todo = count;
+    let mut p = at;
+    while 0 < todo {
+        let code = rows::half(s, p) as u16;
+        let len = wide(s[p + 2]);
+        marks::wipe(marks, code);
+        p = p + 4 + len;
+        todo -= 1;
+    }
+}
+
+fn wide(x: u8) -> usize
+    ensures { λ r. ⌜ (r ≡ x) × (r < 256) ⌝ }
+{
+    x as usize
+}

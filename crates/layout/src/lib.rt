@@ -1,0 +1,101 @@
+// The layout of a block: records, structs and label defs, read into rows of nine.
+mod fields;
+mod labels;
+mod rows;
+mod sections;
+
+use wire::Got;
+ghost use mathlib.Core.Path.{_≡_};
+ghost use Prim.Native.Nat.{_+_};
+ghost use lib.ListN.{getD};
+ghost use Rattle.layout.specs.Given.{layoutOf};
+ghost use Rattle.layout.specs.Answers.{Answers, verdict};
+ghost use Rattle.layout.specs.Reader.{entryBytes};
+
+// The bytes of a field entry on the wire, FIELD_DEF_LEN; the first eleven are read.
+pub const D: usize = 16;
+
+// The verdict on a layout: its version and how many rows it has; or the refusal.
+pub enum Verdict {
+    Accepted { version: usize, rows: usize },
+    Refused(u32),
+}
+
+// What reading into a table answers: the version and the rows written; the rows needed where the table is short; or
+// the refusal.
+pub enum Answer {
+    Read { version: usize, rows: usize },
+    Short(usize),
+    Refused(u32),
+}
+
+// The verdict on a layout: its version and how many rows it has, or the refusal.
+pub fn layout_verdict(layout: &[u8]) -> Verdict
+    ensures { λ r. ⌜ r ≡ verdict (layoutOf (now (layout .entry))) ⌝ }
+{
+    if layout.len() > 4294967295 {
+        return Verdict::Refused(refusal::SIZE);
+    }
+    match wire::u16_at(layout, 0, refusal::LAYOUT_TRUNCATED) {
+        Got::Value {
+            value: version,
+            next,
+        } => {
+            let mut none = [0u32; 1];
+            match sections::groups(layout, next, &mut none) {
+                Got::Value {
+                    value: rows,
+                    next: _,
+                } => Verdict::Accepted { version, rows },
+                Got::Refused(why) => Verdict::Refused(why),
+            }
+        }
+        Got::Refused(why) => Verdict::Refused(why),
+    }
+}
+
+// The rows of a layout in the table, which is written only where all is accepted and it is long enough.
+pub fn read_layout_rows(layout: &[u8], table: &mut [u32]) -> Answer
+    ensures { λ r. ⌜ Answers (now (layout .entry)) (now (table .entry)) (now (table .exit)) r ⌝ }
+{
+    match layout_verdict(layout) {
+        Verdict::Accepted { version, rows } => {
+            if rows <= table.len() / 9 {
+                sections::groups(layout, 2, table);
+                Answer::Read { version, rows }
+            } else {
+                Answer::Short(rows)
+            }
+        }
+        Verdict::Refused(why) => Answer::Refused(why),
+    }
+}
+
+// The first eleven bytes of the entry at `at`, 0 for each byte past the end.
+pub fn entry_bytes(s: &[u8], at: usize) -> [u8; 11]
+    ensures { λ r. ⌜ r ≡ entryBytes (now (s .entry)) at ⌝ }
+{
+    if 11 <= wire::left(s, at) {
+        return fields::eleven(s, at);
+    }
+    [
+        byte(s, at, 0),
+        byte(s, at, 1),
+        byte(s, at, 2),
+        byte(s, at, 3),
+        byte(s, at, 4),
+        byte(s, at, 5),
+        byte(s, at, 6),
+        byte(s, at, 7),
+        byte(s, at, 8),
+        byte(s, at, 9),
+        byte(s, at, 10),
+    ]
+}
+
+// Byte j from `at` on, 0 past the end.
+fn byte(s: &[u8], at: usize, j: usize) -> u8
+    ensures { λ r. ⌜ r ≡ getD (now (s .entry)) (at + j) 0 ⌝ }
+{
+    if j < wire::left(s, at) { s[at + j] } else { 0 }
+}

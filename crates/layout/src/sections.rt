@@ -1,0 +1,186 @@
+// Sections: each body is read as its own part of the layout.
+use super::fields;
+use super::labels;
+use super::rows;
+use wire::Got;
+ghost use mathlib.Core.Path.{_≡_};
+ghost use mathlib.Core.List.{[]};
+ghost use Rattle.marks.specs.Marks.{Marks};
+ghost use Rattle.wire.specs.Out.{Room, Ran};
+ghost use Rattle.layout.specs.Reader.{recordBody, structBody, labelBody, bodyOf, sectionsAt, groupAt, groupsAt};
+ghost use Rattle.layout.specs.Labels.{Cleared};
+
+pub(crate) fn groups(s: &[u8], at: usize, table: &mut [u32]) -> Got
+    requires { ⌜ Room 0 (now s) at 0 ⌝ }
+    ensures { λ r. ⌜ Ran 9 0 (now (s .entry)) (groupsAt (now (s .entry)) at) 0 (now (table .entry)) (now (table .exit)) r ⌝ }
+{
+    let mut marks = [0u64; 1024];
+    match group(0, s, at, table, 0, &mut marks) {
+        Got::Value { value: a, next: p } => match group(1, s, p, table, a, &mut marks) {
+            Got::Value { value: b, next: q } => group(2, s, q, table, b, &mut marks),
+            Got::Refused(why) => Got::Refused(why),
+        },
+        Got::Refused(why) => Got::Refused(why),
+    }
+}
+
+fn group(
+    kind: usize,
+    s: &[u8],
+    at: usize,
+    table: &mut [u32],
+    n: usize,
+    marks: &mut [u64; 1024],
+) -> Got
+    requires { ⌜ Room 0 (now s) at n ⌝ }
+    requires { ⌜ Marks (now marks) [] ⌝ }
+    ensures { λ r. ⌜ Ran 9 0 (now (s .entry)) (groupAt kind (now (s .entry)) at) n (now (table .entry)) (now (table .exit)) r ⌝ }
+    ensures { λ r. ⌜ Cleared r (now (marks .exit)) ⌝ }
+{
+    match wire::u16_at(s, at, refusal::LAYOUT_TRUNCATED) {
+        Got::Value { value, next } => sections(kind, s, next, value, table, n, marks),
+        Got::Refused(why) => Got::Refused(why),
+    }
+}
+
+fn sections(
+    kind: usize,
+    s: &[u8],
+    at: usize,
+    count: usize,
+    table: &mut [u32],
+    n: usize,
+    marks: &mut [u64; 1024],
+) -> Got
+    requires { ⌜ Room 0 (now s) at n ⌝ }
+    requires { ⌜ Marks (now marks) [] ⌝ }
+    ensures { λ r. ⌜ Ran 9 0 (now (s .entry)) (sectionsAt kind count (now (s .entry)) at) n (now (table .entry)) (now (table .exit)) r ⌝ }
+    ensures { λ r. ⌜ Cleared r (now (marks .exit)) ⌝ }
+{
+    let mut todo = count;
+    let mut p = at;
+    let mut k = n;
+    while 0 < todo {
+        match wire::section_at(s, p) {
+            Got::Value { value: b, next: e } => {
+                let part = &s[b..e];
+                match body(kind, part, b, table, k, marks) {
+                    Got::Value { value: m, next: _ } => {
+                        k = m;
+                        p = e;
+                        todo -= 1;
+                    }
+                    Got::Refused(why) => return Got::Refused(why),
+                }
+            }
+            Got::Refused(why) => return Got::Refused(why),
+        }
+    }
+    Got::Value { value: k, next: p }
+}
+
+// A section's body by its kind: 0 a record, 1 a struct, else a label def.
+fn body(
+    kind: usize,
+    s: &[u8],
+    base: usize,
+    table: &mut [u32],
+    n: usize,
+    marks: &mut [u64; 1024],
+) -> Got
+    requires { ⌜ Room base (now s) 0 n ⌝ }
+    requires { ⌜ Marks (now marks) [] ⌝ }
+    ensures { λ r. ⌜ Ran 9 base (now (s .entry)) (bodyOf kind base (now (s .entry))) n (now (table .entry)) (now (table .exit)) r ⌝ }
+    ensures { λ r. ⌜ Cleared r (now (marks .exit)) ⌝ }
+{
+    if kind == 0 {
+        return record_body(s, base, table, n);
+    }
+    if kind == 1 {
+        return struct_body(s, base, table, n);
+    }
+    label_body(s, base, table, n, marks)
+}
+
+// The record whose section's body is `s`, `base` bytes into the layout.
+fn record_body(s: &[u8], base: usize, table: &mut [u32], n: usize) -> Got
+    requires { ⌜ Room base (now s) 0 n ⌝ }
+    ensures { λ r. ⌜ Ran 9 base (now (s .entry)) (recordBody base (now (s .entry))) n (now (table .entry)) (now (table .exit)) r ⌝ }
+{
+    match wire::take(s, 0, 14, refusal::LAYOUT_TRUNCATED) {
+        Got::Value { value: _, next: p } => match wire::name_at(s, p) {
+            Got::Value {
+                value: len,
+                next: q,
+            } => match wire::u16_at(s, q, refusal::LAYOUT_TRUNCATED) {
+                Got::Value {
+                    value: count,
+                    next: _,
+                } => {
+                    let row = rows::record_row(s, base + (p + 1), len, count);
+                    wire::put_row(table, n, &row);
+                    fields::fields(s, q, base, table, n + 1)
+                }
+                Got::Refused(why) => Got::Refused(why),
+            },
+            Got::Refused(why) => Got::Refused(why),
+        },
+        Got::Refused(why) => Got::Refused(why),
+    }
+}
+
+// The struct whose section's body is `s`, `base` bytes into the layout.
+fn struct_body(s: &[u8], base: usize, table: &mut [u32], n: usize) -> Got
+    requires { ⌜ Room base (now s) 0 n ⌝ }
+    ensures { λ r. ⌜ Ran 9 base (now (s .entry)) (structBody base (now (s .entry))) n (now (table .entry)) (now (table .exit)) r ⌝ }
+{
+    match wire::u16_at(s, 0, refusal::LAYOUT_TRUNCATED) {
+        Got::Value {
+            value: size,
+            next: p,
+        } => match wire::name_at(s, p) {
+            Got::Value {
+                value: len,
+                next: q,
+            } => match wire::u16_at(s, q, refusal::LAYOUT_TRUNCATED) {
+                Got::Value {
+                    value: count,
+                    next: _,
+                } => {
+                    let row = rows::struct_row(base + (p + 1), len, size, count);
+                    wire::put_row(table, n, &row);
+                    fields::fields(s, q, base, table, n + 1)
+                }
+                Got::Refused(why) => Got::Refused(why),
+            },
+            Got::Refused(why) => Got::Refused(why),
+        },
+        Got::Refused(why) => Got::Refused(why),
+    }
+}
+
+// The label def whose section's body is `s`.
+fn label_body(s: &[u8], base: usize, table: &mut [u32], n: usize, marks: &mut [u64; 1024]) -> Got
+    requires { ⌜ Room base (now s) 0 n ⌝ }
+    requires { ⌜ Marks (now marks) [] ⌝ }
+    ensures { λ r. ⌜ Ran 9 base (now (s .entry)) (labelBody base (now (s .entry))) n (now (table .entry)) (now (table .exit)) r ⌝ }
+    ensures { λ r. ⌜ Cleared r (now (marks .exit)) ⌝ }
+{
+    match wire::name_at(s, 0) {
+        Got::Value {
+            value: len,
+            next: p,
+        } => match wire::u16_at(s, p, refusal::LAYOUT_TRUNCATED) {
+            Got::Value {
+                value: count,
+                next: q,
+            } => {
+                let row = rows::label_def_row(base + 1, len, count);
+                wire::put_row(table, n, &row);
+                labels::labels(s, q, count, base, table, n + 1, marks)
+            }
+            Got::Refused(why) => Got::Refused(why),
+        },
+        Got::Refused(why) => Got::Refused(why),
+    }
+}

@@ -1,0 +1,18 @@
+use Rattle.symbology.specs.Lists.{canBe}
+use Rattle.symbology.proofs.Listing.{can-0}
+use borrow.Author.Needs.{needs}
+use Rattle.symbology.proofs.lists.can_be.Statement.{statement}
+use Rattle.symbology.proofs.lists.can_be.Tie as tie
+
+returns : tie.Need-returns
+returns c = rw (c .if1 .taken) (can-0 (c .before .args .count) (c .before .args .room))
+
+div-result : tie.Need-div-result
+div-result c = search needs
+
+returns-2 : tie.Need-returns-2
+unfolding canBe
+returns-2 c = search needs
+
+pub can-be-spec : {M : Type 1} → statement M
+can-be-spec = tie.close (tie.spec returns div-result returns-2)

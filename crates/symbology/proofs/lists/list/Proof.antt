@@ -1,0 +1,53 @@
+use native.Mathlib.Omega.{arith}
+use mathlib.Core.Path.{sym, _∙_}
+use Rattle.wire.specs.WireLaws.{past-at}
+use Rattle.wire.specs.OutLaws.{ran-is, ran-no}
+use Rattle.symbology.proofs.Listing.{count-wide, can-here, list-ok, list-31, list-no}
+use borrow.Author.Needs.{needs}
+use Rattle.symbology.proofs.lists.list.Statement.{statement}
+use Rattle.symbology.proofs.lists.list.Tie as tie
+
+u32-at-requires : tie.Need-u32-at-requires
+u32-at-requires c κs = search needs
+
+enum-known-value : tie.Need-enum-known-value
+enum-known-value c = search needs
+
+left-requires : tie.Need-left-requires
+left-requires c κs = search needs
+
+can-be-requires : tie.Need-can-be-requires
+can-be-requires c κs = search needs
+
+symbols-requires : tie.Need-symbols-requires
+symbols-requires c κs = (omega (arith, past-at (c .before .before .before .before .before .before .before .u32-at .ensures .1) (c .before .before .before .before .before .value .given .1), c .before .before .before .before .before .before .before .before .before .before .pre .0), (c .before .before .before .before .before .before .before .before .before .before .pre .1, count-wide _ _ _ (past-at (c .before .before .before .before .before .before .before .u32-at .ensures .1) (c .before .before .before .before .before .value .given .1) .2) (can-here _ _ (c .before .before .before .left .ensures) (c .before .before .can-be .ensures) (c .before .if1 .taken))))
+
+same-length : tie.Need-same-length
+same-length c = search needs
+
+returns : tie.Need-returns
+returns c = ran-is (list-ok _ _ _ _ _ (sym (c .before .before .before .before .before .before .before .before .before .before .u32-at .ensures .0) ∙ c .before .before .before .before .before .before .before .before .value .given .1) (can-here _ _ (c .before .before .before .before .before .before .left .ensures) (c .before .before .before .before .before .can-be .ensures) (c .before .before .before .before .if1 .taken))) (c .before .before .symbols .ensures)
+
+enum-known-why : tie.Need-enum-known-why
+enum-known-why c = search needs
+
+returns-2 : tie.Need-returns-2
+returns-2 c = ran-no (list-31 _ _ _ _ _ (sym (c .before .before .before .before .before .before .u32-at .ensures .0) ∙ c .before .before .before .before .value .given .1) (can-here _ _ (c .before .before .left .ensures) (c .before .can-be .ensures) (c .if1 .left)))
+
+returns-3 : tie.Need-returns-3
+returns-3 c = ran-no (list-no _ _ _ _ _ (sym (c .before .before .before .u32-at .ensures .0) ∙ c .before .why .given .1))
+
+pub list-spec : {M : Type 1} → statement M
+list-spec =
+    tie.close
+    (tie.spec
+    u32-at-requires
+    enum-known-value
+    left-requires
+    can-be-requires
+    symbols-requires
+    same-length
+    returns
+    enum-known-why
+    returns-2
+    returns-3)

@@ -1,0 +1,29 @@
+use native.Mathlib.Omega.{arith}
+use mathlib.Core.Path.{_∙_, ap}
+use borrow.Author.Needs.{needs}
+use Rattle.text.specs.TrimLaws.{trimmed-le}
+use Rattle.wire.specs.OutLaws.{put-as, put-not}
+use Rattle.symbology.specs.SymbologyRows.{row5}
+use Rattle.symbology.proofs.lists.put_symbol.Statement.{statement}
+use Rattle.symbology.proofs.lists.put_symbol.Tie as tie
+
+five-requires : tie.Need-five-requires
+five-requires c κs = omega (arith, c .trimmed-len .ensures, trimmed-le (c .before .before .before .before .args .symbol .now), c .before .before .before .before .pre)
+
+returns : tie.Need-returns
+returns c = put-as (c .before .before .before .before .before .five .ensures ∙ ap (λ l. row5 (c .before .before .before .before .before .before .before .before .before .before .args .kind) (c .before .before .before .before .before .before .before .before .before .before .args .start) l (c .before .before .before .before .before .before .before .before .before .before .args .x) (c .before .before .before .before .before .before .before .before .before .before .args .y)) (c .before .before .before .before .before .before .trimmed-len .ensures)) (c .before .before .put-row .ensures)
+
+returns-2 : tie.Need-returns-2
+returns-2 c = record { is = put-not _ _ _ _ (c .if1 .left) }
+
+pub put-symbol-spec : {M : Type 1} → statement M
+put-symbol-spec =
+    tie.close
+    (tie.spec
+    (λ c κs. search needs)
+    five-requires
+    (λ c. search needs)
+    (λ c κs. search needs)
+    (λ c. search needs)
+    returns
+    returns-2)

@@ -1,0 +1,37 @@
+-- What the public readers answer, and what they leave in the table.
+-- Assumes nothing.
+use Prim.Native.Nat.{ℕ, _*_, _/_}
+use mathlib.Core.Path.{_≡_}
+use mathlib.Core.List.{List, _++_}
+use lib.ListN.{length, drop}
+use lib.Dec.{leb}
+use Rattle.codec.specs.Codec.{Res, ok, refuse}
+use Rattle.wire.specs.Pick.{pick}
+use Rattle.wire.specs.Out.{flat}
+use Rattle.symbology.specs.Symbology.{Symbology}
+use Rattle.symbology.specs.SymbologyRows.{symbologyRows}
+use Rattle.symbology.specs.Lists.{symbologyOf}
+use Rattle.symbology.specs.declared.Found.{Found}
+use Rattle.symbology.specs.declared.Found.the-variants as Found'
+use Rattle.symbology.specs.declared.Listed.{Listed}
+use Rattle.symbology.specs.declared.Listed.the-variants as Listed'
+
+-- without a table: the rows and the place after the contents
+abbrev pub found : Res Symbology → Found
+found (ok t j) = Found'.Accepted (length (symbologyRows t)) j
+found (refuse k) = Found'.Refused k
+
+-- a table of cap rows is long enough, or short
+abbrev pub judge5 : ℕ → Res Symbology → Listed
+judge5 cap (ok t j) = pick (leb (length (symbologyRows t)) cap) (Listed'.Read (length (symbologyRows t)) j) (Listed'.Short (length (symbologyRows t)))
+judge5 cap (refuse k) = Listed'.Refused k
+
+-- the rows stand at the front of the table, and the rest of it is as it was
+abbrev pub leave5 : List ℕ → Res Symbology → List ℕ
+leave5 t (ok l j) = pick (leb (length (symbologyRows l)) (length t / 5)) (flat (symbologyRows l) ++ drop (5 * length (symbologyRows l)) t) t
+leave5 t (refuse k) = t
+
+-- what reading the symbology s at byte `base` of a block into the table t answers and leaves
+pub record Lists (width base : ℕ) (s t t′ : List ℕ) (r : Listed) : Type 0 where
+  pub is : r ≡ judge5 (length t / 5) (symbologyOf width base s)
+  pub leaves : t′ ≡ leave5 t (symbologyOf width base s)
