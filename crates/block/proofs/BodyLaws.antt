@@ -1,0 +1,191 @@
+-- The block's answer and tables from its header, its layout part and its symbology part. Assumes nothing.
+use Prim.Native.Nat.{ℕ, zero, suc, _+_, _-_, _*_, _/_, _≤_, _<_}
+use native.Mathlib.Omega.{arith}
+use mathlib.Core.Path.{_≡_, refl, sym, ap, ap₂, _∙_, subst}
+use mathlib.Core.Bool.{Bool, true, false, _&&_}
+use mathlib.Core.List.{List, [], _∷_}
+use lib.ListN.{length, take, drop}
+use lib.Dec.{leb, eqb}
+use borrow.Author.Tests.{le-leb, lt-leb}
+use Rattle.codec.specs.Cases.{by-bool}
+use Rattle.codec.specs.Codec.{Res, ok, refuse, _>>=_, need, Codec, named, _then_, _on_, whole}
+use Rattle.wire.specs.Pick.{pick}
+use Rattle.layout.specs.Layout.{Layout}
+use Rattle.layout.specs.Rows.{rows}
+use Rattle.symbology.specs.Symbology.{Symbology}
+use Rattle.symbology.specs.SymbologyRows.{symbologyRows}
+use Rattle.symbology.specs.Lists.{symbologyOf}
+use Rattle.layout.specs.Answers.{leave}
+use Rattle.symbology.specs.Answers.{leave5}
+use Rattle.block.specs.Block.{Header, Block, v1, v2, v4, lengths, isVersion, header, widthOf, layoutPart, symbologyPart, toBlock, block, blockOf}
+use Rattle.block.specs.Fields.{fieldsWith, fieldsOf}
+use Rattle.block.specs.Read.{fives, nines, roomy, blockAnswer, blockSymbology, blockLayout, Promise}
+use Rattle.block.specs.Steps.{Fixed, faultOf, OfHeader, Headed, leaveIf, Layout-read, Lays, lays, lays-no, Symbology-read, Lists, lists, lists-no, Does}
+use Rattle.block.specs.declared.MetadataLengths.{MetadataLengths}
+use Rattle.block.specs.declared.Fields.{Fields}
+use Rattle.block.specs.declared.Laid.{Laid}
+use Rattle.block.specs.declared.Laid.the-variants as Laid'
+use Rattle.block.specs.declared.Listing.{Listing}
+use Rattle.block.specs.declared.Listing.the-variants as Listing'
+use Rattle.block.specs.declared.BlockAnswer.{BlockAnswer}
+use Rattle.block.specs.declared.BlockAnswer.the-variants.{Read, Refused, Short}
+use Rattle.block.proofs.HeaderLaws.{headerAt, header-got}
+
+-- ---- what the parts' readers said
+
+pub lays-at : {has : Bool} {sheet : List ℕ} {w : ℕ} {b : List ℕ} {r : Laid} {v n e : ℕ} → Lays has sheet w b r → r ≡ Laid'.Accepted v n e → Layout-read has sheet w b v n e
+lays-at {has} {sheet} {w} {b} {v = v} {n} {e} h q = go (rw q at h)
+  where
+    go : Lays has sheet w b (Laid'.Accepted v n e) → Layout-read has sheet w b v n e
+    go (lays x) = x
+
+pub lays-bad : {has : Bool} {sheet : List ℕ} {w : ℕ} {b : List ℕ} {r : Laid} {k : ℕ} → Lays has sheet w b r → r ≡ Laid'.Refused k → layoutPart has sheet w .parse 0 b 100 ≡ refuse k
+lays-bad {has} {sheet} {w} {b} {k = k} h q = go (rw q at h)
+  where
+    go : Lays has sheet w b (Laid'.Refused k) → layoutPart has sheet w .parse 0 b 100 ≡ refuse k
+    go (lays-no x) = x
+
+pub lists-at : {has : Bool} {w at : ℕ} {b : List ℕ} {r : Listing} {n p e : ℕ} → Lists has w b at r → r ≡ Listing'.Accepted n p e → Symbology-read has w b at n p e
+lists-at {has} {w} {at} {b} {n = n} {p} {e} h q = go (rw q at h)
+  where
+    go : Lists has w b at (Listing'.Accepted n p e) → Symbology-read has w b at n p e
+    go (lists x) = x
+
+pub lists-bad : {has : Bool} {w at : ℕ} {b : List ℕ} {r : Listing} {k : ℕ} → Lists has w b at r → r ≡ Listing'.Refused k → symbologyPart has w .parse 0 b at ≡ refuse k
+lists-bad {has} {w} {at} {b} {k = k} h q = go (rw q at h)
+  where
+    go : Lists has w b at (Listing'.Refused k) → symbologyPart has w .parse 0 b at ≡ refuse k
+    go (lists-no x) = x
+
+-- ---- answers from what was read
+
+module _ (v : MetadataLengths) {z : Res (Block × List ℕ)} (s l : List ℕ) where
+  pub does-no : {k : ℕ} → z ≡ refuse k → Does v z s l (Refused k) s l
+  does-no e = record { answer = rw e; symbology = rw e; layout = rw e }
+
+  module _ {x : Block × List ℕ} {i : ℕ} (e : z ≡ ok x i) where
+    does-short : roomy (x .0) (length s) (length l) ≡ false → Does v z s l (Short (length (fives (x .0))) (length (nines (x .0)))) s l
+    does-short q = record { answer = rw (e, q); symbology = rw (e, q); layout = rw (e, q) }
+
+    not-both : (a b : Bool) → b ≡ false → (a && b) ≡ false
+    not-both true b q = q
+    not-both false b q = refl
+
+    pub does-short5 : length s / 5 < length (fives (x .0)) → Does v z s l (Short (length (fives (x .0))) (length (nines (x .0)))) s l
+    does-short5 h = does-short (rw (lt-leb (length (fives (x .0))) (length s / 5) h))
+
+    pub does-short9 : length l / 9 < length (nines (x .0)) → Does v z s l (Short (length (fives (x .0))) (length (nines (x .0)))) s l
+    does-short9 h = does-short (not-both (leb (length (fives (x .0))) (length s / 5)) (leb (length (nines (x .0))) (length l / 9)) (lt-leb (length (nines (x .0))) (length l / 9) h))
+
+    pub does-read : {s′ l′ : List ℕ} {f : Fields} → length (fives (x .0)) ≤ length s / 5 → length (nines (x .0)) ≤ length l / 9
+        → s′ ≡ leave5 s (ok (x .0 .symbology) 0) → l′ ≡ leave l (ok (x .0 .layout) 0) → f ≡ fieldsOf v (x .0) → Does v z s l (Read f) s′ l′
+    does-read h5 h9 es el ef =
+        let q5 = le-leb (length (fives (x .0))) (length s / 5) h5 in
+        let q9 = le-leb (length (nines (x .0))) (length l / 9) h9 in
+        record { answer = rw (e, q5, q9, ef); symbology = es ∙ rw (e, q5, q9); layout = el ∙ rw (e, q5, q9) }
+
+-- ---- the whole from its parts
+
+module _ (sheet : List ℕ) (v : MetadataLengths) (b : List ℕ) (h : Header) (w : ℕ) (eh : header v .parse 0 b 0 ≡ ok h 100) (ew : w ≡ widthOf v h) where
+  whole-no : {k : ℕ} → layoutPart (v .«has_layout») sheet w .parse 0 b 100 ≡ refuse k → whole (block sheet v) 0 b ≡ refuse k
+  unfolding whole block named _on_ _then_
+  whole-no el = rw (eh, ← ew, el)
+
+  whole-bad : {l : Layout} {at k : ℕ} → layoutPart (v .«has_layout») sheet w .parse 0 b 100 ≡ ok l at → symbologyPart (v .«has_layout») w .parse 0 b at ≡ refuse k
+      → whole (block sheet v) 0 b ≡ refuse k
+  unfolding whole block named _on_ _then_
+  whole-bad el es = rw (eh, ← ew, el, es)
+
+  whole-ok : {l : Layout} {t : Symbology} {at j : ℕ} → layoutPart (v .«has_layout») sheet w .parse 0 b 100 ≡ ok l at → symbologyPart (v .«has_layout») w .parse 0 b at ≡ ok t j
+      → whole (block sheet v) 0 b ≡ ok (toBlock (h, (l, t)), drop j b) (length b)
+  unfolding whole block named _on_ _then_
+  whole-ok el es = rw (eh, ← ew, el, es)
+
+-- the ways out of the body
+module _ (sheet : List ℕ) (v : MetadataLengths) (b : List ℕ) (w : ℕ) (s l : List ℕ)
+    (hd : Headed v b w) where
+  abbrev H : Header
+  H = headerAt v b
+
+  eh : header v .parse 0 b 0 ≡ ok H 100
+  eh = header-got v b (hd .fixed) (hd .passed)
+
+  pub body-no : {k : ℕ} → layoutPart (v .«has_layout») sheet w .parse 0 b 100 ≡ refuse k → Does v (whole (block sheet v) 0 b) s l (Refused k) s l
+  body-no el = does-no v s l (whole-no sheet v b H w eh (hd .width-is H 100 eh) el)
+
+  module _ {n9 ver at : ℕ} (L : Layout-read (v .«has_layout») sheet w b ver n9 at) where
+    pub body-bad : {k : ℕ} → symbologyPart (v .«has_layout») w .parse 0 b at ≡ refuse k → Does v (whole (block sheet v) 0 b) s l (Refused k) s l
+    body-bad es = does-no v s l (whole-bad sheet v b H w eh (hd .width-is H 100 eh) (L .is) es)
+
+    module _ {n5 p e : ℕ} (S : Symbology-read (v .«has_layout») w b at n5 p e) where
+      is : whole (block sheet v) 0 b ≡ ok (toBlock (H, (L .tree, S .tree)), drop (S .next) b) (length b)
+      is = whole-ok sheet v b H w eh (hd .width-is H 100 eh) (L .is) (S .is)
+
+      counts : Does v (whole (block sheet v) 0 b) s l (Short (length (symbologyRows (S .tree))) (length (rows (L .tree)))) s l → Does v (whole (block sheet v) 0 b) s l (Short n5 n9) s l
+      counts d = subst (λ (n : ℕ). Does v (whole (block sheet v) 0 b) s l (Short n5 n) s l) (L .many)
+          (subst (λ (m : ℕ). Does v (whole (block sheet v) 0 b) s l (Short m (length (rows (L .tree)))) s l) (S .many) d)
+
+      pub body-short5 : length s / 5 < n5 → Does v (whole (block sheet v) 0 b) s l (Short n5 n9) s l
+      body-short5 h = counts (does-short5 v s l is (omega (arith, h, S .many)))
+
+      pub body-short9 : length l / 9 < n9 → Does v (whole (block sheet v) 0 b) s l (Short n5 n9) s l
+      body-short9 h = counts (does-short9 v s l is (omega (arith, h, L .many)))
+
+      pub body-read : {s′ l′ : List ℕ} {F : Fields} → n5 ≤ length s / 5 → n9 ≤ length l / 9 → s′ ≡ leave5 s (symbologyOf w p (take (e - p) (drop p b)))
+          → l′ ≡ leaveIf (v .«has_layout») (take (at - 104) (drop 104 b)) l → OfHeader v b (λ h. F ≡ fieldsWith v h ver n5 n9)
+          → Does v (whole (block sheet v) 0 b) s l (Read F) s′ l′
+      unfolding fieldsOf
+      body-read {s′} {l′} {F} h5 h9 es el ef =
+          let x : Block = toBlock (H, (L .tree, S .tree)) in
+          let q : F ≡ fieldsOf v x = ef H 100 eh ∙ rw (← S .many, ← L .many, ← L .version) in
+          does-read v s l is (omega (arith, h5, S .many)) (omega (arith, h9, L .many)) (es ∙ ap (leave5 s) (S .bytes)) (el ∙ L .leaves l) q
+
+-- ---- from the version on
+
+sums : (version : ℕ) → (lengths version .«dataset_cstr_len» + lengths version .«record_count_len» + lengths version .«symbol_cstr_len_len» + lengths version .«reserved_len» ≡ 71)
+    × (0 < lengths version .«symbol_cstr_len_len» → lengths version .«symbol_cstr_len_len» ≡ 2)
+unfolding lengths
+sums version = by-bool (eqb version 1)
+    (λ e. rw e (refl, λ h. absurd (omega arith)))
+    (λ e. rw e (by-bool (eqb version 4) (λ e′. rw e′ (refl, λ h. refl)) (λ e′. rw e′ (refl, λ h. refl))))
+
+pub fixed : (version : ℕ) {v : MetadataLengths} {b : List ℕ} → v ≡ lengths version → 100 ≤ length b → length b ≤ 4294967295 → Fixed v b
+fixed version {v} {b} e lo hi = subst (λ (x : MetadataLengths). Fixed x b) (sym e) (record { total = sums version .0; two = sums version .1; long = lo; small = hi })
+
+module _ (version : ℕ) (b sheet s l : List ℕ) where
+  pub promise : {r : BlockAnswer} {s′ l′ : List ℕ} → Does (lengths version) (blockOf version sheet b) s l r s′ l′ → Promise version b sheet s l r s′ l′
+  unfolding blockAnswer blockSymbology blockLayout
+  promise d = record { answer = d .answer; symbology = d .symbology; layout = d .layout }
+
+  pub block-low : version < 1 → Promise version b sheet s l (Refused 11) s l
+  unfolding blockOf
+  block-low h = promise (does-no (lengths version) s l (rw (lt-leb 1 version h)))
+
+  pub block-high : 1 ≤ version → 4 < version → Promise version b sheet s l (Refused 11) s l
+  unfolding blockOf
+  block-high h g = promise (does-no (lengths version) s l (rw (le-leb 1 version h, lt-leb version 4 g)))
+
+  module _ (lo : 1 ≤ version) (hi : version ≤ 4) where
+    pub block-short : length b < 100 → Promise version b sheet s l (Refused 13) s l
+    unfolding blockOf
+    block-short h = promise (does-no (lengths version) s l (rw (le-leb 1 version lo, le-leb version 4 hi, lt-leb 100 (length b) h)))
+
+    pub block-long : 100 ≤ length b → 4294967295 < length b → Promise version b sheet s l (Refused 13) s l
+    unfolding blockOf
+    block-long h g = promise (does-no (lengths version) s l (rw (le-leb 1 version lo, le-leb version 4 hi, le-leb 100 (length b) h, lt-leb (length b) 4294967295 g)))
+
+    module _ (h : 100 ≤ length b) (g : length b ≤ 4294967295) {v : MetadataLengths} (ev : v ≡ lengths version) where
+      block-is : blockOf version sheet b ≡ whole (block sheet v) 0 b
+      unfolding blockOf
+      block-is = rw (le-leb 1 version lo, le-leb version 4 hi, le-leb 100 (length b) h, le-leb (length b) 4294967295 g, ev)
+
+      pub block-done : {r : BlockAnswer} {s′ l′ : List ℕ} → Does v (whole (block sheet v) 0 b) s l r s′ l′ → Promise version b sheet s l r s′ l′
+      block-done {r} {s′} {l′} d = promise (rw block-is (subst (λ (x : MetadataLengths). Does x (whole (block sheet v) 0 b) s l r s′ l′) ev d))
+
+      header-no : (r : Res Header) {k : ℕ} → k ≡ faultOf r → 0 < k → r ≡ refuse k
+      header-no (ok x j) e p = absurd (omega arith)
+      header-no (refuse j) e p = ap (λ (m : ℕ). refuse m) (sym e)
+
+      pub block-header : {k : ℕ} → k ≡ faultOf (header v .parse 0 b 0) → 0 < k → Promise version b sheet s l (Refused k) s l
+      unfolding whole block named _on_
+      block-header {k} e p = block-done (does-no v s l (rw (header-no (header v .parse 0 b 0) e p)))

@@ -1,0 +1,6 @@
+pub mod NumberLaws
+pub mod HeaderLaws
+pub mod RuledLaws
+pub mod PartLaws
+pub mod BodyLaws
+pub mod NameLaws

@@ -1,0 +1,362 @@
+-- The layout part and the symbology part from the bytes that a u32 length announces. Assumes nothing.
+use Prim.Native.Nat.{ℕ, zero, suc, _+_, _-_, _*_, _/_, _≤_, _<_, zero-le}
+use native.Mathlib.Nat.{zero-add, add-zero}
+use native.Mathlib.Omega.{arith}
+use mathlib.Core.Path.{_≡_, refl, sym, ap, ap₂, _∙_, subst}
+use mathlib.Core.Bool.{Bool, true, false}
+use mathlib.Core.List.{List, [], _∷_}
+use lib.ListN.{length, getD, take, drop, length-take, length-drop}
+use lib.Seq.{take-all}
+use lib.Dec.{leb, ltb, eqb}
+use borrow.Author.Tests.{le-leb, lt-leb, lt-ltb}
+use Rattle.codec.specs.Cases.{by-bool}
+use Rattle.codec.specs.Codec.{Res, ok, refuse, _>>=_, need, Codec, raw, num, value, sized, named, checked, judged, some, whole, boxed, isNil, full}
+use Rattle.codec.specs.Laws.{bind-ok}
+use Rattle.codec.specs.Steps.{raw-got, raw-bad, num-got, num-bad}
+use Rattle.codec.specs.Remainder.{remainder}
+use Rattle.text.specs.Utf8.{utf8}
+use Rattle.text.specs.Date.{isDate}
+use Rattle.layout.specs.Layout.{Layout, Parts, parts, toLayout, fromLayout}
+use Rattle.layout.specs.Given.{D, layoutOf}
+use Rattle.layout.specs.Rows.{rows}
+use Rattle.symbology.specs.Symbology.{Symbology, symbology}
+use Rattle.symbology.specs.SymbologyRows.{symbologyRows}
+use Rattle.symbology.specs.Lists.{symbologyOf}
+use Rattle.layout.specs.Answers.{leave, verdict}
+use Rattle.symbology.specs.Answers.{found}
+use Rattle.layout.specs.ReadLaws.{layout-whole, no-rows}
+use Rattle.symbology.specs.ReadLaws.{symbology-parse}
+use Rattle.layout.specs.declared.Verdict.{Verdict}
+use Rattle.layout.specs.declared.Verdict.the-variants as Verdict'
+use Rattle.symbology.specs.declared.Found.{Found}
+use Rattle.symbology.specs.declared.Found.the-variants as Found'
+use Rattle.rules.specs.Rules.{rulesOf, ruledOf, ruled-is}
+use Rattle.block.specs.Block.{noItems, layoutPart, symbologyPart}
+use Rattle.block.specs.Steps.{spanOf, spanAt, Within, within, outside, sectionAt, leaveIf, Layout-read, Lays, lays, lays-no, Symbology-read, Lists, lists, lists-no}
+use Rattle.block.proofs.RuledLaws.{verdict-ok, verdict-no, ruled-layout}
+use Rattle.block.specs.declared.Span.{Span}
+use Rattle.block.specs.declared.Span.the-variants.{Part}
+use Rattle.block.specs.declared.Span.the-variants as Span'
+use Rattle.block.specs.declared.Laid.the-variants as Laid'
+use Rattle.block.specs.declared.Listing.the-variants as Listing'
+
+-- ---- spans
+
+module _ (why : ℕ) (b : List ℕ) (at : ℕ) where
+  pub span-none : length b < at + 4 → Span'.Refused why ≡ spanAt why b at
+  unfolding spanAt
+  span-none h = rw (num-bad why 4 0 b at h)
+
+  module _ (n : ℕ) (h : at + 4 ≤ length b) (e : n ≡ value (take 4 (drop at b))) where
+    pub span-past : length b < at + 4 + n → Span'.Refused why ≡ spanAt why b at
+    unfolding spanAt
+    span-past g = rw (num-got why 4 0 b at h, ← e, raw-bad why n 0 b (at + 4) g)
+
+    pub span-part : at + 4 + n ≤ length b → Part (at + 4) n ≡ spanAt why b at
+    unfolding spanAt
+    span-part g = rw (num-got why 4 0 b at h, ← e, raw-got why n 0 b (at + 4) g)
+
+pub within-at : {b : List ℕ} {at p n : ℕ} {r : Span} → Within b at r → r ≡ Part p n → (at ≤ p) × (p + n ≤ length b)
+within-at {b} {at} {p} {n} h e = go (rw e at h)
+  where
+    go : Within b at (Part p n) → (at ≤ p) × (p + n ≤ length b)
+    go (within x y) = (x, y)
+
+pub within-mk : {b : List ℕ} {at p n : ℕ} → at ≤ p → p + n ≤ length b → Within b at (Part p n)
+within-mk {p = p} {n} x y = within {p = p} {n = n} x y
+
+pub outside-mk : {b : List ℕ} {at k : ℕ} → Within b at (Span'.Refused k)
+outside-mk {k = k} = outside {k = k}
+
+-- the bytes from p up to p + n
+slice : (p n : ℕ) (b : List ℕ) → take (p + n - p) (drop p b) ≡ take n (drop p b)
+slice p n b = let z : p + n - p ≡ n = omega arith in rw z
+
+pub within-back : {b : List ℕ} {at : ℕ} {r : Span} → Within b (at + 4) r → Within b at r
+within-back (within {p = p} {n = n} x y) = within {p = p} {n = n} (omega arith) y
+within-back (outside {k = k}) = outside {k = k}
+
+-- a span that was found, in the codec's words
+pub record Spanned (why : ℕ) (b : List ℕ) (at p n : ℕ) : Type 0 where
+  pub number : num why 4 .parse 0 b at ≡ ok n p
+  pub bytes : raw why n .parse 0 b p ≡ ok (take n (drop p b)) (p + n)
+
+module _ (why : ℕ) (b : List ℕ) (at : ℕ) where
+  abbrev reading : Res ℕ
+  reading = num why 4 .parse 0 b at >>= λ n p. raw why n .parse 0 b p >>= λ x j. ok n p
+
+  pub spanned : {p n : ℕ} → spanAt why b at ≡ Part p n → p + n ≤ length b → Spanned why b at p n
+  unfolding spanAt
+  spanned {p} {n} e h =
+      let (m, q, e1, e2) = bind-ok (num why 4 .parse 0 b at) _ n p (go reading e) in
+      let (x, j, e3, e4) = bind-ok (raw why m .parse 0 b q) _ n p e2 in
+      let mn : m ≡ n = cc in
+      let qp : q ≡ p = cc in
+      record { number = e1 ∙ ap₂ (λ (a c : ℕ). ok a c) mn qp; bytes = raw-got why n 0 b p h }
+    where
+      go : (r : Res ℕ) → spanOf r ≡ Part p n → r ≡ ok n p
+      go (ok m q) e = let mn : m ≡ n = cc in let qp : q ≡ p = cc in ap₂ (λ (a c : ℕ). ok a c) mn qp
+      go (refuse k) e = absurd (let z : _≡_ {A = ℕ} 0 1 = cc in omega arith)
+
+  unspanned : {k : ℕ} → spanAt why b at ≡ Span'.Refused k → reading ≡ refuse k
+  unfolding spanAt
+  unspanned {k} e = go reading e
+    where
+      go : (r : Res ℕ) → spanOf r ≡ Span'.Refused k → r ≡ refuse k
+      go (ok m q) e = absurd (let z : _≡_ {A = ℕ} 0 1 = cc in omega arith)
+      go (refuse j) e = let z : j ≡ k = cc in ap (λ (m : ℕ). refuse m) z
+
+  -- what goes on from the bytes refuses what the span refuses
+  pub span-no : {A : Type 0} {k : ℕ} (f : ℕ → ℕ → List ℕ → ℕ → Res A) → spanAt why b at ≡ Span'.Refused k
+      → (num why 4 .parse 0 b at >>= λ n p. raw why n .parse 0 b p >>= λ x j. f n p x j) ≡ refuse k
+  span-no {A} {k} f e = go (num why 4 .parse 0 b at) (unspanned e)
+    where
+      far : (n p : ℕ) (r : Res (List ℕ)) → (_>>=_ {B = ℕ} r λ x j. ok n p) ≡ refuse k → (r >>= λ x j. f n p x j) ≡ refuse k
+      far n p (ok x j) e = absurd (let z : _≡_ {A = ℕ} 0 1 = cc in omega arith)
+      far n p (refuse j) e = let z : j ≡ k = cc in ap (λ (m : ℕ). refuse m) z
+
+      go : (r : Res ℕ) → (_>>=_ {B = ℕ} r λ n p. raw why n .parse 0 b p >>= λ x j. ok n p) ≡ refuse k → (r >>= λ n p. raw why n .parse 0 b p >>= λ x j. f n p x j) ≡ refuse k
+      go (ok n p) e = far n p (raw why n .parse 0 b p) e
+      go (refuse j) e = let z : j ≡ k = cc in ap (λ (m : ℕ). refuse m) z
+
+-- ---- a part with a length that counts no byte of its own
+
+module _ {A : Type 0} (why : ℕ) (inner : ℕ → ℕ) (spot : (ℕ → List ℕ → Type 0) → A → Type 0) (c : Codec A) (b : List ℕ) (at : ℕ) where
+  box-is : boxed why why why 4 0 inner spot c .parse 0 b at ≡ (num why 4 .parse 0 b at >>= λ n p. raw why n .parse 0 b p >>= λ x j. whole c (inner (0 + p)) x >>= λ z _. ok z j)
+  unfolding boxed
+  box-is = go (num why 4 .parse 0 b at)
+    where
+      go : (r : Res ℕ) → (r >>= λ n j. need (leb 0 n) why j >>= λ _ j. raw why (n - 0) .parse 0 b j >>= λ body m. whole c (inner (0 + j)) body >>= λ z _. ok z m)
+          ≡ (r >>= λ n p. raw why n .parse 0 b p >>= λ x j. whole c (inner (0 + p)) x >>= λ z _. ok z j)
+      go (ok n p) = let z : n - 0 ≡ n = omega arith in rw (le-leb 0 n zero-le, z)
+      go (refuse k) = refl
+
+  pub box-no : {k : ℕ} → spanAt why b at ≡ Span'.Refused k → boxed why why why 4 0 inner spot c .parse 0 b at ≡ refuse k
+  box-no e = box-is ∙ span-no why b at (λ n p x j. whole c (inner (0 + p)) x >>= λ z _. ok z j) e
+
+  pub box-ok : {p n : ℕ} → Spanned why b at p n → boxed why why why 4 0 inner spot c .parse 0 b at ≡ (whole c (inner (0 + p)) (take n (drop p b)) >>= λ z _. ok z (p + n))
+  box-ok s = box-is ∙ rw (s .number, s .bytes)
+
+-- ---- the layout part
+
+nil-not : (l : List ℕ) → 0 < length l → isNil l ≡ false
+nil-not [] h = absurd (omega arith)
+nil-not (x ∷ l) h = refl
+
+-- the layout's bytes as its reader and the rules see them
+module _ (sheet : List ℕ) (width : ℕ) (part : List ℕ) where
+  abbrev Z : Type 0
+  Z = Parts × List ℕ
+
+  -- the rules, after a layout
+  abbrev ruling : Layout → ℕ → Res Layout
+  ruling l j = need (eqb 0 (rulesOf sheet width (fromLayout l .0))) (rulesOf sheet width (fromLayout l .0)) j >>= λ _ j. ok l j
+
+  some-is : 0 < length part → whole (some 26 (parts utf8 D)) 0 part ≡ whole (parts utf8 D) 0 part
+  unfolding whole some
+  some-is h = rw (lt-ltb 0 (length part) h)
+
+  pub ruled-part : 0 < length part → length part ≤ 4294967295 → (e : ℕ)
+      → ((_>>=_ {B = Z} (whole (some 26 (parts utf8 D)) 0 part >>= λ z _. ok z e) λ x j. need (eqb 0 (rulesOf sheet width (x .0))) (rulesOf sheet width (x .0)) j >>= λ _ j. ok x j) >>= λ x j. ok (toLayout x) j)
+      ≡ (ruledOf sheet width part >>= λ l _. ok l e)
+  ruled-part h s e = rw (some-is h, ruled-is sheet width part, layout-whole part s) (go (whole (parts utf8 D) 0 part))
+    where
+      by : (z : Z) (j k : ℕ) (t : Bool) → (_>>=_ {B = Layout} (_>>=_ {B = Z} (need t k e) λ _ j. ok z j) λ x j. ok (toLayout x) j) ≡ ((need t k j >>= λ _ j. ok (toLayout z) j) >>= λ l _. ok l e)
+      by z j k true = refl
+      by z j k false = refl
+
+      go : (r : Res Z) → ((_>>=_ {B = Z} (_>>=_ {B = Z} r λ z _. ok z e) λ x j. need (eqb 0 (rulesOf sheet width (x .0))) (rulesOf sheet width (x .0)) j >>= λ _ j. ok x j) >>= λ x j. ok (toLayout x) j)
+          ≡ (((_>>=_ {B = Layout} r λ z j. ok (toLayout z) j) >>= ruling) >>= λ l _. ok l e)
+      go (ok z j) = by z j (rulesOf sheet width (z .0)) (eqb 0 (rulesOf sheet width (z .0)))
+      go (refuse k) = refl
+
+module _ (sheet : List ℕ) (width : ℕ) (b : List ℕ) where
+  pub lay-no : (has : Bool) {k : ℕ} → spanAt 24 b 100 ≡ Span'.Refused k → layoutPart has sheet width .parse 0 b 100 ≡ refuse k
+  unfolding layoutPart named judged checked sized
+  lay-no true e = rw (box-no 24 (λ p. 0) (λ P x. Unit {0}) (some 26 (parts utf8 D)) b 100 e)
+  lay-no false {k} e = rw (plain ∙ span-no 24 b 100 (λ n p x j. ok x j) e)
+    where
+      again : (r : Res (List ℕ)) → r ≡ (r >>= λ x j. ok x j)
+      again (ok x j) = refl
+      again (refuse j) = refl
+
+      go : (r : Res ℕ) → (r >>= λ n j. raw 24 n .parse 0 b j) ≡ (r >>= λ n p. raw 24 n .parse 0 b p >>= λ x j. ok x j)
+      go (ok n p) = again (raw 24 n .parse 0 b p)
+      go (refuse j) = refl
+
+      plain : (num 24 4 .parse 0 b 100 >>= λ n j. raw 24 n .parse 0 b j) ≡ (num 24 4 .parse 0 b 100 >>= λ n p. raw 24 n .parse 0 b p >>= λ x j. ok x j)
+      plain = go (num 24 4 .parse 0 b 100)
+
+  module _ {p n : ℕ} (s : Spanned 24 b 100 p n) (room : p + n ≤ length b) where
+    size : length (take n (drop p b)) ≡ n
+    size = simp (length-take, length-drop) (omega arith)
+
+    pub lay-26 : n ≡ 0 → layoutPart true sheet width .parse 0 b 100 ≡ refuse 26
+    unfolding layoutPart named judged whole some
+    lay-26 e = rw (box-ok 24 (λ p. 0) (λ P x. Unit {0}) (some 26 (parts utf8 D)) b 100 s, e)
+
+    pub lay-25 : 0 < n → layoutPart false sheet width .parse 0 b 100 ≡ refuse 25
+    unfolding layoutPart named checked sized
+    lay-25 h = let z : 0 < length (take n (drop p b)) = omega (arith, size) in rw (s .number, s .bytes, nil-not (take n (drop p b)) z)
+
+    pub lay-none : n ≡ 0 → layoutPart false sheet width .parse 0 b 100 ≡ ok (noItems []) (p + n)
+    unfolding layoutPart named checked sized
+    lay-none e = rw (s .number, s .bytes, e)
+
+    pub lay-ruled : 0 < n → n ≤ 4294967295 → layoutPart true sheet width .parse 0 b 100 ≡ (ruledOf sheet width (take n (drop p b)) >>= λ l _. ok l (p + n))
+    unfolding layoutPart named judged
+    lay-ruled h l = rw (box-ok 24 (λ p. 0) (λ P x. Unit {0}) (some 26 (parts utf8 D)) b 100 s)
+        (ruled-part sheet width (take n (drop p b)) (omega (arith, size)) (omega (arith, size)) (p + n))
+
+module _ (sheet : List ℕ) (width : ℕ) (b : List ℕ) where
+  start-is : {p n : ℕ} → 104 ≤ length b → Spanned 24 b 100 p n → p ≡ 104
+  start-is {p} {n} h s =
+      let e : ok n p ≡ ok (value (take 4 (drop 100 b))) 104 = sym (s .number) ∙ num-got 24 4 0 b 100 h in
+      let z : p ≡ 104 = cc in z
+
+  module _ (has : Bool) {p n : ℕ} (e : spanAt 24 b 100 ≡ Part p n) (w : (104 ≤ p) × (p + n ≤ length b)) (small : length b ≤ 4294967295) where
+    S : Spanned 24 b 100 p n
+    S = spanned 24 b 100 e (w .1)
+
+    pub lays-26 : has ≡ true → n ≡ 0 → Lays has sheet width b (Laid'.Refused 26)
+    lays-26 t z = rw t (lays-no (lay-26 sheet width b S (w .1) z))
+
+    pub lays-25 : has ≡ false → 0 < n → Lays has sheet width b (Laid'.Refused 25)
+    lays-25 t z = rw t (lays-no (lay-25 sheet width b S (w .1) z))
+
+    pub lays-none : has ≡ false → n ≡ 0 → Lays has sheet width b (Laid'.Accepted 0 0 (p + n))
+    lays-none t z = rw t (lays (record {
+      tree = noItems [];
+      is = lay-none sheet width b S (w .1) z;
+      from = omega (arith, w .0);
+      to = w .1;
+      leaves = λ l. rw (no-rows 0 [], le-leb 0 (length l / 9) zero-le);
+      version = refl;
+      many = ap length (no-rows 0 []);
+    }))
+
+    module _ (t : has ≡ true) (some′ : 0 < n) where
+      ruled : layoutPart true sheet width .parse 0 b 100 ≡ (ruledOf sheet width (take n (drop p b)) >>= λ l _. ok l (p + n))
+      ruled = lay-ruled sheet width b S (w .1) some′ (omega (arith, w .1))
+
+      pub lays-bad : {k : ℕ} → Verdict'.Refused k ≡ verdict (ruledOf sheet width (take (p + n - p) (drop p b))) → Lays has sheet width b (Laid'.Refused k)
+      lays-bad {k} q = rw t (lays-no {k = k} (ruled ∙ rw (verdict-no (ruledOf sheet width (take n (drop p b))) (rw (slice p n b) at q))))
+
+      leaves-is : (l : Layout) (i : ℕ) → layoutOf (take n (drop p b)) ≡ ok l i → (x : List ℕ) → leaveIf true (take (p + n - 104) (drop 104 b)) x ≡ leave x (ok l (p + n))
+      leaves-is l i e x =
+          let q : p ≡ 104 = start-is (omega (arith, w .0, w .1)) S in
+          let z : p + n - 104 ≡ n = omega arith in
+          rw (z, ← q, e)
+
+      is-ok : (l : Layout) (j : ℕ) → ruledOf sheet width (take n (drop p b)) ≡ ok l j → layoutPart true sheet width .parse 0 b 100 ≡ ok l (p + n)
+      is-ok l j el = ruled ∙ rw el
+
+      pub lays-ok : {v m : ℕ} → Verdict'.Accepted v m ≡ verdict (ruledOf sheet width (take (p + n - p) (drop p b))) → Lays has sheet width b (Laid'.Accepted v m (p + n))
+      lays-ok {v} {m} q =
+          let (l, j, el, ev, em) = verdict-ok (ruledOf sheet width (take n (drop p b))) (rw (slice p n b) at q) in
+          let (i, e1) = ruled-layout sheet width (take n (drop p b)) l j el in
+          subst (λ (h : Bool). Lays h sheet width b (Laid'.Accepted v m (p + n))) (sym t) (lays {v = v} {n = m} {e = p + n} (record {
+            tree = l;
+            is = is-ok l j el;
+            from = omega (arith, w .0);
+            to = w .1;
+            leaves = leaves-is l i e1;
+            version = ev;
+            many = em;
+          }))
+
+-- ---- the symbology part
+
+nil-drop : (l : List ℕ) (j : ℕ) → length l ≤ j → isNil (drop j l) ≡ true
+nil-drop l j h = go (drop j l) (length-drop j l ∙ omega arith)
+  where
+    go : (m : List ℕ) → length m ≡ 0 → isNil m ≡ true
+    go [] e = refl
+    go (x ∷ m) e = absurd (omega arith)
+
+nil-more : (l : List ℕ) (j : ℕ) → j < length l → isNil (drop j l) ≡ false
+nil-more l j h = nil-not (drop j l) (simp length-drop (omega arith))
+
+found-ok : (r : Res Symbology) {n j : ℕ} → Found'.Accepted n j ≡ found r → (t : Symbology) × (r ≡ ok t j) × (length (symbologyRows t) ≡ n)
+found-ok (ok t i) {n} {j} e = let z : i ≡ j = cc in (t, ap (λ (m : ℕ). ok t m) z, (let y : length (symbologyRows t) ≡ n = cc in y))
+found-ok (refuse k) e = absurd (let z : _≡_ {A = ℕ} 0 1 = cc in omega arith)
+
+found-no : (r : Res Symbology) {k : ℕ} → Found'.Refused k ≡ found r → r ≡ refuse k
+found-no (ok t j) e = absurd (let z : _≡_ {A = ℕ} 0 1 = cc in omega arith)
+found-no (refuse j) {k} e = let z : j ≡ k = cc in ap (λ (m : ℕ). refuse m) z
+
+module _ (width : ℕ) (b : List ℕ) (at : ℕ) where
+  pub lists-span : (has : Bool) {k : ℕ} → sectionAt has b at ≡ Span'.Refused k → Lists has width b at (Listing'.Refused k)
+  unfolding symbologyPart full
+  lists-span has {k} e = go has e
+    where
+      go : (has : Bool) → sectionAt has b at ≡ Span'.Refused k → Lists has width b at (Listing'.Refused k)
+      go true e = lists-no {k = k} (rw (box-no 27 (λ p. p) (symbology utf8 isDate width .each) (symbology utf8 isDate width) b at e))
+      go false e = absurd (let z : _≡_ {A = ℕ} 0 1 = cc in omega arith)
+
+  module _ (small : length b ≤ 4294967295) where
+    list-section : {p n : ℕ} → Spanned 27 b at p n → p + n ≤ length b
+        → symbologyPart true width .parse 0 b at ≡ (symbologyOf width p (take n (drop p b)) >>= λ t j. need (isNil (drop j (take n (drop p b)))) 28 (p + n) >>= λ _ m. ok t m)
+    unfolding symbologyPart full whole
+    list-section {p} {n} s h =
+        let part : List ℕ = take n (drop p b) in
+        let l : length part ≡ n = simp (length-take, length-drop) (omega arith) in
+        rw (box-ok 27 (λ p. p) (symbology utf8 isDate width .each) (symbology utf8 isDate width) b at s, zero-add p, symbology-parse width p part (omega arith))
+        (go part (symbology utf8 isDate width .parse p part 0))
+      where
+        go : (part : List ℕ) (r : Res Symbology)
+            → ((_>>=_ {B = Symbology × List ℕ} (_>>=_ {B = Symbology × List ℕ} r λ x j. ok (x, drop j part) (length part)) λ z _. ok z (p + n)) >>= λ z j. need (isNil (z .1)) 28 j >>= λ _ j. ok (z .0) j)
+            ≡ (r >>= λ t j. need (isNil (drop j part)) 28 (p + n) >>= λ _ m. ok t m)
+        go part (ok t j) = refl
+        go part (refuse k) = refl
+
+    list-rest : at ≤ length b → symbologyPart false width .parse 0 b at ≡ (symbologyOf width at (drop at b) >>= λ t j. ok t (at + j))
+    unfolding symbologyPart remainder
+    list-rest h = rw (zero-add at, symbology-parse width at (drop at b) (simp length-drop (omega arith)))
+
+    -- one law for both: the bytes from p up to p + n, and 28 where they are a section
+    module _ (has : Bool) {p n : ℕ} (e : sectionAt has b at ≡ Part p n) (w : (at ≤ p) × (p + n ≤ length b)) where
+      abbrev bytes : List ℕ
+      bytes = take n (drop p b)
+
+      size′ : length bytes ≡ n
+      size′ = simp (length-take, length-drop) (omega (arith, w .1))
+
+      section-is : has ≡ true → symbologyPart has width .parse 0 b at ≡ (symbologyOf width p bytes >>= λ t j. need (isNil (drop j bytes)) 28 (p + n) >>= λ _ m. ok t m)
+      section-is t = rw t (list-section (spanned 27 b at (rw t at e) (w .1)) (w .1))
+
+      rest-is : has ≡ false → symbologyPart has width .parse 0 b at ≡ (symbologyOf width p bytes >>= λ t j. ok t (at + j))
+      rest-is t =
+          let q : Part at (length b - at) ≡ Part p n = (rw t at e) in
+          let ap′ : at ≡ p = cc in
+          let an : length b - at ≡ n = cc in
+          let l : length (drop at b) ≡ n = length-drop at b ∙ an in
+          rw (t, ← ap′, take-all n (drop at b) (omega (arith, l))) (list-rest (omega (arith, w .0, w .1)))
+
+      pub lists-bad : {k : ℕ} → Found'.Refused k ≡ found (symbologyOf width p (take (p + n - p) (drop p b))) → Lists has width b at (Listing'.Refused k)
+      lists-bad q = by-bool has
+          (λ t. lists-no (section-is t ∙ rw (found-no (symbologyOf width p bytes) (rw (slice p n b) at q))))
+          (λ t. lists-no (rest-is t ∙ rw (found-no (symbologyOf width p bytes) (rw (slice p n b) at q))))
+
+      module _ {m j : ℕ} (q : Found'.Accepted m j ≡ found (symbologyOf width p (take (p + n - p) (drop p b)))) where
+        pub lists-28 : has ≡ true → j < n → Lists has width b at (Listing'.Refused 28)
+        lists-28 t h =
+            let (x, ex, em) = found-ok (symbologyOf width p bytes) (rw (slice p n b) at q) in
+            lists-no {k = 28} (section-is t ∙ rw (ex, nil-more bytes j (omega (arith, size′))))
+
+        accepted : (i : ℕ) (x : Symbology) → symbologyOf width p bytes ≡ ok x j → length (symbologyRows x) ≡ m → symbologyPart has width .parse 0 b at ≡ ok x i → Lists has width b at (Listing'.Accepted m p (p + n))
+        accepted i x ex em is =
+            let z : p + n - p ≡ n = omega arith in
+            lists {n = m} {p = p} {e = p + n} (record { tree = x; next = i; stop = j; is = is; bytes = rw z ex; from = omega arith; to = w .1; many = em })
+
+        full-is : has ≡ true → n ≤ j → (x : Symbology) → symbologyOf width p bytes ≡ ok x j → symbologyPart has width .parse 0 b at ≡ ok x (p + n)
+        full-is t h x ex = section-is t ∙ rw (ex, nil-drop bytes j (omega (arith, size′)))
+
+        pub lists-full : has ≡ true → n ≤ j → Lists has width b at (Listing'.Accepted m p (p + n))
+        lists-full t h = let (x, ex, em) = found-ok (symbologyOf width p bytes) (rw (slice p n b) at q) in accepted (p + n) x ex em (full-is t h x ex)
+
+        over-is : has ≡ false → (x : Symbology) → symbologyOf width p bytes ≡ ok x j → symbologyPart has width .parse 0 b at ≡ ok x (at + j)
+        over-is t x ex = rest-is t ∙ rw ex
+
+        pub lists-rest : has ≡ false → Lists has width b at (Listing'.Accepted m p (p + n))
+        lists-rest t = let (x, ex, em) = found-ok (symbologyOf width p bytes) (rw (slice p n b) at q) in accepted (at + j) x ex em (over-is t x ex)

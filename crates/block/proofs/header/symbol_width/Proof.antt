@@ -1,0 +1,29 @@
+use mathlib.Core.Path.{_≡_, refl, sym, ap, _∙_}
+use native.Mathlib.Omega.{arith}
+use Rattle.block.specs.Block.{widthOf}
+use Rattle.block.proofs.HeaderLaws.{of-header}
+use borrow.Author.Needs.{needs}
+use Rattle.block.proofs.header.symbol_width.Statement.{statement}
+use Rattle.block.proofs.header.symbol_width.Tie as tie
+
+returns : tie.Need-returns
+returns c = λ h j q. rw (c .if1 .taken)
+
+add-at : tie.Need-add-at
+add-at c = search needs
+
+add-at-2 : tie.Need-add-at-2
+add-at-2 c = search needs
+
+half-requires : tie.Need-half-requires
+half-requires c κs = let t = c .before .before .before .before .before .pre .two (omega (arith, c .before .before .if1 .left)) in omega (arith, t, c .before .before .before .before .before .pre .total, c .before .before .before .before .before .pre .long)
+
+cast-result : tie.Need-cast-result
+cast-result c = search needs
+
+returns-2 : tie.Need-returns-2
+returns-2 c = let t = c .before .before .before .before .before .before .pre .two (omega (arith, c .before .before .before .if1 .left)) in of-header (c .before .before .before .before .before .before .args .v) (c .before .before .before .before .before .before .args .block .now) (c .before .before .before .before .before .before .pre) (λ h. (c .half .result) ≡ widthOf (c .before .before .before .before .before .before .args .v) h) (rw t (c .half .ensures .0))
+
+pub symbol-width-spec : {M : Type 1} → statement M
+symbol-width-spec =
+    tie.close (tie.spec returns add-at add-at-2 half-requires cast-result returns-2)

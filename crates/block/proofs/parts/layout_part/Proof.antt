@@ -1,0 +1,76 @@
+use mathlib.Core.Path.{_≡_, refl, sym, ap, _∙_}
+use native.Mathlib.Omega.{arith}
+use Rattle.block.specs.Steps.{lays-no}
+use Rattle.block.proofs.PartLaws.{within-at, lay-no, lays-26, lays-25, lays-none, lays-bad, lays-ok}
+use borrow.Author.Needs.{needs}
+use Rattle.block.proofs.parts.layout_part.Statement.{statement}
+use Rattle.block.proofs.parts.layout_part.Tie as tie
+
+span-at-requires : tie.Need-span-at-requires
+span-at-requires c κs = search needs
+
+enum-known-start : tie.Need-enum-known-start
+enum-known-start c = search needs
+
+add-end : tie.Need-add-end
+add-end c = omega (arith, (within-at (c .before .before .before .span-at .ensures .1) (c .before .start .given .1)))
+
+returns : tie.Need-returns
+returns c = lays-26 (c .before .before .before .before .before .before .before .args .sheet .now) _ (c .before .before .before .before .before .before .before .args .block .now) _ (sym (c .before .before .before .before .before .span-at .ensures .0) ∙ c .before .before .before .start .given .1) (within-at (c .before .before .before .before .before .span-at .ensures .1) (c .before .before .before .start .given .1)) (c .before .before .before .before .before .before .before .pre .1) (c .before .if1 .taken) (c .if2 .taken)
+
+sub-part : tie.Need-sub-part
+sub-part c = omega (arith, (within-at (c .before .before .before .before .before .span-at .ensures .1) (c .before .before .before .start .given .1)))
+
+part-part-start : tie.Need-part-part-start
+part-part-start c = omega (arith, (within-at (c .before .before .before .before .before .span-at .ensures .1) (c .before .before .before .start .given .1)))
+
+part-part-end : tie.Need-part-part-end
+part-part-end c = omega (arith, (within-at (c .before .before .before .before .before .span-at .ensures .1) (c .before .before .before .start .given .1)))
+
+check-layout-requires : tie.Need-check-layout-requires
+check-layout-requires c κs = search needs
+
+enum-known-version : tie.Need-enum-known-version
+enum-known-version c = search needs
+
+enum-known-why : tie.Need-enum-known-why
+enum-known-why c = search needs
+
+returns-2 : tie.Need-returns-2
+returns-2 c = lays-none (c .before .before .before .before .before .before .before .args .sheet .now) _ (c .before .before .before .before .before .before .before .args .block .now) _ (sym (c .before .before .before .before .before .span-at .ensures .0) ∙ c .before .before .before .start .given .1) (within-at (c .before .before .before .before .before .span-at .ensures .1) (c .before .before .before .start .given .1)) (c .before .before .before .before .before .before .before .pre .1) (c .before .if1 .left) (c .if3 .taken)
+
+enum-known-why-2 : tie.Need-enum-known-why-2
+enum-known-why-2 c = search needs
+
+returns-3 : tie.Need-returns-3
+returns-3 c = lays-ok (c .before .before .before .before .before .before .before .before .before .before .before .before .args .sheet .now) _ (c .before .before .before .before .before .before .before .before .before .before .before .before .args .block .now) _ (sym (c .before .before .before .before .before .before .before .before .before .before .span-at .ensures .0) ∙ c .before .before .before .before .before .before .before .before .start .given .1) (within-at (c .before .before .before .before .before .before .before .before .before .before .span-at .ensures .1) (c .before .before .before .before .before .before .before .before .start .given .1)) (c .before .before .before .before .before .before .before .before .before .before .before .before .pre .1) (c .before .before .before .before .before .before .if1 .taken) (omega (arith, c .before .before .before .before .before .if2 .left)) (sym (c .before .version .given .1) ∙ c .before .before .before .check-layout .ensures)
+
+returns-4 : tie.Need-returns-4
+returns-4 c = lays-bad (c .before .before .before .before .before .before .before .before .before .before .before .before .args .sheet .now) _ (c .before .before .before .before .before .before .before .before .before .before .before .before .args .block .now) _ (sym (c .before .before .before .before .before .before .before .before .before .before .span-at .ensures .0) ∙ c .before .before .before .before .before .before .before .before .start .given .1) (within-at (c .before .before .before .before .before .before .before .before .before .before .span-at .ensures .1) (c .before .before .before .before .before .before .before .before .start .given .1)) (c .before .before .before .before .before .before .before .before .before .before .before .before .pre .1) (c .before .before .before .before .before .before .if1 .taken) (omega (arith, c .before .before .before .before .before .if2 .left)) (sym (c .before .why .given .1) ∙ c .before .before .before .check-layout .ensures)
+
+returns-5 : tie.Need-returns-5
+returns-5 c = lays-25 (c .before .before .before .before .before .before .before .args .sheet .now) _ (c .before .before .before .before .before .before .before .args .block .now) _ (sym (c .before .before .before .before .before .span-at .ensures .0) ∙ c .before .before .before .start .given .1) (within-at (c .before .before .before .before .before .span-at .ensures .1) (c .before .before .before .start .given .1)) (c .before .before .before .before .before .before .before .pre .1) (c .before .if1 .left) (omega (arith, c .if3 .left))
+
+returns-6 : tie.Need-returns-6
+returns-6 c = lays-no {k = c .before .why2 .given .0 .0} (lay-no (c .before .before .before .before .before .args .sheet .now) _ (c .before .before .before .before .before .args .block .now) _ (sym (c .before .before .before .span-at .ensures .0) ∙ c .before .why2 .given .1))
+
+pub layout-part-spec : {M : Type 1} → statement M
+layout-part-spec =
+    tie.close
+    (tie.spec
+    span-at-requires
+    enum-known-start
+    add-end
+    returns
+    sub-part
+    part-part-start
+    part-part-end
+    check-layout-requires
+    enum-known-version
+    enum-known-why
+    returns-2
+    enum-known-why-2
+    returns-3
+    returns-4
+    returns-5
+    returns-6)

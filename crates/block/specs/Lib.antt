@@ -1,0 +1,9 @@
+pub mod Block
+pub mod Fields
+pub mod Read
+pub mod Given
+pub mod Names
+pub mod BlockLaws
+pub mod Steps
+pub mod Single
+pub mod Examples

@@ -1,0 +1,107 @@
+-- What the reader's private functions answer: lines over the formats. Assumes nothing.
+use Prim.Native.Nat.{ℕ, _+_, _-_, _≤_, _<_}
+use mathlib.Core.Path.{_≡_}
+use mathlib.Core.Bool.{Bool, true, false}
+use mathlib.Core.List.{List}
+use lib.ListN.{length, take, drop}
+use Rattle.codec.specs.Codec.{Res, ok, refuse, _>>=_, num, raw}
+use Rattle.wire.specs.Pick.{pick}
+use Rattle.layout.specs.Layout.{Layout}
+use Rattle.layout.specs.Rows.{rows}
+use Rattle.layout.specs.Given.{layoutOf}
+use Rattle.symbology.specs.Symbology.{Symbology}
+use Rattle.symbology.specs.SymbologyRows.{symbologyRows}
+use Rattle.symbology.specs.Lists.{symbologyOf}
+use Rattle.layout.specs.Answers.{leave}
+use Rattle.block.specs.Block.{Header, Block, header, widthOf, layoutPart, symbologyPart, block}
+use Rattle.block.specs.Fields.{fieldsWith}
+use Rattle.block.specs.Read.{answerOf, symbologyAfter, layoutAfter}
+use Rattle.block.specs.declared.MetadataLengths.{MetadataLengths}
+use Rattle.block.specs.declared.Fields.{Fields}
+use Rattle.block.specs.declared.Span.{Span}
+use Rattle.block.specs.declared.Span.the-variants.{Part}
+use Rattle.block.specs.declared.Span.the-variants as Span'
+use Rattle.block.specs.declared.Laid.{Laid}
+use Rattle.block.specs.declared.Laid.the-variants as Laid'
+use Rattle.block.specs.declared.Listing.{Listing}
+use Rattle.block.specs.declared.Listing.the-variants as Listing'
+use Rattle.block.specs.declared.BlockAnswer.{BlockAnswer}
+
+-- a version's header is 100 bytes, and the block has these and no more than fit
+pub record Fixed (v : MetadataLengths) (b : List ℕ) : Type 0 where
+  pub total : v .«dataset_cstr_len» + v .«record_count_len» + v .«symbol_cstr_len_len» + v .«reserved_len» ≡ 71
+  pub two : 0 < v .«symbol_cstr_len_len» → v .«symbol_cstr_len_len» ≡ 2
+  pub long : 100 ≤ length b
+  pub small : length b ≤ 4294967295
+
+-- the number of a refusal, 0 where there is none
+abbrev pub faultOf : {A : Type 0} → Res A → ℕ
+faultOf (ok x j) = 0
+faultOf (refuse k) = k
+
+-- P holds of the header, where it is accepted
+abbrev pub OfHeader : MetadataLengths → List ℕ → (Header → Type 0) → Type 0
+OfHeader v b P = (h : Header) (j : ℕ) → header v .parse 0 b 0 ≡ ok h j → P h
+
+-- an accepted header, and its symbol width
+pub record Headed (v : MetadataLengths) (b : List ℕ) (width : ℕ) : Type 0 where
+  pub fixed : Fixed v b
+  pub width-is : OfHeader v b (λ h. width ≡ widthOf v h)
+  pub passed : 0 ≡ faultOf (header v .parse 0 b 0)
+
+-- u32 length and that many bytes: where they start and how many; k where they run past the end
+abbrev pub spanOf : Res ℕ → Span
+spanOf (ok n p) = Part p n
+spanOf (refuse k) = Span'.Refused k
+
+unfoldable pub spanAt : ℕ → List ℕ → ℕ → Span
+spanAt k b at = spanOf (num k 4 .parse 0 b at >>= λ n p. raw k n .parse 0 b p >>= λ x j. ok n p)
+
+-- a part within b, from `at` on
+pub data Within (b : List ℕ) (at : ℕ) : Span → Type 0 where
+  within : {p n : ℕ} → at ≤ p → p + n ≤ length b → Within b at (Part p n)
+  outside : {k : ℕ} → Within b at (Span'.Refused k)
+
+-- version 4: u32 length and that many bytes; below: the rest
+abbrev pub sectionAt : Bool → List ℕ → ℕ → Span
+sectionAt true b at = spanAt 27 b at
+sectionAt false b at = Part at (length b - at)
+
+-- the table after a layout, where a version has one
+abbrev pub leaveIf : Bool → List ℕ → List ℕ → List ℕ
+leaveIf has part t = pick has (leave t (layoutOf part)) t
+
+-- the layout part that was read: it ends at e, and its rows make of a table what its bytes make of it
+pub record Layout-read (has : Bool) (sheet : List ℕ) (width : ℕ) (b : List ℕ) (v n e : ℕ) : Type 0 where
+  pub tree : Layout
+  pub is : layoutPart has sheet width .parse 0 b 100 ≡ ok tree e
+  pub from : 104 ≤ e
+  pub to : e ≤ length b
+  pub leaves : (t : List ℕ) → leaveIf has (take (e - 104) (drop 104 b)) t ≡ leave t (ok tree e)
+  pub version : tree .version ≡ v
+  pub many : length (rows tree) ≡ n
+
+pub data Lays (has : Bool) (sheet : List ℕ) (width : ℕ) (b : List ℕ) : Laid → Type 0 where
+  lays : {v n e : ℕ} → Layout-read has sheet width b v n e → Lays has sheet width b (Laid'.Accepted v n e)
+  lays-no : {k : ℕ} → layoutPart has sheet width .parse 0 b 100 ≡ refuse k → Lays has sheet width b (Laid'.Refused k)
+
+-- the symbology part that was read: its bytes are those from p up to e
+pub record Symbology-read (has : Bool) (width : ℕ) (b : List ℕ) (at n p e : ℕ) : Type 0 where
+  pub tree : Symbology
+  pub next : ℕ
+  pub stop : ℕ
+  pub is : symbologyPart has width .parse 0 b at ≡ ok tree next
+  pub bytes : symbologyOf width p (take (e - p) (drop p b)) ≡ ok tree stop
+  pub from : p ≤ e
+  pub to : e ≤ length b
+  pub many : length (symbologyRows tree) ≡ n
+
+pub data Lists (has : Bool) (width : ℕ) (b : List ℕ) (at : ℕ) : Listing → Type 0 where
+  lists : {n p e : ℕ} → Symbology-read has width b at n p e → Lists has width b at (Listing'.Accepted n p e)
+  lists-no : {k : ℕ} → symbologyPart has width .parse 0 b at ≡ refuse k → Lists has width b at (Listing'.Refused k)
+
+-- the answer and the tables after reading z
+pub record Does (v : MetadataLengths) (z : Res (Block × List ℕ)) (s l : List ℕ) (r : BlockAnswer) (s′ l′ : List ℕ) : Type 0 where
+  pub answer : r ≡ answerOf v z (length s) (length l)
+  pub symbology : s′ ≡ symbologyAfter z s l
+  pub layout : l′ ≡ layoutAfter z s l

@@ -1,0 +1,203 @@
+// Blocks of versions 1 to 4: their fields, and their rows in two lent tables.
+mod header;
+mod names;
+mod parts;
+
+ghost use mathlib.Core.Path.{_≡_};
+ghost use lib.ListN.{length};
+ghost use Rattle.codec.specs.Codec.{whole};
+ghost use Rattle.block.specs.Block as Block;
+ghost use Rattle.block.specs.Read.{Promise};
+ghost use Rattle.block.specs.Given.{Ruled};
+ghost use Rattle.block.specs.Names.{symbologySpan, layoutSpan, partIn};
+ghost use Rattle.block.specs.Steps.{Headed, Does};
+
+// What may be absent.
+pub enum Optional {
+    Absent,
+    Present(u64),
+}
+
+// What an accepted block says besides its rows.
+pub struct Fields {
+    pub dataset_len: usize,
+    pub schema: Optional,
+    pub start: u64,
+    pub end: Optional,
+    pub limit: Optional,
+    pub stype_in: Optional,
+    pub stype_out: u8,
+    pub ts_out: bool,
+    pub symbol_cstr_len: usize,
+    pub layout_version: usize,
+    pub symbology_rows: usize,
+    pub layout_rows: usize,
+}
+
+// The fields of a block whose rows are written; the refusal; or the rows that both tables need.
+pub enum BlockAnswer {
+    Read(Fields),
+    Refused(u32),
+    Short { symbology: usize, layout: usize },
+}
+
+// A part of a slice by start and length; or the refusal.
+pub enum Span {
+    Part { start: usize, len: usize },
+    Refused(u32),
+}
+
+// How many bytes a version gives to the parts that differ, and whether it has a layout.
+pub struct MetadataLengths {
+    pub dataset_cstr_len: usize,
+    pub record_count_len: usize,
+    pub symbol_cstr_len_len: usize,
+    pub reserved_len: usize,
+    pub has_layout: bool,
+}
+
+// The layout part: its version, its rows and the place after it; or the refusal.
+enum Laid {
+    Accepted {
+        version: usize,
+        rows: usize,
+        end: usize,
+    },
+    Refused(u32),
+}
+
+// The symbology part: its rows and its bytes in the block; or the refusal.
+enum Listing {
+    Accepted {
+        rows: usize,
+        start: usize,
+        end: usize,
+    },
+    Refused(u32),
+}
+
+// A block given whole with its version: 11, 13, the block, then 3. The tables are written only where all is accepted and both
+// are long enough; rows past the last stay as they were.
+pub fn read_block(
+    version: u8,
+    block: &[u8],
+    sheet: &[u16; 520],
+    symbology: &mut [u32],
+    layout: &mut [u32],
+) -> BlockAnswer
+    ensures { λ r. ⌜ Promise version (now (block .entry)) (now (sheet .entry)) (now (symbology .entry)) (now (layout .entry)) r (now (symbology .exit)) (now (layout .exit)) ⌝ }
+{
+    if version < 1 {
+        return BlockAnswer::Refused(refusal::VERSION);
+    }
+    if 4 < version {
+        return BlockAnswer::Refused(refusal::VERSION);
+    }
+    if block.len() < 100 {
+        return BlockAnswer::Refused(refusal::SIZE);
+    }
+    if 4294967295 < block.len() {
+        return BlockAnswer::Refused(refusal::SIZE);
+    }
+    let v = header::lengths_of(version);
+    let fault = header::check_header(block, v);
+    if fault != 0 {
+        return BlockAnswer::Refused(fault);
+    }
+    let width = header::symbol_width(block, v);
+    read_body(block, v, width, sheet, symbology, layout)
+}
+
+// A layout given with a symbol width: 13, the layout, its rules, then 3. The table is written only where all is accepted and it
+// is long enough.
+pub fn read_layout(
+    layout: &[u8],
+    width: u16,
+    sheet: &[u16; 520],
+    table: &mut [u32],
+) -> layout::Answer
+    ensures { λ r. ⌜ Ruled (now (layout .entry)) width (now (sheet .entry)) (now (table .entry)) (now (table .exit)) r ⌝ }
+{
+    match rules::check_layout(layout, width, sheet) {
+        layout::Verdict::Accepted {
+            version: _,
+            rows: _,
+        } => layout::read_layout_rows(layout, table),
+        layout::Verdict::Refused(why) => layout::Answer::Refused(why),
+    }
+}
+
+// Where the text of a symbology row stands in its block; 90 for an index past the table, a row without a text, or a span outside.
+pub fn symbology_span(block: &[u8], rows: &[u32], index: usize) -> Span
+    ensures { λ r. ⌜ r ≡ symbologySpan (length (now (block .entry))) (now (rows .entry)) index ⌝ }
+{
+    names::symbology_row(block.len(), rows, index)
+}
+
+// The text of a symbology row as a part of the caller's own block; empty where there is none.
+pub fn symbology_name<'a>(block: &'a [u8], rows: &[u32], index: usize) -> &'a [u8]
+    ensures { λ r. ⌜ now r ≡ partIn (now (block .entry)) (symbologySpan (length (now (block .entry))) (now (rows .entry)) index) ⌝ }
+{
+    names::part(block, symbology_span(block, rows, index))
+}
+
+// Where the text of a layout row stands in its layout; 90 as for a symbology row. A field has none.
+pub fn layout_span(layout: &[u8], rows: &[u32], index: usize) -> Span
+    ensures { λ r. ⌜ r ≡ layoutSpan (length (now (layout .entry))) (now (rows .entry)) index ⌝ }
+{
+    names::layout_row(layout.len(), rows, index)
+}
+
+// The text of a layout row as a part of the caller's own layout; empty where there is none.
+pub fn layout_name<'a>(layout: &'a [u8], rows: &[u32], index: usize) -> &'a [u8]
+    ensures { λ r. ⌜ now r ≡ partIn (now (layout .entry)) (layoutSpan (length (now (layout .entry))) (now (rows .entry)) index) ⌝ }
+{
+    names::part(layout, layout_span(layout, rows, index))
+}
+
+// What follows an accepted header: layout and symbology, then 3 for a table that is short, then the rows.
+fn read_body(
+    block: &[u8],
+    v: MetadataLengths,
+    width: u16,
+    sheet: &[u16; 520],
+    symbology: &mut [u32],
+    layout: &mut [u32],
+) -> BlockAnswer
+    requires { ⌜ Headed v (now block) width ⌝ }
+    ensures { λ r. ⌜ Does v (whole (Block.block (now (sheet .entry)) v) 0 (now (block .entry))) (now (symbology .entry)) (now (layout .entry)) r (now (symbology .exit)) (now (layout .exit)) ⌝ }
+{
+    let has_layout = v.has_layout;
+    match parts::layout_part(block, has_layout, width, sheet) {
+        Laid::Accepted {
+            version,
+            rows: nines,
+            end: at,
+        } => match parts::symbology_part(block, at, has_layout, width) {
+            Listing::Accepted {
+                rows: fives,
+                start,
+                end,
+            } => {
+                if symbology.len() / 5 < fives {
+                    return BlockAnswer::Short {
+                        symbology: fives,
+                        layout: nines,
+                    };
+                }
+                if layout.len() / 9 < nines {
+                    return BlockAnswer::Short {
+                        symbology: fives,
+                        layout: nines,
+                    };
+                }
+                let part = &block[start..end];
+                symbology::read_symbology_rows(part, start, width, symbology);
+                parts::put_layout(block, has_layout, at, layout);
+                BlockAnswer::Read(header::fields_of(block, v, version, fives, nines))
+            }
+            Listing::Refused(why) => BlockAnswer::Refused(why),
+        },
+        Laid::Refused(why) => BlockAnswer::Refused(why),
+    }
+}

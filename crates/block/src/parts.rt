@@ -1,0 +1,110 @@
+// What follows the header: the layout part and the symbology part.
+use super::Laid;
+use super::Listing;
+use super::Span;
+use super::header;
+ghost use mathlib.Core.Path.{_≡_};
+ghost use Prim.Native.Nat.{_+_, _-_, _≤_};
+ghost use lib.ListN.{length, take, drop};
+ghost use Rattle.block.specs.Steps.{spanAt, Within, sectionAt, leaveIf, Lays, Lists};
+
+// The layout part at byte 100: read and ruled on in version 4, empty below.
+pub(crate) fn layout_part(block: &[u8], has_layout: bool, width: u16, sheet: &[u16; 520]) -> Laid
+    requires { ⌜ (100 ≤ length (now block)) × (length (now block) ≤ 4294967295) ⌝ }
+    ensures { λ r. ⌜ Lays «has_layout» (now (sheet .entry)) width (now (block .entry)) r ⌝ }
+{
+    match span_at(block, 100, refusal::LAYOUT_PAST_END) {
+        Span::Part { start, len } => {
+            let end = start + len;
+            if has_layout {
+                if len == 0 {
+                    return Laid::Refused(refusal::NO_LAYOUT);
+                }
+                let part = &block[start..end];
+                match rules::check_layout(part, width, sheet) {
+                    layout::Verdict::Accepted { version, rows } => {
+                        Laid::Accepted { version, rows, end }
+                    }
+                    layout::Verdict::Refused(why) => Laid::Refused(why),
+                }
+            } else {
+                if len == 0 {
+                    return Laid::Accepted {
+                        version: 0,
+                        rows: 0,
+                        end,
+                    };
+                }
+                Laid::Refused(refusal::LAYOUT_BELOW_4)
+            }
+        }
+        Span::Refused(why) => Laid::Refused(why),
+    }
+}
+
+// The symbology part from `at` on. In version 4 the contents span the section.
+pub(crate) fn symbology_part(block: &[u8], at: usize, has_layout: bool, width: u16) -> Listing
+    requires { ⌜ (at ≤ length (now block)) × (length (now block) ≤ 4294967295) ⌝ }
+    ensures { λ r. ⌜ Lists «has_layout» width (now (block .entry)) at r ⌝ }
+{
+    match section_at(block, at, has_layout) {
+        Span::Part { start, len } => {
+            let end = start + len;
+            let part = &block[start..end];
+            match symbology::symbology_verdict(part, start, width) {
+                symbology::Found::Accepted { rows, next } => {
+                    if has_layout {
+                        if next < len {
+                            return Listing::Refused(refusal::SYMBOLOGY_NOT_SPANNED);
+                        }
+                    }
+                    Listing::Accepted { rows, start, end }
+                }
+                symbology::Found::Refused(why) => Listing::Refused(why),
+            }
+        }
+        Span::Refused(why) => Listing::Refused(why),
+    }
+}
+
+// The rows of the layout part that ends at `end`, in the table, where the version has a layout.
+pub(crate) fn put_layout(block: &[u8], has_layout: bool, end: usize, table: &mut [u32])
+    requires { ⌜ (104 ≤ end) × (end ≤ length (now block)) ⌝ }
+    ensures { λ _. ⌜ now (table .exit) ≡ leaveIf «has_layout» (take (end - 104) (drop 104 (now (block .entry)))) (now (table .entry)) ⌝ }
+{
+    if has_layout {
+        let start = 104;
+        let part = &block[start..end];
+        layout::read_layout_rows(part, table);
+    }
+}
+
+// The bytes of the symbology from `at` on: a section in version 4, the rest below.
+fn section_at(block: &[u8], at: usize, has_layout: bool) -> Span
+    requires { ⌜ at ≤ length (now block) ⌝ }
+    ensures { λ r. ⌜ (r ≡ sectionAt «has_layout» (now (block .entry)) at) × Within (now (block .entry)) at r ⌝ }
+{
+    if has_layout {
+        return span_at(block, at, refusal::SYMBOLOGY_PAST_END);
+    }
+    Span::Part {
+        start: at,
+        len: block.len() - at,
+    }
+}
+
+// Where the bytes stand that a u32 length at `at` announces; `why` where they run past the end.
+fn span_at(block: &[u8], at: usize, why: u32) -> Span
+    requires { ⌜ at ≤ length (now block) ⌝ }
+    ensures { λ r. ⌜ (r ≡ spanAt why (now (block .entry)) at) × Within (now (block .entry)) (at + 4) r ⌝ }
+{
+    if block.len() - at < 4 {
+        return Span::Refused(why);
+    }
+    let start = at + 4;
+    let len = header::word(block, at) as usize;
+    if block.len() - start < len {
+        return Span::Refused(why);
+    }
+    Span::Part { start, len }
+}

@@ -1,0 +1,32 @@
+-- ONE ANSWER: two outcomes that meet a promise of a C function are equal.
+-- Assumes nothing.
+use Prim.Native.Nat.{ℕ}
+use mathlib.Core.Path.{_≡_, sym, _∙_}
+use mathlib.Core.List.{List}
+use Rattle.dbn_c.specs.Numbers.{BlockC, FeedC, LayoutC, WriteC}
+
+-- a promise that is one equation, or several, of results and buffers that are lists
+pub one : {A : Type 0} {x y z : A} → x ≡ z → y ≡ z → x ≡ y
+one f g = f ∙ sym g
+
+-- of dbn_block: number, `out`, both tables
+pub one-block : (v : ℕ) (b t s l o : List ℕ) (r q : ℕ) (s1 l1 o1 s2 l2 o2 : List ℕ)
+    → BlockC v b t s l o r s1 l1 o1 → BlockC v b t s l o q s2 l2 o2 → (r ≡ q) × ((s1 ≡ s2) × ((l1 ≡ l2) × (o1 ≡ o2)))
+one-block v b t s l o r q s1 l1 o1 s2 l2 o2 f g =
+    (one (f .number) (g .number), (one (f .symbology) (g .symbology), (one (f .layout) (g .layout), one (f .out) (g .out))))
+
+-- of dbn_layout: number, table, `out`
+pub one-layout : (b : List ℕ) (w : ℕ) (sheet t o : List ℕ) (r q : ℕ) (t1 o1 t2 o2 : List ℕ)
+    → LayoutC b w sheet t o r t1 o1 → LayoutC b w sheet t o q t2 o2 → (r ≡ q) × ((t1 ≡ t2) × (o1 ≡ o2))
+one-layout b w sheet t o r q t1 o1 t2 o2 f g = (one (f .number) (g .number), (one (f .rows) (g .rows), one (f .out) (g .out)))
+
+-- of dbn_write_layout: number, output, `out`
+pub one-write : (rows text : List ℕ) (v w : ℕ) (sheet u o : List ℕ) (r q : ℕ) (u1 o1 u2 o2 : List ℕ)
+    → WriteC rows text v w sheet u o r u1 o1 → WriteC rows text v w sheet u o q u2 o2 → (r ≡ q) × ((u1 ≡ u2) × (o1 ≡ o2))
+one-write rows text v w sheet u o r q u1 o1 u2 o2 f g = (one (f .number) (g .number), (one (f .output) (g .output), one (f .out) (g .out)))
+
+-- of dbn_feed: number, `out`, store, both tables
+pub one-feed : (k : ℕ) (st p t s l o : List ℕ) (r q : ℕ) (st1 s1 l1 o1 st2 s2 l2 o2 : List ℕ)
+    → FeedC k st p t s l o r st1 s1 l1 o1 → FeedC k st p t s l o q st2 s2 l2 o2 → (r ≡ q) × ((st1 ≡ st2) × ((s1 ≡ s2) × ((l1 ≡ l2) × (o1 ≡ o2))))
+one-feed k st p t s l o r q st1 s1 l1 o1 st2 s2 l2 o2 f g =
+    (one (f .number) (g .number), (one (f .store) (g .store), (one (f .symbology) (g .symbology), (one (f .layout) (g .layout), one (f .out) (g .out)))))

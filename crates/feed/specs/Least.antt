@@ -1,0 +1,89 @@
+-- What "needs n" promises of the feeds after it: fewer bytes leave exactly the rest needed, so many end the stage. Assumes nothing.
+use Prim.Native.Nat.{ℕ, _+_, _-_, _≤_, _<_, min}
+use native.Mathlib.Omega.{arith}
+use mathlib.Core.Path.{_≡_, sym, ap, ap₂, _∙_}
+use mathlib.Core.List.{List}
+use lib.ListN.{length}
+use lib.Seq.{paste}
+use Rattle.block.specs.Read.{blockAnswer}
+use Rattle.block.specs.declared.BlockAnswer.{BlockAnswer}
+use Rattle.block.specs.declared.BlockAnswer.the-variants.{Read}
+use Rattle.feed.specs.Feeding.{stageOf, needOf, poured, takenOf, blockSays, blockIn, answerAt, Feeding}
+use Rattle.feed.specs.Stages.{needs-rest, needs-eight, needs-whole}
+use Rattle.feed.specs.declared.Answer.{Answer}
+use Rattle.feed.specs.declared.Fed.{Fed}
+use Rattle.feed.specs.declared.Stage.{Stage}
+use Rattle.feed.specs.declared.Stage.the-variants.{Needs, Refused, Whole}
+
+block-never : (a : BlockAnswer) (n : ℕ) → blockSays a ≡ Answer.Needs n → ⊥
+block-never (Read f) n e = let z : _≡_ {A = ℕ} 0 1 = cc in omega arith
+block-never (BlockAnswer.Refused m) n e = let z : _≡_ {A = ℕ} 0 1 = cc in omega arith
+block-never (BlockAnswer.Short a b) n e = let z : _≡_ {A = ℕ} 0 1 = cc in omega arith
+
+-- only a stage says that bytes are needed
+says-needs : (z : Stage) (st t s l : List ℕ) (n : ℕ) → answerAt z st t s l ≡ Answer.Needs n → z ≡ Needs n
+says-needs (Needs m) st t s l n e = let q : m ≡ n = cc in ap Needs q
+says-needs (Refused m) st t s l n e = absurd (let z : _≡_ {A = ℕ} 0 1 = cc in omega arith)
+says-needs (Whole v m) st t s l n e = absurd (block-never (blockAnswer v (blockIn st m) t s l) n e)
+
+needs-stage : (k : ℕ) (st p t s l : List ℕ) (x : Fed) (st1 s1 l1 : List ℕ) (n : ℕ) → Feeding k st p t s l x st1 s1 l1 → x .answer ≡ Answer.Needs n
+    → stageOf (x .state .held) st1 ≡ Needs n
+needs-stage k st p t s l x st1 s1 l1 n f e = ap₂ stageOf (f .held) (f .store) ∙ says-needs _ _ t s l n (sym (f .verdict .answer) ∙ e)
+
+module _ (k : ℕ) (st : List ℕ) (n : ℕ) (e : stageOf k st ≡ Needs n) (q t s l : List ℕ) (y : Fed) (st2 s2 l2 : List ℕ) (g : Feeding k st q t s l y st2 s2 l2) where
+  fewer-taken : length q < n → takenOf k st q ≡ length q
+  unfolding takenOf poured
+  fewer-taken h = omega (arith, ap needOf e)
+
+  fewer-of : length q < n → (y .taken ≡ length q) × (y .answer ≡ Answer.Needs (n - length q))
+  fewer-of h =
+      let a = fewer-taken h in (
+        g .taken ∙ a,
+        g .verdict .answer
+            ∙ ap (λ m. answerAt (stageOf (k + m) (paste st k q m)) (paste st k q m) t s l) a
+            ∙ ap (λ z. answerAt z (paste st k q (length q)) t s l) (needs-rest k st n e q (length q) h (omega arith)),
+      )
+
+  most : n ≤ length q → n ≤ y .taken
+  unfolding takenOf poured
+  most h = omega (arith, ap needOf e, g .taken)
+
+  prelude-of : n ≤ length q → k < 8 → 8 ≤ y .state .held
+  prelude-of h few = omega (arith, most h, needs-eight k st n e few, g .held, g .taken)
+
+  block-taken : n ≤ length q → 8 ≤ k → takenOf k st q ≡ n
+  unfolding takenOf poured
+  block-taken h many =
+      let (v, len, w) = needs-whole k st n e many q h in
+      let a : min (needOf (stageOf k st)) (length q) ≡ n = omega (arith, ap needOf e) in
+      let z : needOf (stageOf (k + min (needOf (stageOf k st)) (length q)) (paste st k q (min (needOf (stageOf k st)) (length q)))) ≡ 0 = rw a (ap needOf w) in
+      omega arith
+
+  block-of : n ≤ length q → 8 ≤ k → (y .taken ≡ n) × ((m : ℕ) → y .answer ≡ Answer.Needs m → ⊥)
+  block-of h many =
+      let (v, len, w) = needs-whole k st n e many q h in
+      let a = block-taken h many in (
+        g .taken ∙ a,
+        λ m u. block-never (blockAnswer v (blockIn (paste st k q n) len) t s l) m
+            (sym (ap (λ z. answerAt z (paste st k q n) t s l) w)
+            ∙ sym (ap (λ i. answerAt (stageOf (k + i) (paste st k q i)) (paste st k q i) t s l) a)
+            ∙ sym (g .verdict .answer) ∙ u),
+      )
+
+-- THE LEAST COUNT. Where a feed that left k bytes held answered that n are needed, what a feed y of the piece q then gives:
+-- of fewer all are taken and exactly the rest is needed; so many end the prelude, or take just the rest of the block, after which none is needed.
+pub record Least (k n : ℕ) (q : List ℕ) (y : Fed) : Type 0 where
+  pub fewer : length q < n → (y .taken ≡ length q) × (y .answer ≡ Answer.Needs (n - length q))
+  pub prelude : n ≤ length q → k < 8 → 8 ≤ y .state .held
+  pub block : n ≤ length q → 8 ≤ k → (y .taken ≡ n) × ((m : ℕ) → y .answer ≡ Answer.Needs m → ⊥)
+
+pub least : (k : ℕ) (st p t s l : List ℕ) (x : Fed) (st1 s1 l1 : List ℕ) (n : ℕ) (q u s0 l0 : List ℕ) (y : Fed) (st2 s2 l2 : List ℕ)
+    → Feeding k st p t s l x st1 s1 l1 → x .answer ≡ Answer.Needs n → Feeding (x .state .held) st1 q u s0 l0 y st2 s2 l2
+    → Least (x .state .held) n q y
+least k st p t s l x st1 s1 l1 n q u s0 l0 y st2 s2 l2 f e g =
+    let z = needs-stage k st p t s l x st1 s1 l1 n f e in
+    record {
+      fewer = fewer-of (x .state .held) st1 n z q u s0 l0 y st2 s2 l2 g;
+      prelude = prelude-of (x .state .held) st1 n z q u s0 l0 y st2 s2 l2 g;
+      block = block-of (x .state .held) st1 n z q u s0 l0 y st2 s2 l2 g;
+    }

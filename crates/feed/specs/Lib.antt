@@ -1,0 +1,12 @@
+pub mod Prelude
+pub mod PreludeLaws
+pub mod Feeding
+pub mod Laws
+pub mod Stages
+pub mod Held
+pub mod Single
+pub mod Least
+pub mod Bytewise
+pub mod Pieces
+pub mod NeverPast
+pub mod Examples

@@ -1,0 +1,209 @@
+// Feeding: the start of a stream comes in pieces, is held in a store that the caller lends, and is read once its block is whole.
+use block::BlockAnswer;
+use block::Fields;
+ghost use mathlib.Core.Path.{_≡_};
+ghost use Prim.Native.Nat.{_+_, _-_, _≤_, min};
+ghost use lib.ListN.{length};
+ghost use lib.Seq.{paste};
+ghost use Rattle.feed.specs.Prelude.{preludeOf};
+ghost use Rattle.feed.specs.PreludeLaws.{lengthOf};
+ghost use Rattle.feed.specs.Feeding.{stageOf, needOf, poured, Judgement, Feeding};
+
+// The bytes of a prelude, and the least block that it may announce.
+const METADATA_PRELUDE_LEN: usize = 8;
+
+const METADATA_FIXED_LEN: usize = 100;
+
+// How far bytes have come: so many more are needed, or they are refused, or there is a block of this version and length.
+pub enum Stage {
+    Needs(usize),
+    Refused(u32),
+    Whole { version: u8, len: usize },
+}
+
+// How many bytes of the store are held. The caller hands it back with the store, both unaltered.
+pub struct State {
+    pub held: usize,
+}
+
+// What the held bytes say: so many more are needed, or the block's fields, or a refusal number, or the rows that the tables would need.
+pub enum Answer {
+    Needs(usize),
+    Done(Fields),
+    Refused(u32),
+    Short { symbology: usize, layout: usize },
+}
+
+// How many bytes of the piece were taken, the state after them, and what the held bytes then say.
+pub struct Fed {
+    pub taken: usize,
+    pub state: State,
+    pub answer: Answer,
+}
+
+// The verdict on a prelude: the bytes missing, 10, 11, 12, or its version and block length. Bytes past the eighth are not looked at.
+pub fn prelude(s: &[u8]) -> Stage
+    ensures { λ r. ⌜ r ≡ preludeOf (now (s .entry)) ⌝ }
+{
+    let n = s.len();
+    if n < METADATA_PRELUDE_LEN {
+        return Stage::Needs(METADATA_PRELUDE_LEN - n);
+    }
+    if s[0] != b'D' {
+        return Stage::Refused(refusal::MAGIC);
+    }
+    if s[1] != b'B' {
+        return Stage::Refused(refusal::MAGIC);
+    }
+    if s[2] != b'N' {
+        return Stage::Refused(refusal::MAGIC);
+    }
+    let version = s[3];
+    if version < 1 {
+        return Stage::Refused(refusal::VERSION);
+    }
+    if 4 < version {
+        return Stage::Refused(refusal::VERSION);
+    }
+    let len = block_len(s);
+    if len < METADATA_FIXED_LEN {
+        return Stage::Refused(refusal::BLOCK_LENGTH);
+    }
+    Stage::Whole { version, len }
+}
+
+// A piece is fed: what the prelude, then the block, still needs is taken into the store right after the held bytes. The answer is the
+// verdict on what is then held, with the tables lent now; a refusal leaves the tables as they were.
+pub fn feed(
+    state: State,
+    store: &mut [u8],
+    piece: &[u8],
+    sheet: &[u16; 520],
+    symbology: &mut [u32],
+    layout: &mut [u32],
+) -> Fed
+    ensures { λ r. ⌜ Feeding (state .held) (now (store .entry)) (now (piece .entry)) (now (sheet .entry)) (now (symbology .entry)) (now (layout .entry)) r (now (store .exit)) (now (symbology .exit)) (now (layout .exit)) ⌝ }
+{
+    let held = state.held;
+    let a = pour(held, store, piece);
+    let first = held + a;
+    let b = pour(first, store, &piece[a..]);
+    let second = first + b;
+    let answer = judge(second, store, sheet, symbology, layout);
+    Fed {
+        taken: a + b,
+        state: State { held: second },
+        answer,
+    }
+}
+
+// The verdict on the first `held` bytes of a store, up to the block's own.
+fn stage_of(held: usize, store: &[u8]) -> Stage
+    ensures { λ r. ⌜ r ≡ stageOf held (now (store .entry)) ⌝ }
+{
+    let room = store.len();
+    if room < held {
+        return Stage::Refused(refusal::HELD_BEYOND);
+    }
+    if room < METADATA_PRELUDE_LEN {
+        return Stage::Refused(refusal::STORE_SHORT);
+    }
+    match prelude(&store[..held]) {
+        Stage::Needs(k) => Stage::Needs(k),
+        Stage::Refused(e) => Stage::Refused(e),
+        Stage::Whole { version, len } => {
+            if room - METADATA_PRELUDE_LEN < len {
+                return Stage::Refused(refusal::STORE_SHORT);
+            }
+            let end = METADATA_PRELUDE_LEN + len;
+            if end < held {
+                return Stage::Refused(refusal::HELD_BEYOND);
+            }
+            if held < end {
+                return Stage::Needs(end - held);
+            }
+            Stage::Whole { version, len }
+        }
+    }
+}
+
+// The answer on held bytes, with the tables lent.
+fn judge(
+    held: usize,
+    store: &[u8],
+    sheet: &[u16; 520],
+    symbology: &mut [u32],
+    layout: &mut [u32],
+) -> Answer
+    ensures { λ r. ⌜ Judgement held (now (store .entry)) (now (sheet .entry)) (now (symbology .entry)) (now (layout .entry)) r (now (symbology .exit)) (now (layout .exit)) ⌝ }
+{
+    match stage_of(held, store) {
+        Stage::Needs(n) => Answer::Needs(n),
+        Stage::Refused(e) => Answer::Refused(e),
+        Stage::Whole { version, len } => {
+            let end = METADATA_PRELUDE_LEN + len;
+            match block::read_block(version, &store[8..end], sheet, symbology, layout) {
+                BlockAnswer::Read(f) => Answer::Done(f),
+                BlockAnswer::Refused(e) => Answer::Refused(e),
+                BlockAnswer::Short {
+                    symbology: s,
+                    layout: l,
+                } => Answer::Short {
+                    symbology: s,
+                    layout: l,
+                },
+            }
+        }
+    }
+}
+
+// Takes into the store what the present stage still needs, at most the piece, and answers how many bytes that is.
+fn pour(held: usize, store: &mut [u8], piece: &[u8]) -> usize
+    ensures { λ r. ⌜ (r ≡ poured held (now (store .entry)) (length (now (piece .entry)))) × (now (store .exit) ≡ paste (now (store .entry)) held (now (piece .entry)) r) ⌝ }
+{
+    let want = need(stage_of(held, store));
+    let there = piece.len();
+    if there < want {
+        copy(store, held, piece, there);
+        return there;
+    }
+    copy(store, held, piece, want);
+    want
+}
+
+// How many bytes a stage still needs.
+fn need(s: Stage) -> usize
+    ensures { λ r. ⌜ r ≡ needOf s ⌝ }
+{
+    match s {
+        Stage::Needs(n) => n,
+        Stage::Refused(_) => 0,
+        Stage::Whole { version: _, len: _ } => 0,
+    }
+}
+
+// Puts the first n bytes of the piece into the store, from place `at` on.
+fn copy(store: &mut [u8], at: usize, piece: &[u8], n: usize)
+    requires { ⌜ (n ≤ length (now store) - at) × (n ≤ length (now piece)) ⌝ }
+    ensures { λ _. ⌜ now (store .exit) ≡ paste (now (store .entry)) at (now (piece .entry)) n ⌝ }
+{
+    let mut j = 0;
+    while j < n {
+        store[at + j] = piece[j];
+        j += 1;
+    }
+}
+
+// The block length that eight bytes state.
+fn block_len(s: &[u8]) -> usize
+    requires { ⌜ 8 ≤ length (now s) ⌝ }
+    ensures { λ r. ⌜ r ≡ lengthOf (now (s .entry)) ⌝ }
+{
+    wide(s[4]) + 256 * (wide(s[5]) + 256 * (wide(s[6]) + 256 * wide(s[7])))
+}
+
+fn wide(x: u8) -> usize
+    ensures { λ r. ⌜ (r ≡ x) × (r ≤ 255) ⌝ }
+{
+    x as usize
+}

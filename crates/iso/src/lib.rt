@@ -1,0 +1,30 @@
+// Dates as people write them.
+ghost use mathlib.Core.Path.{_≡_};
+ghost use Prim.Native.Nat.{_<_};
+ghost use Rattle.iso.specs.DateText.{digitOf, dateText};
+
+// A date year x 10000 + month x 100 + day as yyyy-mm-dd, in ASCII. Of a larger number the last eight digits count.
+pub fn date_text(yyyymmdd: u32) -> [u8; 10]
+    ensures { λ r. ⌜ r ≡ dateText yyyymmdd ⌝ }
+{
+    [
+        digit(yyyymmdd, 10000000),
+        digit(yyyymmdd, 1000000),
+        digit(yyyymmdd, 100000),
+        digit(yyyymmdd, 10000),
+        b'-',
+        digit(yyyymmdd, 1000),
+        digit(yyyymmdd, 100),
+        b'-',
+        digit(yyyymmdd, 10),
+        digit(yyyymmdd, 1),
+    ]
+}
+
+// The decimal digit of n that counts `weight`, in ASCII.
+fn digit(n: u32, weight: u32) -> u8
+    requires { ⌜ 0 < weight ⌝ }
+    ensures { λ r. ⌜ r ≡ digitOf n weight ⌝ }
+{
+    48 + (n / weight % 10) as u8
+}

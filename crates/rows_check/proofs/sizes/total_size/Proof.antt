@@ -1,0 +1,25 @@
+-- Three groups of sections, one after the other.
+-- Assumes nothing.
+use native.Mathlib.Omega.{arith}
+use mathlib.Core.Path.{_∙_}
+use denote.Ref.{now}
+use Rattle.rows_check.proofs.Laws.{size-le, total}
+use Rattle.rows_check.proofs.sizes.total_size.Statement.{statement}
+use Rattle.rows_check.proofs.sizes.total_size.Tie as tie
+
+sections-size-requires : tie.Need-sections-size-requires
+sections-size-requires c κs = (omega arith, rw (c .before .before .pre .0 .0) (c .before .before .pre .1 .0))
+
+sections-size-requires-2 : tie.Need-sections-size-requires-2
+sections-size-requires-2 c κs = (rw (c .sections-size .ensures .0) (size-le _ _), rw (c .sections-size .ensures .1, c .before .before .before .pre .0 .0, c .before .before .before .pre .0 .1 .0) (c .before .before .before .pre .1 .1 .0))
+
+sections-size-requires-3 : tie.Need-sections-size-requires-3
+sections-size-requires-3 c κs = (rw (c .sections-size2 .ensures .0) (size-le _ _), rw (c .sections-size2 .ensures .1, c .before .sections-size .ensures .1, c .before .before .before .before .pre .0 .0, c .before .before .before .before .pre .0 .1 .0, c .before .before .before .before .pre .0 .1 .1) (c .before .before .before .before .pre .1 .1 .1))
+
+returns : tie.Need-returns
+returns c = c .sections-size3 .ensures .0 ∙ rw (c .before .sections-size2 .ensures .1, c .before .sections-size2 .ensures .0, c .before .before .sections-size .ensures .1, c .before .before .sections-size .ensures .0, c .before .before .before .before .before .pre .0 .0, c .before .before .before .before .before .pre .0 .1 .0, c .before .before .before .before .before .pre .0 .1 .1) (total (now (c .before .before .before .before .before .args .rows)) (now (c .before .before .before .before .before .args .text)))
+
+pub total-size-spec : {M : Type 1} → statement M
+total-size-spec =
+    tie.close
+    (tie.spec sections-size-requires sections-size-requires-2 sections-size-requires-3 returns)

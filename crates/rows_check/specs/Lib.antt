@@ -1,0 +1,10 @@
+pub mod Tree
+pub mod Check
+pub mod Tests
+pub mod Table
+pub mod Legal
+pub mod Bodies
+pub mod Secs
+pub mod Names
+pub mod Rows
+pub mod Single

@@ -1,0 +1,166 @@
+// Whether the kinds of rows stand in their places, and whether label codes rise.
+use super::cells;
+use super::fits;
+ghost use mathlib.Core.Path.{_≡_};
+ghost use Prim.Native.Nat.{_+_, _-_, _*_, _/_, _≤_, _<_};
+ghost use lib.ListN.{length};
+ghost use lib.Dec.{eqb};
+ghost use Rattle.wire.specs.Pick.{pick};
+ghost use Rattle.rows_check.specs.Tree.{countKind, rowCount, kinds};
+ghost use Rattle.rows_check.specs.Check.{every, secOk, walk, inOrder, wellFormed, groupsFit, countsFit, risesAt};
+
+// 90: rows of nine whose numbers fit, each kind in its place.
+pub(crate) fn well_formed(rows: &[u32], text: &[u8]) -> bool
+    ensures { λ r. ⌜ r ≡ wellFormed (now (rows .entry)) (now (text .entry)) ⌝ }
+{
+    if rows.len() % 9 != 0 {
+        return false;
+    }
+    if !fits::rows_pass(90, rows, text, 0, rows.len() / 9) {
+        return false;
+    }
+    in_order(rows, text)
+}
+
+// Record sections, then struct sections, then label defs, and no row besides.
+fn in_order(rows: &[u32], text: &[u8]) -> bool
+    ensures { λ r. ⌜ r ≡ inOrder (now (rows .entry)) (now (text .entry)) ⌝ }
+{
+    let a = walk_secs(cells::RECORD, rows, text, 0, kinds_of(rows, cells::RECORD));
+    let b = walk_secs(cells::STRUCT, rows, text, a, kinds_of(rows, cells::STRUCT));
+    let d = walk_secs(
+        cells::LABEL_DEF,
+        rows,
+        text,
+        b,
+        kinds_of(rows, cells::LABEL_DEF),
+    );
+    d == rows.len() / 9
+}
+
+// The row after n sections of a kind, or one past the last where one is not in place.
+fn walk_secs(kind: usize, rows: &[u32], text: &[u8], q: usize, n: usize) -> usize
+    ensures { λ r. ⌜ r ≡ walk kind (now (rows .entry)) (now (text .entry)) q n ⌝ }
+{
+    let mut p = q;
+    let mut todo = n;
+    while 0 < todo {
+        if !sec_ok(kind, rows, text, p) {
+            return rows.len() / 9 + 1;
+        }
+        p = cells::next_sec(kind, rows, p);
+        todo -= 1;
+    }
+    p
+}
+
+// A section of that kind stands at row q.
+fn sec_ok(kind: usize, rows: &[u32], text: &[u8], q: usize) -> bool
+    ensures { λ r. ⌜ r ≡ secOk kind (now (rows .entry)) (now (text .entry)) q ⌝ }
+{
+    let nr = rows.len() / 9;
+    if nr <= q {
+        return false;
+    }
+    let here = cells::cell_of(rows, q, 0);
+    if here != kind {
+        return false;
+    }
+    let from = cells::names_from(kind, rows, q);
+    let n = cells::count_of(kind, rows, q);
+    let end = from + n;
+    if nr < end {
+        return false;
+    }
+    if !fits::rows_pass(cells::FIELD, rows, text, q + 1, from - (q + 1)) {
+        return false;
+    }
+    fits::rows_pass(cells::name_kind(kind), rows, text, from, n)
+}
+
+// How many rows are of a kind.
+pub(crate) fn kinds_of(rows: &[u32], kind: usize) -> usize
+    ensures { λ r. ⌜ (r ≡ kinds (now (rows .entry)) kind) × (r ≤ rowCount (now (rows .entry))) ⌝ }
+{
+    let mut sum: usize = 0;
+    let mut p: usize = 0;
+    let mut todo = rows.len() / 9;
+    while 0 < todo {
+        sum += one_if(cells::cell_of(rows, p, 0), kind);
+        p += 1;
+        todo -= 1;
+    }
+    sum
+}
+
+fn one_if(a: usize, b: usize) -> usize
+    ensures { λ r. ⌜ (r ≡ pick (eqb a b) 1 0) × (r ≤ 1) ⌝ }
+{
+    if a == b {
+        return 1;
+    }
+    0
+}
+
+// 91: the counts of fields and labels, and those of records, structs and label defs, which are given.
+pub(crate) fn counts_fit(rows: &[u32], text: &[u8], r: usize, s: usize, l: usize) -> bool
+    requires { ⌜ (r ≡ kinds (now rows) 10) × ((s ≡ kinds (now rows) 13) × (l ≡ kinds (now rows) 14)) ⌝ }
+    ensures { λ b. ⌜ b ≡ countsFit (now (rows .entry)) (now (text .entry)) ⌝ }
+{
+    if !fits::rows_pass(91, rows, text, 0, rows.len() / 9) {
+        return false;
+    }
+    groups_fit(r, s, l)
+}
+
+fn groups_fit(r: usize, s: usize, l: usize) -> bool
+    ensures { λ b. ⌜ b ≡ groupsFit r s l ⌝ }
+{
+    if 65535 < r {
+        return false;
+    }
+    if 65535 < s {
+        return false;
+    }
+    l <= 65535
+}
+
+// 95: of two labels one after the other the second has the larger code.
+pub(crate) fn labels_rise(rows: &[u32]) -> bool
+    ensures { λ r. ⌜ r ≡ every (risesAt (now (rows .entry))) 0 (rowCount (now (rows .entry)) - 1) ⌝ }
+{
+    let mut p: usize = 0;
+    let mut todo = one_less(rows.len() / 9);
+    while 0 < todo {
+        if !rises_at(rows, p) {
+            return false;
+        }
+        p += 1;
+        todo -= 1;
+    }
+    true
+}
+
+fn rises_at(rows: &[u32], q: usize) -> bool
+    requires { ⌜ 9 * (q + 2) ≤ length (now rows) ⌝ }
+    ensures { λ r. ⌜ r ≡ risesAt (now (rows .entry)) q ⌝ }
+{
+    let a = cells::cell_of(rows, q, 0);
+    if a != cells::LABEL {
+        return true;
+    }
+    let b = cells::cell_of(rows, q + 1, 0);
+    if b != cells::LABEL {
+        return true;
+    }
+    cells::cell_of(rows, q, 3) < cells::cell_of(rows, q + 1, 3)
+}
+
+fn one_less(n: usize) -> usize
+    ensures { λ r. ⌜ r ≡ n - 1 ⌝ }
+{
+    if n == 0 {
+        return 0;
+    }
+    n - 1
+}

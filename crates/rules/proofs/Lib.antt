@@ -1,0 +1,4 @@
+pub mod Search
+pub mod Loops
+pub mod Walks
+pub mod Turns

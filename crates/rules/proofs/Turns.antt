@@ -1,0 +1,240 @@
+-- What one turn of each loop over the records or structs does, over plain lists. Assumes nothing.
+use Prim.Native.Nat.{ℕ, zero, suc, _+_, _-_, _*_, _%_, _≤_, _<_}
+use mathlib.Core.Path.{_≡_, refl, sym, ap, ap₂, _∙_, subst}
+use mathlib.Core.Bool.{Bool, true, false, not, cond}
+use mathlib.Core.List.{List, [], _∷_, _++_, map, append-assoc, append-nil}
+use native.Mathlib.Omega.{arith}
+use native.Mathlib.Nat.{add-zero, zero-add, le-trans}
+use native.Mathlib.Numerals.{add-one}
+use lib.ListN.{length, getD, set, take, drop, length-set}
+use lib.Seq.{take-suc-set, take-all}
+use lib.Dec.{eqb, ltb}
+use borrow.Author.Tests.{eq-eqb, ne-eqb, lt-ltb, le-ltb}
+use Rattle.codec.specs.Codec.{among}
+use Rattle.codec.specs.Cases.{by-bool}
+use Rattle.marks.specs.Marks.{marked, withMark, Marks}
+use Rattle.marks.specs.MarkLaws.{marks-none, marks-more}
+use Rattle.wire.specs.Wire.{le16}
+use Rattle.rules.specs.declared.Place.{Place}
+use Rattle.rules.specs.declared.Item.{Item}
+use Rattle.rules.specs.declared.Next.{Next}
+use Rattle.rules.specs.declared.Next.the-variants.{Found, End}
+use Rattle.rules.specs.Rules.{Seq, plain, first, structAlign, seqFault, structFault, recordFault, structsFault, recordsFault, alignsOf, seqsFault}
+use Rattle.rules.specs.RowRules.{column, rowsOf, rowSeq, seqsIn}
+use Rattle.rules.specs.Entries.{entriesOf, Room}
+use Rattle.rules.specs.Sequence.{Clean}
+use Rattle.rules.specs.Walk.{itemSeq, sectionSeqs, seqsBy, seqsFrom, Good, Step, Stepped, found, ended}
+use Rattle.rules.proofs.Loops.{first-none, first-some}
+use Rattle.rules.proofs.Walks.{rows-length}
+
+module _ {l t : List ℕ} {isRecord : Bool} {p : Place} {r : Next} (s : Stepped l t isRecord p r) where
+  pub step-found : {i : Item} {p′ : Place} → r ≡ Found i p′ → Step l t isRecord p i p′
+  step-found {i} {p′} e = go (rw e at s)
+    where
+      go : Stepped l t isRecord p (Found i p′) → Step l t isRecord p i p′
+      go (found x) = x
+
+  pub step-end : r ≡ End → seqsFrom l t isRecord p ≡ []
+  step-end e = go (rw e at s)
+    where
+      go : Stepped l t isRecord p End → seqsFrom l t isRecord p ≡ []
+      go (ended x) = x
+
+-- fewer are to come after each
+pub step-less : {l t : List ℕ} {isRecord : Bool} {p : Place} {i : Item} {p′ : Place} → Step l t isRecord p i p′ → length (seqsFrom l t isRecord p′) < length (seqsFrom l t isRecord p)
+step-less {l} {t} {isRecord} {p′ = p′} v = rw (v .seqs) (let q : length (seqsFrom l t isRecord p′) < suc (length (seqsFrom l t isRecord p′)) = omega arith in q)
+
+-- ---- the count
+
+seqs-few : (isRecord : Bool) (k : ℕ) (rs : List (List ℕ)) → length (seqsIn isRecord k rs) ≤ length rs
+unfolding seqsIn
+seqs-few isRecord zero [] = omega arith
+seqs-few isRecord (suc k) [] = omega arith
+seqs-few isRecord (suc k) (r ∷ rs) = let h = seqs-few isRecord k rs in omega arith
+seqs-few isRecord zero (r ∷ rs) =
+    let h = seqs-few isRecord (length (rowSeq isRecord r rs .entries) + rowSeq isRecord r rs .names) rs in
+    let g = seqs-few isRecord zero rs in
+    by-bool (eqb (getD r 0 0) (column isRecord 10 13)) (λ e. rw e (omega arith)) (λ e. rw e (omega arith))
+
+sections-few : (isRecord : Bool) (l t : List ℕ) (n at : ℕ) → length (sectionSeqs isRecord l t at n) ≡ n
+sections-few isRecord l t zero at = refl
+sections-few isRecord l t (suc n) at = ap suc (sections-few isRecord l t n (at + le16 l at))
+
+pub few : (l t : List ℕ) (isRecord : Bool) (p : Place) → length (seqsFrom l t isRecord p) ≤ p .left
+unfolding seqsFrom
+few l t isRecord p = go (p .rows)
+  where
+    go : (b : Bool) → length (seqsBy isRecord l t b (p .at) (p .left)) ≤ p .left
+    go true = let h = seqs-few isRecord 0 (rowsOf (p .left) (drop (9 * p .at) t)) in let g = rows-length (p .left) (drop (9 * p .at) t) in omega arith
+    go false = let h = sections-few isRecord l t (p .left) (p .at) in omega arith
+
+module _ (l t : List ℕ) (isRecord : Bool) where
+  pub record Counted (place p : Place) (n : ℕ) : Type 0 where
+    pub good : Good l t isRecord p
+    pub same : n + length (seqsFrom l t isRecord p) ≡ length (seqsFrom l t isRecord place)
+
+  pub count-on : {place p p′ : Place} {i : Item} {n : ℕ} → Counted place p n → Step l t isRecord p i p′ → Counted place p′ (n + 1)
+  count-on {place} {p} {p′} {i} {n} v s =
+      let h : length (seqsFrom l t isRecord p) ≡ suc (length (seqsFrom l t isRecord p′)) = ap length (s .seqs) in
+      record { good = s .good; same = omega (arith, v .same) }
+
+  pub count-room : {place p p′ : Place} {i : Item} {n : ℕ} → Counted place p n → Step l t isRecord p i p′ → n + 1 ≤ place .left
+  count-room {place} {p} {p′} {i} {n} v s =
+      let h : length (seqsFrom l t isRecord p) ≡ suc (length (seqsFrom l t isRecord p′)) = ap length (s .seqs) in
+      omega (arith, v .same, few l t isRecord place)
+
+  pub count-done : {place p : Place} {n : ℕ} → Counted place p n → seqsFrom l t isRecord p ≡ [] → n ≡ length (seqsFrom l t isRecord place)
+  count-done {place} {p} {n} v e = sym (add-zero n) ∙ (rw e at (v .same))
+
+-- ---- the alignments
+
+module _ (sheet l t : List ℕ) where
+  abbrev A : Place → List ℕ
+  A p = alignsOf sheet (seqsFrom l t false p)
+
+  map-length : (qs : List Seq) → length (alignsOf sheet qs) ≡ length qs
+  map-length [] = refl
+  map-length (q ∷ qs) = ap suc (map-length qs)
+
+  pub record Filling (place p : Place) (k : ℕ) (xs : List ℕ) : Type 0 where
+    pub good : Good l t false p
+    pub size : length xs ≡ length (seqsFrom l t false place)
+    pub left : k + length (seqsFrom l t false p) ≡ length xs
+    pub same : take k xs ++ A p ≡ A place
+
+  pub filling : (place : Place) (xs : List ℕ) → Good l t false place → length xs ≡ length (seqsFrom l t false place) → Filling place place 0 xs
+  filling place xs g e = record { good = g; size = e; left = zero-add (length (seqsFrom l t false place)) ∙ sym e; same = refl }
+
+  pub fill-on : {place p p′ : Place} {i : Item} {k : ℕ} {xs xs′ : List ℕ} {a : ℕ} → Filling place p k xs → k < length xs → Step l t false p i p′
+      → a ≡ structAlign sheet (entriesOf l t (i .entries)) → xs′ ≡ set xs k a → Filling place p′ (k + 1) xs′
+  fill-on {place} {p} {p′} {i} {k} {xs} {xs′} {a} v h s e w =
+      let n : length (seqsFrom l t false p) ≡ suc (length (seqsFrom l t false p′)) = ap length (s .seqs) in
+      let m : length xs′ ≡ length xs = ap length w ∙ simp length-set in
+      record {
+        good = s .good;
+        size = m ∙ v .size;
+        left = omega (arith, v .left);
+        same = rw (w, add-one k, take-suc-set xs k a h, append-assoc) (rw (e) (rw (s .seqs) at (v .same)));
+      }
+
+  pub fill-done : {place p : Place} {k : ℕ} {xs : List ℕ} → Filling place p k xs → length xs ≤ k → xs ≡ A place
+  fill-done {place} {p} {k} {xs} v h = go (seqsFrom l t false p) refl
+    where
+      go : (qs : List Seq) → seqsFrom l t false p ≡ qs → xs ≡ A place
+      go [] e = sym (append-nil xs) ∙ ap (λ (x : List ℕ). x ++ []) (sym (take-all k xs h)) ∙ (rw e at (v .same))
+      go (q ∷ qs) e = absurd (let n : length (seqsFrom l t false p) ≡ suc (length qs) = ap length e in let z : ⊥ = omega (arith, v .left) in z)
+
+  pub fill-end : {place p : Place} {k : ℕ} {xs : List ℕ} → Filling place p k xs → seqsFrom l t false p ≡ [] → xs ≡ A place
+  fill-end {place} {p} {k} {xs} v e = fill-done v (let n : length (seqsFrom l t false p) ≡ 0 = ap length e in omega (arith, v .left))
+
+-- ---- one struct, one record
+
+module _ (sheet : List ℕ) (width labels : ℕ) (aligns l t : List ℕ) where
+  seq-plain : (isRecord : Bool) (q : Seq) → seqFault sheet width labels aligns isRecord (plain (q .base) (q .names) (q .entries)) ≡ seqFault sheet width labels aligns isRecord q
+  unfolding seqFault
+  seq-plain isRecord q = refl
+
+  module _ (i : Item) {a : ℕ} (al : a ≡ structAlign sheet (entriesOf l t (i .entries))) where
+    pub struct-60 : (i .base % a ≡ 0 → ⊥) → 60 ≡ structFault sheet width labels aligns (itemSeq l t i)
+    unfolding structFault
+    struct-60 n = rw (← al, ne-eqb (i .base % a) 0 n)
+
+    pub struct-is : i .base % a ≡ 0 → {r : ℕ} → r ≡ seqFault sheet width labels aligns false (plain (i .base) (i .names) (entriesOf l t (i .entries))) → r ≡ structFault sheet width labels aligns (itemSeq l t i)
+    unfolding structFault
+    struct-is z e = rw (← al, eq-eqb (i .base % a) 0 z) (e ∙ seq-plain false (itemSeq l t i))
+
+  module _ (i : Item) {twice : Bool} where
+    pub record-61 : twice ≡ true → 61 ≡ recordFault sheet width labels aligns twice (itemSeq l t i)
+    unfolding recordFault
+    record-61 h = rw h
+
+    module _ (h1 : twice ≡ false) where
+      pub record-62 : i .rtype % 256 ≡ 78 → 62 ≡ recordFault sheet width labels aligns twice (itemSeq l t i)
+      unfolding recordFault
+      record-62 h = rw (h1, eq-eqb (i .rtype % 256) 78 h)
+
+      module _ (h2 : i .rtype % 256 ≡ 78 → ⊥) where
+        pub record-63 : i .base < getD sheet 518 0 → 63 ≡ recordFault sheet width labels aligns twice (itemSeq l t i)
+        unfolding recordFault
+        record-63 h = rw (h1, ne-eqb (i .rtype % 256) 78 h2, lt-ltb (i .base) (getD sheet 518 0) h)
+
+        module _ (h3 : getD sheet 518 0 ≤ i .base) where
+          pub record-64 : (i .base % 8 ≡ 0 → ⊥) → 64 ≡ recordFault sheet width labels aligns twice (itemSeq l t i)
+          unfolding recordFault
+          record-64 h = rw (h1, ne-eqb (i .rtype % 256) 78 h2, le-ltb (i .base) (getD sheet 518 0) h3, ne-eqb (i .base % 8) 0 h)
+
+          pub record-is : i .base % 8 ≡ 0 → {r : ℕ} → r ≡ seqFault sheet width labels aligns true (plain (i .base) (i .names) (entriesOf l t (i .entries))) → r ≡ recordFault sheet width labels aligns twice (itemSeq l t i)
+          unfolding recordFault
+          record-is h e = rw (h1, ne-eqb (i .rtype % 256) 78 h2, le-ltb (i .base) (getD sheet 518 0) h3, eq-eqb (i .base % 8) 0 h) (e ∙ seq-plain true (itemSeq l t i))
+
+  -- ---- all structs
+
+  abbrev S : Place → ℕ
+  S p = structsFault sheet width labels aligns (seqsFrom l t false p)
+
+  pub record Structing (place p : Place) (ws : List ℕ) : Type 0 where
+    pub good : Good l t false p
+    pub marks : Marks ws []
+    pub same : S place ≡ S p
+
+  module _ {place p : Place} {ws : List ℕ} (v : Structing place p ws) where
+    module _ {i : Item} {p′ : Place} (s : Step l t false p i p′) {r : ℕ} (e : r ≡ structFault sheet width labels aligns (itemSeq l t i)) where
+      struct-here : S place ≡ first r (S p′)
+      unfolding structsFault
+      struct-here = v .same ∙ rw (s .seqs, ← e)
+
+      pub structs-stop : (r ≡ 0 → ⊥) → r ≡ S place
+      structs-stop n = sym (struct-here ∙ first-some r _ n)
+
+      pub structs-on : r ≡ 0 → {ws′ : List ℕ} → Clean r ws′ → Structing place p′ ws′
+      structs-on z c = record { good = s .good; marks = c z; same = struct-here ∙ first-none r _ z }
+
+    pub structs-end : seqsFrom l t false p ≡ [] → 0 ≡ S place
+    unfolding structsFault
+    structs-end e = sym (v .same ∙ rw e)
+
+  -- ---- all records
+
+  abbrev C : List ℕ → Place → ℕ
+  C seen p = recordsFault sheet width labels aligns seen (seqsFrom l t true p)
+
+  pub record Recording (place p : Place) (ws rs : List ℕ) : Type 0 where
+    pub good : Good l t true p
+    pub marks : Marks ws []
+    pub seen : List ℕ
+    pub rtypes : Marks rs seen
+    pub same : C [] place ≡ C seen p
+
+  module _ {place p : Place} {ws rs : List ℕ} (v : Recording place p ws rs) where
+    module _ {i : Item} {p′ : Place} (s : Step l t true p i p′) (small : i .rtype < 65536) {twice : Bool} (told : twice ≡ marked rs (i .rtype))
+        {r : ℕ} (e : r ≡ recordFault sheet width labels aligns twice (itemSeq l t i)) where
+      record-here : C [] place ≡ first r (C (i .rtype ∷ v .seen) p′)
+      unfolding recordsFault
+      record-here = let q : twice ≡ among (i .rtype) (v .seen) = told ∙ v .rtypes .right (i .rtype) small in v .same ∙ rw (s .seqs, ← q, ← e)
+
+      pub records-stop : (r ≡ 0 → ⊥) → r ≡ C [] place
+      records-stop n = sym (record-here ∙ first-some r _ n)
+
+      pub records-on : r ≡ 0 → {ws′ : List ℕ} → Clean r ws′ → {rs′ : List ℕ} → rs′ ≡ withMark rs (i .rtype) → Recording place p′ ws′ rs′
+      records-on z c q = record {
+        good = s .good;
+        marks = c z;
+        seen = i .rtype ∷ v .seen;
+        rtypes = rw q (marks-more rs (v .seen) (i .rtype) small (v .rtypes));
+        same = record-here ∙ first-none r _ z;
+      }
+
+    pub records-end : seqsFrom l t true p ≡ [] → 0 ≡ C [] place
+    unfolding recordsFault
+    records-end e = sym (v .same ∙ rw e)
+
+-- ---- structs first, then records
+
+module _ (sheet : List ℕ) (width labels : ℕ) (structs records : List Seq) {aligns : List ℕ} (al : aligns ≡ alignsOf sheet structs) {a : ℕ} (e : a ≡ structsFault sheet width labels aligns structs) where
+  pub all-structs : (a ≡ 0 → ⊥) → a ≡ seqsFault sheet width structs records labels
+  unfolding seqsFault
+  all-structs n = sym (rw (← al, ← e) (first-some a _ n))
+
+  pub all-records : a ≡ 0 → {b : ℕ} → b ≡ recordsFault sheet width labels aligns [] records → b ≡ seqsFault sheet width structs records labels
+  unfolding seqsFault
+  all-records z {b} q = sym (rw (← al, ← e, ← q) (first-none a b z))

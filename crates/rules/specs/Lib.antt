@@ -1,0 +1,11 @@
+pub mod Tile
+pub mod Rules
+pub mod RowRules
+pub mod Entries
+pub mod Chase
+pub mod Sequence
+pub mod Standing
+pub mod Walk
+pub mod Whole
+pub mod RowLaws
+pub mod Single

@@ -1,0 +1,168 @@
+-- The rules of a layout, numbers 60 to 83 of document 01: 0 where all hold, else the number of the first that does not.
+-- They hold for any type sheet and any symbol width.
+-- Assumes nothing.
+use Prim.Native.Nat.{ℕ, zero, suc, _+_, _%_, max}
+use mathlib.Core.Path.{_≡_, refl, ap, ap₂}
+use mathlib.Core.Bool.{Bool, true, false, not, cond}
+use mathlib.Core.List.{List, [], _∷_, map}
+use lib.ListN.{length, getD}
+use lib.Dec.{ltb, eqb}
+use Rattle.codec.specs.Codec.{Res, ok, _>>=_, need, Codec, among, timesBare, named, padded, _then_, sized, times, boxed, counted, num}
+use Rattle.codec.specs.Laws.{length-bare}
+use Rattle.text.specs.Utf8.{utf8}
+use Rattle.wire.specs.Formats.{section}
+use Rattle.wire.specs.FormatLaws.{law-name}
+use Rattle.layout.specs.Layout.{Entry, Fields, RecordL, StructL, LabelDef, Layout, Parts, fromLayout, entry, fields, recordL, structL, labelDef, groups, parts}
+use Rattle.layout.specs.LayoutLaws.{law-entry, law-labelDef}
+use Rattle.layout.specs.Given.{D, layoutOf}
+use Rattle.fields.specs.Sheet.{idOf, offOf, endOf, isPadding, pastBase, memberAlign}
+use Rattle.fields.specs.Field.{refuse, differs, fieldFault}
+use Rattle.rules.specs.Tile.{Span, sorted, walk}
+
+-- the first of two verdicts that is a refusal
+abbrev pub first : ℕ → ℕ → ℕ
+first a b = cond (eqb a 0) b a
+
+-- ---- one sequence of fields
+
+-- what the rules see of a record or a struct: the rtype (0 in a struct), the base size or the size, how many names it has, and
+-- its entries' first eleven bytes
+pub record Seq : Type 0 where
+  pub rtype : ℕ
+  pub base : ℕ
+  pub names : ℕ
+  pub entries : List (List ℕ)
+
+-- a struct, or a record whose rtype is judged
+abbrev pub plain : ℕ → ℕ → List (List ℕ) → Seq
+plain base names es = record { rtype = 0; base = base; names = names; entries = es }
+
+-- the ids seen so far, with this entry's unless it is padding
+abbrev pub noted : List ℕ → List ℕ → List ℕ → List ℕ
+noted sheet e ids = cond (isPadding sheet e) ids (idOf e ∷ ids)
+
+-- the spans of the entries on one side of the base
+unfoldable pub spans : Bool → ℕ → Bool → List (List ℕ) → List Span
+spans isRecord base ext [] = []
+spans isRecord base ext (e ∷ es) =
+    cond (differs ext (pastBase isRecord base e)) (spans isRecord base ext es) ((offOf e, endOf e) ∷ spans isRecord base ext es)
+
+-- 81 and 82: the base entries tile 0 to base
+unfoldable pub baseFault : Bool → ℕ → List (List ℕ) → ℕ
+baseFault isRecord base es = walk 81 (λ c. cond (eqb c base) 0 82) 0 (sorted (spans isRecord base false es))
+
+-- 83: the extensions go on from the base
+unfoldable pub extFault : Bool → ℕ → List (List ℕ) → ℕ
+extFault isRecord base es = walk 83 (λ c. 0) base (sorted (spans isRecord base true es))
+
+-- the largest alignment in a struct, at least 1
+unfoldable pub largest : List ℕ → ℕ → List (List ℕ) → ℕ
+largest sheet a [] = a
+largest sheet a (e ∷ es) = largest sheet (max a (memberAlign sheet e)) es
+
+unfoldable pub structAlign : List ℕ → List (List ℕ) → ℕ
+structAlign sheet es = largest sheet 1 es
+
+-- `labels` is the number of label defs, `aligns` has the alignment of each struct
+module _ (sheet : List ℕ) (width labels : ℕ) (aligns : List ℕ) where
+  -- 71 to 80, field by field
+  unfoldable pub fieldsFault : Bool → ℕ → List ℕ → List (List ℕ) → ℕ
+  fieldsFault isRecord base ids [] = 0
+  fieldsFault isRecord base ids (e ∷ es) =
+      first (fieldFault sheet width labels aligns isRecord base (among (idOf e) ids) e) (fieldsFault isRecord base (noted sheet e ids) es)
+
+  -- 70, then the fields one by one, then 81, 82, 83
+  unfoldable pub seqFault : Bool → Seq → ℕ
+  seqFault isRecord q =
+      refuse (not (eqb (q .names) (length (q .entries)))) 70
+      (first (fieldsFault isRecord (q .base) [] (q .entries))
+      (first (baseFault isRecord (q .base) (q .entries)) (extFault isRecord (q .base) (q .entries))))
+
+  -- 60: the size is no multiple of the alignment
+  unfoldable pub structFault : Seq → ℕ
+  structFault q = refuse (not (eqb (q .base % structAlign sheet (q .entries)) 0)) 60 (seqFault false q)
+
+  -- 61: rtype twice; 62: its low byte is 4E; 63: base below header; 64: base not of 8
+  unfoldable pub recordFault : Bool → Seq → ℕ
+  recordFault twice q =
+      refuse twice 61
+      (refuse (eqb (q .rtype % 256) 78) 62
+      (refuse (ltb (q .base) (getD sheet 518 0)) 63
+      (refuse (not (eqb (q .base % 8) 0)) 64 (seqFault true q))))
+
+  -- in table order
+  unfoldable pub structsFault : List Seq → ℕ
+  structsFault [] = 0
+  structsFault (q ∷ qs) = first (structFault q) (structsFault qs)
+
+  -- the same, after records of the rtypes `seen`
+  unfoldable pub recordsFault : List ℕ → List Seq → ℕ
+  recordsFault seen [] = 0
+  recordsFault seen (q ∷ qs) = first (recordFault (among (q .rtype) seen) q) (recordsFault (q .rtype ∷ seen) qs)
+
+-- the alignment of each struct
+abbrev pub alignsOf : List ℕ → List Seq → List ℕ
+alignsOf sheet structs = map (λ q. structAlign sheet (q .entries)) structs
+
+-- structs first, then records
+unfoldable pub seqsFault : List ℕ → ℕ → List Seq → List Seq → ℕ → ℕ
+seqsFault sheet width structs records labels =
+    first (structsFault sheet width labels (alignsOf sheet structs) structs) (recordsFault sheet width labels (alignsOf sheet structs) [] records)
+
+-- ---- a layout
+
+abbrev pub seqOf : ℕ → ℕ → Fields → Seq
+seqOf rtype base f = record { rtype = rtype; base = base; names = length (f .names); entries = map (λ e. e .head) (f .entries) }
+
+abbrev pub structSeq : StructL → Seq
+structSeq s = seqOf 0 (s .size) (s .fields)
+
+abbrev pub recordSeq : RecordL → Seq
+recordSeq r = seqOf (r .rtype) (r .base) (r .fields)
+
+-- the rules of a layout without its rest
+unfoldable pub rulesOf : List ℕ → ℕ → Parts → ℕ
+rulesOf sheet width t = seqsFault sheet width (map structSeq (t .1 .1 .0)) (map recordSeq (t .1 .0)) (length (t .1 .1 .1))
+
+-- the layout in s, then its rules
+unfoldable pub ruledOf : List ℕ → ℕ → List ℕ → Res Layout
+ruledOf sheet width s =
+    layoutOf s >>= λ t j.
+    need (eqb 0 (rulesOf sheet width (fromLayout t .0))) (rulesOf sheet width (fromLayout t .0)) j >>= λ _ j.
+    ok t j
+
+-- ---- the rules see no start and no skipped byte
+
+map-bare : {A B : Type 0} (c : Codec A) (f : A → B) → ((x : A) → f (c .bare x) ≡ f x) → (xs : List A) → map f (timesBare c xs) ≡ map f xs
+map-bare c f h [] = refl
+map-bare c f h (x ∷ xs) = ap₂ _∷_ (h x) (map-bare c f h xs)
+
+fields-blind : (rtype base : ℕ) (f : Fields) → seqOf rtype base (fields utf8 D .bare f) ≡ seqOf rtype base f
+unfolding fields named sized _then_ times entry padded
+fields-blind rtype base f =
+    ap₂ (λ n es. record { rtype = rtype; base = base; names = n; entries = es })
+    (length-bare _ (law-name utf8) (f .names))
+    (map-bare (entry utf8 D) (λ e. e .head) (λ e. refl) (f .entries))
+
+struct-blind : (s : StructL) → structSeq (structL utf8 D .bare s) ≡ structSeq s
+unfolding structL named section boxed _then_ num
+struct-blind s = fields-blind 0 (s .size) (s .fields)
+
+record-blind : (r : RecordL) → recordSeq (recordL utf8 D .bare r) ≡ recordSeq r
+unfolding recordL named section boxed _then_ num
+record-blind r = fields-blind (r .rtype) (r .base) (r .fields)
+
+pub rules-blind : (sheet : List ℕ) (w : ℕ) (x : Parts) → rulesOf sheet w (parts utf8 D .bare x) ≡ rulesOf sheet w x
+unfolding rulesOf parts groups counted sized times _then_ num
+rules-blind sheet w x =
+    rw (
+      map-bare (structL utf8 D) structSeq struct-blind (x .1 .1 .0),
+      map-bare (recordL utf8 D) recordSeq record-blind (x .1 .0),
+      length-bare _ (law-labelDef utf8) (x .1 .1 .1),
+    )
+
+-- what `ruledOf` is made of
+pub ruled-is : (sheet : List ℕ) (width : ℕ) (s : List ℕ)
+    → ruledOf sheet width s ≡ (layoutOf s >>= λ t j. need (eqb 0 (rulesOf sheet width (fromLayout t .0))) (rulesOf sheet width (fromLayout t .0)) j >>= λ _ j. ok t j)
+unfolding ruledOf
+ruled-is sheet width s = refl

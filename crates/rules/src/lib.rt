@@ -1,0 +1,156 @@
+// The rules of a layout, numbers 60 to 83, over a layout's bytes or over rows.
+use layout::Verdict;
+ghost use mathlib.Core.Path.{_≡_};
+ghost use Prim.Native.Nat.{_<_, _≤_, _/_};
+ghost use lib.ListN.{length};
+ghost use Rattle.layout.specs.Answers.{verdict};
+ghost use Rattle.layout.specs.Given.{layoutOf};
+ghost use Rattle.rules.specs.Rules.{ruledOf};
+ghost use Rattle.rules.specs.RowRules.{rowsOf, kindRows, rowsRules};
+ghost use Rattle.rules.specs.Standing.{skipTo};
+ghost use Rattle.rules.specs.Whole.{Accepted, Skips, rulesIn, isKind};
+
+mod entries;
+mod items;
+mod sequence;
+mod tile;
+mod walk;
+
+// The entries of one record or struct: whether they lie in the rows or in the layout's bytes, how far apart, where the
+// first is and how many there are.
+pub struct Source {
+    pub rows: bool,
+    pub step: usize,
+    pub at: usize,
+    pub count: usize,
+}
+
+// What a search finds: the end of an entry, or 0, and the entries after it.
+pub struct Hit {
+    pub end: usize,
+    pub rest: Source,
+}
+
+// How far a chase went: the entries used, and where the last ends.
+pub struct Chased {
+    pub used: usize,
+    pub cursor: usize,
+}
+
+// Records or structs yet to come: in the rows, from row `at` on, as many rows as are left; or in the layout's bytes, as
+// many sections as are left from place `at` on.
+pub struct Place {
+    pub rows: bool,
+    pub at: usize,
+    pub left: usize,
+}
+
+// A record, or a struct of rtype 0: its base size or its size, how many names it has and its entries.
+pub struct Item {
+    pub rtype: u16,
+    pub base: usize,
+    pub names: usize,
+    pub entries: Source,
+}
+
+// The next record or struct, and what comes after it.
+pub enum Next {
+    Found(Item, Place),
+    End,
+}
+
+// The place after n sections from `at` on.
+fn skip(layout: &[u8], at: usize, n: usize) -> usize
+    requires { ⌜ Skips (now layout) at n ⌝ }
+    ensures { λ r. ⌜ r ≡ skipTo (now (layout .entry)) at n ⌝ }
+{
+    let mut p = at;
+    let mut left = n;
+    while 0 < left {
+        p += walk::half(layout, p);
+        left -= 1;
+    }
+    p
+}
+
+// The rules of an accepted layout: the first number that they give, or 0.
+fn layout_rules(layout: &[u8], sheet: &[u16; 520], width: usize) -> u32
+    requires { ⌜ Accepted (now layout) ⌝ }
+    ensures { λ r. ⌜ r ≡ rulesIn (now (sheet .entry)) width (layoutOf (now (layout .entry))) ⌝ }
+{
+    let none = [0u32; 1];
+    let m = walk::half(layout, 2);
+    let p = skip(layout, 4, m);
+    let n = walk::half(layout, p);
+    let q = skip(layout, p + 2, n);
+    let labels = walk::half(layout, q);
+    let structs = Place {
+        rows: false,
+        at: p + 2,
+        left: n,
+    };
+    let records = Place {
+        rows: false,
+        at: 4,
+        left: m,
+    };
+    items::rules(sheet, layout, &none, structs, n, records, width, labels)
+}
+
+// The verdict on a layout given with a symbol width: 13, then the layout, then its rules. Its version and how many rows
+// it has, or the refusal.
+pub fn check_layout(layout: &[u8], width: u16, sheet: &[u16; 520]) -> Verdict
+    ensures { λ r. ⌜ r ≡ verdict (ruledOf (now (sheet .entry)) width (now (layout .entry))) ⌝ }
+{
+    match layout::layout_verdict(layout) {
+        Verdict::Accepted { version, rows } => {
+            let why = layout_rules(layout, sheet, width as usize);
+            if why == 0 {
+                return Verdict::Accepted { version, rows };
+            }
+            Verdict::Refused(why)
+        }
+        Verdict::Refused(why) => Verdict::Refused(why),
+    }
+}
+
+// 1 where a row is of the kind, else 0.
+fn is_kind(x: u32, kind: u32) -> usize
+    ensures { λ r. ⌜ (r ≡ isKind x kind) × (r ≤ 1) ⌝ }
+{
+    if x == kind { 1 } else { 0 }
+}
+
+// How many rows are label defs.
+fn label_rows(rows: &[u32]) -> usize
+    ensures { λ r. ⌜ r ≡ kindRows 14 (rowsOf (length (now (rows .entry)) / 9) (now (rows .entry))) ⌝ }
+{
+    let n = rows.len() / 9;
+    let mut q = 0;
+    let mut k: usize = 0;
+    while q < n {
+        let a = 9 * q;
+        k += is_kind(rows[a], 14);
+        q += 1;
+    }
+    k
+}
+
+// The rules of the records and structs in a table of rows: the first number that they give, or 0; 91 where there are more
+// than 65,535 structs.
+pub fn check_rows(rows: &[u32], width: u16, sheet: &[u16; 520]) -> u32
+    ensures { λ r. ⌜ r ≡ rowsRules (now (sheet .entry)) width (now (rows .entry)) ⌝ }
+{
+    let none = [0u8; 1];
+    let all = Place {
+        rows: true,
+        at: 0,
+        left: rows.len() / 9,
+    };
+    let n = items::count(&none, rows, false, all);
+    if 65535 < n {
+        return refusal::COUNT_LARGE;
+    }
+    let labels = label_rows(rows);
+    items::rules(sheet, &none, rows, all, n, all, width as usize, labels)
+}

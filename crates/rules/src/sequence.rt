@@ -1,0 +1,119 @@
+// One record or struct: its alignment, and numbers 70 to 83.
+use crate::Source;
+use crate::entries;
+use crate::tile;
+use fields::Frame;
+ghost use mathlib.Core.Path.{_≡_};
+ghost use mathlib.Core.Bool.{true, false};
+ghost use mathlib.Core.List.{[]};
+ghost use Prim.Native.Nat.{_<_, _≤_, max};
+ghost use Rattle.marks.specs.Marks.{Marks, Only};
+ghost use Rattle.rules.specs.Rules.{structAlign, fieldsFault, seqFault, plain};
+ghost use Rattle.rules.specs.Entries.{entriesOf, Room};
+ghost use Rattle.rules.specs.Sequence.{idsOf, notedMarks, Marking, Clean};
+
+fn larger(a: u16, b: u16) -> u16
+    ensures { λ r. ⌜ r ≡ max a b ⌝ }
+{
+    if a < b { b } else { a }
+}
+
+// The largest alignment in a struct, at least 1.
+pub(crate) fn struct_align(sheet: &[u16; 520], layout: &[u8], rows: &[u32], src: Source) -> u16
+    requires { ⌜ Room (now layout) (now rows) src ⌝ }
+    ensures { λ r. ⌜ (r ≡ structAlign (now (sheet .entry)) (entriesOf (now (layout .entry)) (now (rows .entry)) src)) × (1 ≤ r) ⌝ }
+{
+    let mut left = src;
+    let mut a: u16 = 1;
+    while 0 < left.count {
+        let e = entries::entry_at(layout, rows, left);
+        a = larger(a, fields::member_align(sheet, e));
+        left = entries::rest(left);
+    }
+    a
+}
+
+// Marks the entry's id, unless it is padding.
+fn note(sheet: &[u16; 520], marks: &mut [u64; 1024], e: [u8; 11])
+    ensures { λ _. ⌜ now (marks .exit) ≡ notedMarks (now (sheet .entry)) (now (marks .entry)) e ⌝ }
+{
+    if fields::is_padding(sheet, e) {
+        return;
+    }
+    marks::mark(marks, fields::id_of(e));
+}
+
+// The first of rules 71 to 80 that an entry breaks, in order, or 0. The ids are marked, and no others.
+fn fields_fault(
+    sheet: &[u16; 520],
+    aligns: &[u16],
+    layout: &[u8],
+    rows: &[u32],
+    src: Source,
+    frame: Frame,
+    marks: &mut [u64; 1024],
+) -> u32
+    requires { ⌜ Room (now layout) (now rows) src ⌝ }
+    requires { ⌜ Marks (now marks) [] ⌝ }
+    ensures { λ r. ⌜ r ≡ fieldsFault (now (sheet .entry)) (frame .width) (frame .labels) (now (aligns .entry)) (frame .open) (frame .base) [] (entriesOf (now (layout .entry)) (now (rows .entry)) src) ⌝ }
+    ensures { λ r. ⌜ Marking r (entriesOf (now (layout .entry)) (now (rows .entry)) src) (now (marks .exit)) ⌝ }
+{
+    let mut left = src;
+    while 0 < left.count {
+        let e = entries::entry_at(layout, rows, left);
+        let seen = marks::is_marked(marks, fields::id_of(e));
+        let v = fields::check_field(sheet, aligns, frame, seen, e);
+        if v != 0 {
+            return v;
+        }
+        note(sheet, marks, e);
+        left = entries::rest(left);
+    }
+    0
+}
+
+// Clears the marks of the entries' ids.
+fn wipe_ids(layout: &[u8], rows: &[u32], src: Source, marks: &mut [u64; 1024])
+    requires { ⌜ Room (now layout) (now rows) src ⌝ }
+    requires { ⌜ Only (now marks) (idsOf (entriesOf (now layout) (now rows) src)) ⌝ }
+    ensures { λ _. ⌜ Marks (now (marks .exit)) [] ⌝ }
+{
+    let mut left = src;
+    while 0 < left.count {
+        let e = entries::entry_at(layout, rows, left);
+        marks::wipe(marks, fields::id_of(e));
+        left = entries::rest(left);
+    }
+}
+
+// The first of numbers 70 to 83 that a record or a struct gives, or 0. The marks are clear before, and after 0.
+pub(crate) fn seq_fault(
+    sheet: &[u16; 520],
+    aligns: &[u16],
+    layout: &[u8],
+    rows: &[u32],
+    src: Source,
+    names: usize,
+    frame: Frame,
+    marks: &mut [u64; 1024],
+) -> u32
+    requires { ⌜ Room (now layout) (now rows) src ⌝ }
+    requires { ⌜ Marks (now marks) [] ⌝ }
+    requires { ⌜ frame .base < 65536 ⌝ }
+    ensures { λ r. ⌜ r ≡ seqFault (now (sheet .entry)) (frame .width) (frame .labels) (now (aligns .entry)) (frame .open) (plain (frame .base) names (entriesOf (now (layout .entry)) (now (rows .entry)) src)) ⌝ }
+    ensures { λ r. ⌜ Clean r (now (marks .exit)) ⌝ }
+{
+    if names != src.count {
+        return refusal::NAMES_AND_FIELDS;
+    }
+    let a = fields_fault(sheet, aligns, layout, rows, src, frame, marks);
+    if a != 0 {
+        return a;
+    }
+    wipe_ids(layout, rows, src, marks);
+    let b = tile::base_fault(layout, rows, src, frame);
+    if b != 0 {
+        return b;
+    }
+    tile::ext_fault(layout, rows, src, frame)
+}

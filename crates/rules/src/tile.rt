@@ -1,0 +1,142 @@
+// Numbers 81 to 83: base entries tile 0 to base, extensions go on from it. Each time the entry at the cursor is searched for.
+use crate::Chased;
+use crate::Hit;
+use crate::Source;
+use crate::entries;
+use fields::Frame;
+ghost use mathlib.Core.Path.{_≡_};
+ghost use mathlib.Core.Bool.{true, false};
+ghost use Prim.Native.Nat.{_<_, _≤_};
+ghost use lib.ListN.{length};
+ghost use Rattle.rules.specs.Rules.{spans, baseFault, extFault};
+ghost use Rattle.rules.specs.Entries.{entriesOf, Room};
+ghost use Rattle.rules.specs.Chase.{startsHere, onSide, Proper, Chase, Within, Sought, Hits};
+
+// Whether the entry is of the side and starts at the cursor. The sides are base, and extension where `ext` holds.
+fn starts_here(frame: Frame, ext: bool, cursor: usize, e: [u8; 11]) -> bool
+    ensures { λ r. ⌜ r ≡ startsHere (frame .open) (frame .base) ext cursor e ⌝ }
+{
+    if fields::differ(ext, fields::past_base(frame, e)) {
+        return false;
+    }
+    fields::off_of(e) == cursor
+}
+
+// 1 for an entry of the side, else 0.
+fn on_side(frame: Frame, ext: bool, e: [u8; 11]) -> usize
+    ensures { λ r. ⌜ (r ≡ onSide (frame .open) (frame .base) ext e) × (r ≤ 1) ⌝ }
+{
+    if fields::differ(ext, fields::past_base(frame, e)) {
+        return 0;
+    }
+    1
+}
+
+// The end of the first entry of the side that starts at the cursor, or 0, and the entries after it.
+fn seek(layout: &[u8], rows: &[u32], src: Source, frame: Frame, ext: bool, cursor: usize) -> Hit
+    requires { ⌜ Room (now layout) (now rows) src ⌝ }
+    ensures { λ r. ⌜ Sought (now (layout .entry)) (now (rows .entry)) (frame .open) (frame .base) ext src cursor r ⌝ }
+{
+    let mut left = src;
+    while 0 < left.count {
+        let e = entries::entry_at(layout, rows, left);
+        if starts_here(frame, ext, cursor, e) {
+            return Hit {
+                end: fields::end_of(e),
+                rest: entries::rest(left),
+            };
+        }
+        left = entries::rest(left);
+    }
+    Hit { end: 0, rest: left }
+}
+
+// The same with the search begun at `from`, and then from the front.
+fn seek_on(
+    layout: &[u8],
+    rows: &[u32],
+    src: Source,
+    from: Source,
+    frame: Frame,
+    ext: bool,
+    cursor: usize,
+) -> Hit
+    requires { ⌜ Room (now layout) (now rows) src ⌝ }
+    requires { ⌜ Within (now layout) (now rows) (frame .open) (frame .base) ext src from ⌝ }
+    requires { ⌜ Proper (spans (frame .open) (frame .base) ext (entriesOf (now layout) (now rows) src)) ⌝ }
+    ensures { λ r. ⌜ Hits (now (layout .entry)) (now (rows .entry)) (frame .open) (frame .base) ext src cursor r ⌝ }
+{
+    let near = seek(layout, rows, from, frame, ext, cursor);
+    if near.end != 0 {
+        return near;
+    }
+    seek(layout, rows, src, frame, ext, cursor)
+}
+
+// How many entries the side has.
+fn count(layout: &[u8], rows: &[u32], src: Source, frame: Frame, ext: bool) -> usize
+    requires { ⌜ Room (now layout) (now rows) src ⌝ }
+    ensures { λ r. ⌜ r ≡ length (spans (frame .open) (frame .base) ext (entriesOf (now (layout .entry)) (now (rows .entry)) src)) ⌝ }
+{
+    let mut left = src;
+    let mut k = 0;
+    while 0 < left.count {
+        let e = entries::entry_at(layout, rows, left);
+        k += on_side(frame, ext, e);
+        left = entries::rest(left);
+    }
+    k
+}
+
+// From end to end, until no entry of the side starts at the cursor.
+fn chase(layout: &[u8], rows: &[u32], src: Source, frame: Frame, ext: bool, start: usize) -> Chased
+    requires { ⌜ Room (now layout) (now rows) src ⌝ }
+    requires { ⌜ Proper (spans (frame .open) (frame .base) ext (entriesOf (now layout) (now rows) src)) ⌝ }
+    requires { ⌜ start < 65536 ⌝ }
+    ensures { λ r. ⌜ Chase (spans (frame .open) (frame .base) ext (entriesOf (now (layout .entry)) (now (rows .entry)) src)) start (r .used) (r .cursor) ⌝ }
+{
+    let mut used: usize = 0;
+    let mut cursor = start;
+    let mut from = src;
+    loop {
+        let hit = seek_on(layout, rows, src, from, frame, ext, cursor);
+        if hit.end == 0 {
+            return Chased { used, cursor };
+        }
+        used += 1;
+        cursor = hit.end;
+        from = hit.rest;
+    }
+}
+
+// 81 and 82 of entries that passed 71 to 80, or 0.
+pub(crate) fn base_fault(layout: &[u8], rows: &[u32], src: Source, frame: Frame) -> u32
+    requires { ⌜ Room (now layout) (now rows) src ⌝ }
+    requires { ⌜ Proper (spans (frame .open) (frame .base) false (entriesOf (now layout) (now rows) src)) ⌝ }
+    ensures { λ r. ⌜ r ≡ baseFault (frame .open) (frame .base) (entriesOf (now (layout .entry)) (now (rows .entry)) src) ⌝ }
+{
+    let c = chase(layout, rows, src, frame, false, 0);
+    let k = count(layout, rows, src, frame, false);
+    if c.used != k {
+        return refusal::BASE_GAP;
+    }
+    if c.cursor != frame.base {
+        return refusal::BASE_UNFILLED;
+    }
+    0
+}
+
+// 83 of the same, or 0.
+pub(crate) fn ext_fault(layout: &[u8], rows: &[u32], src: Source, frame: Frame) -> u32
+    requires { ⌜ Room (now layout) (now rows) src ⌝ }
+    requires { ⌜ Proper (spans (frame .open) (frame .base) true (entriesOf (now layout) (now rows) src)) ⌝ }
+    requires { ⌜ frame .base < 65536 ⌝ }
+    ensures { λ r. ⌜ r ≡ extFault (frame .open) (frame .base) (entriesOf (now (layout .entry)) (now (rows .entry)) src) ⌝ }
+{
+    let c = chase(layout, rows, src, frame, true, frame.base);
+    let k = count(layout, rows, src, frame, true);
+    if c.used != k {
+        return refusal::EXTENSION_GAP;
+    }
+    0
+}

@@ -1,0 +1,4 @@
+pub mod Put
+pub mod Write
+pub mod RoundTrip
+pub mod Single

@@ -1,0 +1,46 @@
+-- What the writer answers and what it leaves of the output: 90 to 95, then the rules, then 96.
+-- Assumes nothing.
+use Prim.Native.Nat.{ℕ}
+use mathlib.Core.Path.{_≡_}
+use mathlib.Core.List.{List, _++_}
+use lib.ListN.{length, drop}
+use lib.Dec.{leb, eqb}
+use Rattle.wire.specs.Pick.{pick}
+use Rattle.rules.specs.RowRules.{rowsRules}
+use Rattle.rows_check.specs.Check.{fault, printed}
+use Rattle.rows_check.specs.Tree.{skip}
+use Rattle.writer.specs.Put.{Wrote}
+use Rattle.writer.specs.declared.Written.{Written}
+use Rattle.writer.specs.declared.Written.the-variants.{Length, Refused}
+
+-- 90 to 95, or x
+abbrev pub whole : List ℕ → List ℕ → Written → Written
+whole rows text x = pick (eqb 0 (fault rows text)) x (Refused (fault rows text))
+
+-- 60 to 83, or x
+abbrev pub ruled : List ℕ → ℕ → List ℕ → Written → Written
+ruled sheet width rows x = pick (eqb 0 (rowsRules sheet width rows)) x (Refused (rowsRules sheet width rows))
+
+-- 96, or x
+abbrev pub roomy : List ℕ → ℕ → Written → Written
+roomy bytes room x = pick (leb (length bytes) room) x (Refused 96)
+
+-- by the sheet, the symbol width, the layout version, the rows with their text, and how long the output is
+unfoldable pub writeLayout : List ℕ → ℕ → ℕ → List ℕ → List ℕ → ℕ → Written
+writeLayout sheet width version rows text room =
+    whole rows text (ruled sheet width rows (roomy (printed version rows text) room (Length (length (printed version rows text)))))
+
+-- the bytes stand at the front of the output, and the rest of it is as it was; a refusal leaves it as it was
+abbrev pub outAfter : Written → List ℕ → List ℕ → List ℕ
+outAfter (Length n) bytes out = bytes ++ drop (length bytes) out
+outAfter (Refused k) bytes out = out
+
+-- what writing answers and leaves
+pub record Writes (sheet : List ℕ) (width version : ℕ) (rows text out out′ : List ℕ) (r : Written) : Type 0 where
+  pub is : r ≡ writeLayout sheet width version rows text (length out)
+  pub leaves : out′ ≡ outAfter (writeLayout sheet width version rows text (length out)) (printed version rows text) out
+
+-- what writing some sections answers: the place after them, and the row after them
+pub record Went (kind : ℕ) (rows : List ℕ) (at : ℕ) (bs o o′ : List ℕ) (q k : ℕ) (a p : ℕ) : Type 0 where
+  pub wrote : Wrote at bs o o′ a
+  pub row : p ≡ skip kind rows q k

@@ -1,0 +1,54 @@
+// The layout writer: rows of nine, with their text, to the bytes of a layout.
+mod cells;
+mod parts;
+mod put;
+mod sections;
+
+use rows_check::Sized;
+ghost use mathlib.Core.Path.{_≡_};
+ghost use Rattle.writer.specs.Write.{Writes};
+
+// How many bytes were written, or the number that refuses the rows or the output.
+pub enum Written {
+    Length(usize),
+    Refused(u32),
+}
+
+// Writes the layout of the rows at the front of the output. Tries 90 to 95, then the rules with the symbol width and
+// the sheet, then 96. A refusal leaves the output as it was, and so are the bytes past the length.
+pub fn write_layout(
+    rows: &[u32],
+    text: &[u8],
+    version: u16,
+    width: u16,
+    sheet: &[u16; 520],
+    out: &mut [u8],
+) -> Written
+    ensures { λ r. ⌜ Writes (now (sheet .entry)) width version (now (rows .entry)) (now (text .entry)) (now (out .entry)) (now (out .exit)) r ⌝ }
+{
+    match rows_check::layout_size(rows, text) {
+        Sized::Length {
+            bytes,
+            records,
+            structs,
+            labels,
+        } => {
+            let why = rules::check_rows(rows, width, sheet);
+            if why != 0 {
+                return Written::Refused(why);
+            }
+            if out.len() < bytes {
+                return Written::Refused(refusal::OUTPUT_SHORT);
+            }
+            let n = sections::put_layout(out, wide(version), rows, text, records, structs, labels);
+            Written::Length(n)
+        }
+        Sized::Refused(why) => Written::Refused(why),
+    }
+}
+
+fn wide(x: u16) -> usize
+    ensures { λ r. ⌜ r ≡ x ⌝ }
+{
+    x as usize
+}
