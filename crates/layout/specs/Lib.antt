@@ -11,3 +11,6 @@ pub mod Examples
 pub mod Prints
 pub mod Single
 pub mod ReadLaws
+pub mod Moves
+pub mod MoveLaws
+pub mod Standing

@@ -163,6 +163,28 @@ module _ (utf8 : List ℕ → Bool) where
     unfolding EachName parts groups _then_ counted sized times num
     layout-each P t r s l = (tt, (r, (s, l)))
 
+    -- ---- what a part that has bytes tells
+
+    pub entry-told : (e : Entry) → entry utf8 D .legal e → (length (e .head) ≡ 11) × Bytes (e .head)
+    unfolding entry named padded
+    entry-told e lg = (lg .0, lg .1)
+
+    pub fields-told : (f : Fields) → fields utf8 D .legal f → (length (f .entries) < 65536) × (length (f .names) ≡ length (f .entries)) × timesLegal (entry utf8 D) (f .entries)
+    unfolding fields named sized _then_ times
+    fields-told f lg = (lg .0, lg .1 .1 .0, lg .1 .0 .1)
+
+    pub struct-told : (s : StructL) → structL utf8 D .legal s → (s .size < 65536) × fields utf8 D .legal (s .fields)
+    unfolding structL named section boxed _then_ num
+    struct-told s lg = (lg .0 .0, lg .0 .1 .1)
+
+    pub record-told : (r : RecordL) → recordL utf8 D .legal r → (r .rtype < 65536) × (r .base < 65536) × fields utf8 D .legal (r .fields)
+    unfolding recordL named section boxed _then_ num
+    record-told r lg = (lg .0 .0, lg .0 .1 .1 .0, lg .0 .1 .1 .1 .1 .1)
+
+    pub layout-told : (t : Layout) → LegalLayout utf8 D t → timesLegal (recordL utf8 D) (t .records) × timesLegal (structL utf8 D) (t .structs) × (length (t .structs) < 65536)
+    unfolding LegalLayout parts groups _then_ counted sized times num
+    layout-told t lg = (lg .0 .1 .0 .1 .1, lg .0 .1 .1 .0 .1 .1, lg .0 .1 .1 .0 .0)
+
 -- ---- what is printed reads back
 
 -- the layout that is read has the same rows and texts, starts apart

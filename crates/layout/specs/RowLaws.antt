@@ -5,7 +5,7 @@ use mathlib.Core.Bool.{Bool, true, false}
 use mathlib.Core.List.{List, [], _∷_, _++_, map, map-append}
 use lib.ListN.{length}
 use lib.Dec.{eqb}
-use Rattle.codec.specs.Codec.{_then_, ok, Bytes, Codec, raw, padded, num, byte, named, checked, placed, sized, times, timesBare, distinct, counted, boxed}
+use Rattle.codec.specs.Codec.{_then_, ok, Bytes, Codec, padded, num, named, sized, times, timesBare, distinct, counted}
 use Rattle.codec.specs.Laws.{length-bare}
 use Rattle.wire.specs.Formats.{name}
 use Rattle.wire.specs.FormatLaws.{section-bare, name-bare}

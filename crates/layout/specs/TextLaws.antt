@@ -5,7 +5,7 @@ use mathlib.Core.Bool.{Bool, true, false}
 use mathlib.Core.List.{List, [], _∷_, _++_, map, map-append}
 use lib.ListN.{length, getD, take, drop}
 use lib.Dec.{eqb}
-use Rattle.codec.specs.Codec.{_then_, ok, Bytes, Codec, raw, num, byte, named, checked, placed, sized, times, timesBare, timesEach, distinct, counted, boxed}
+use Rattle.codec.specs.Codec.{_then_, ok, Bytes, Codec, num, named, sized, times, timesBare, timesEach, distinct, counted}
 use Rattle.wire.specs.Formats.{name}
 use Rattle.wire.specs.FormatLaws.{section-bare, section-each, name-bare, name-each}
 use Rattle.layout.specs.Layout.{Fields, RecordL, StructL, LabelDef, Layout, entry, fields, recordL, structL, label, labelDef, parts, groups, readLayout, printLayout, locateLayout, bareLayout, FitsLayout, EachName}

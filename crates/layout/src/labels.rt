@@ -9,7 +9,7 @@ ghost use Rattle.wire.specs.Out.{Room, Ran};
 ghost use Rattle.layout.specs.Reader.{labelsAt};
 ghost use Rattle.layout.specs.Labels.{Cleared, Codes};
 
-// Labels whose codes differ. A code is marked when its label is read; at the end no mark is left.
+// Labels whose codes x differ. A code is marked when its label is read; at the end no mark is left.
 pub(crate) fn labels(
     s: &[u8],
     at: usize,
@@ -29,20 +29,13 @@ pub(crate) fn labels(
     let mut k = n;
     while 0 < todo {
         match wire::u16_at(s, p, refusal::LAYOUT_TRUNCATED) {
-            Got::Value {
-                value: code,
-                next: q,
-            } => match wire::name_at(s, q) {
-                Got::Value {
-                    value: len,
-                    next: e,
-                } => {
-                    let key = code as u16;
-                    if marks::is_marked(marks, key) {
+            Got::Value { value: x, next: q } => match wire::name_at(s, q) {
+                Got::Value { value: l, next: e } => {
+                    if marks::is_marked(marks, x as u16) {
                         return Got::Refused(refusal::LABEL_TWICE);
                     }
-                    marks::mark(marks, key);
-                    let row = rows::label_row(base + (q + 1), len, code);
+                    marks::mark(marks, x as u16);
+                    let row = rows::label_row(base + (q + 1), l, x);
                     wire::put_row(table, k, &row);
                     k += 1;
                     p = e;

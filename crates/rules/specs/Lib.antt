@@ -4,7 +4,6 @@ pub mod RowRules
 pub mod Entries
 pub mod Chase
 pub mod Sequence
-pub mod Standing
 pub mod Walk
 pub mod Whole
 pub mod RowLaws

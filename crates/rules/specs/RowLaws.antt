@@ -9,18 +9,16 @@ use lib.ListN.{length, getD, take, drop, length-append}
 use lib.Seq.{take-at, drop-at, take-all}
 use lib.Dec.{eqb, ltb}
 use borrow.Author.Tests.{eq-eqb, ne-eqb, le-ltb}
-use Rattle.codec.specs.Codec.{Bytes, Codec, padded, num, _then_, named, sized, times, timesLegal, counted, boxed}
-use Rattle.text.specs.Utf8.{utf8}
+use Rattle.codec.specs.Codec.{Bytes}
 use Rattle.wire.specs.Out.{flat, allRows}
-use Rattle.wire.specs.Formats.{Name, section}
+use Rattle.wire.specs.Formats.{Name}
 use Rattle.wire.specs.TableLaws.{Wide, wide-append, wide-map, wide-all}
-use Rattle.layout.specs.Layout.{Entry, Fields, RecordL, StructL, Label, LabelDef, Layout, LegalLayout, Parts, toLayout, fromLayout, entry, fields, recordL, structL, groups, parts}
-use Rattle.layout.specs.Given.{D}
+use Rattle.layout.specs.Layout.{Entry, Fields, RecordL, StructL, Label, LabelDef, Parts, toLayout}
 use Rattle.layout.specs.Rows.{headRow, entryRow, nameRow, fieldRows, recordRows, structRows, labelRow, labelDefRows, rows}
 use Rattle.layout.specs.Reader.{entryBytes}
 use Rattle.rules.specs.Rules.{Seq, seqOf, structSeq, recordSeq, seqsFault, rulesOf}
 use Rattle.rules.specs.RowRules.{lo, hi, column, rowsOf, rowHead, rowCount, rowSeq, seqsIn, kindRows, rowsRules}
-use Rattle.rules.specs.Standing.{bytes-11, rows-parts}
+use Rattle.layout.specs.Standing.{bytes-11, rows-parts}
 
 abbrev pub AllOf : {A : Type 0} → (A → Type 0) → List A → Type 0
 AllOf P [] = Unit {0}
@@ -279,37 +277,3 @@ module _ (t : Parts) (v : FitParts t) where
 -- the rules over the rows of a layout are its rules
 pub rows-rules : (sheet : List ℕ) (w : ℕ) (t : Parts) → FitParts t → rowsRules sheet w (flat (rows (toLayout (t, [])))) ≡ rulesOf sheet w t
 rows-rules sheet w t v = rules-are t v sheet w
-
--- ---- a legal layout has what rows can show
-
-all-of : {A : Type 0} (c : Codec A) (P : A → Type 0) → ((x : A) → c .legal x → P x) → (xs : List A) → timesLegal c xs → AllOf P xs
-all-of c P h [] lg = tt
-all-of c P h (x ∷ xs) lg = (h x (lg .0), all-of c P h xs (lg .1))
-
-fit-fields : (f : Fields) → fields utf8 D .legal f → FitFields f
-unfolding fields entry named sized _then_ times padded
-fit-fields f lg = record { few = lg .0; even = lg .1 .1 .0; heads = all-of (entry utf8 D) _ (λ e l. (l .0, l .1)) (f .entries) (lg .1 .0 .1) }
-
-fit-record : (r : RecordL) → recordL utf8 D .legal r → FitRecord r
-unfolding recordL named section boxed _then_ num
-fit-record r lg = record { rtype = lg .0 .0; base = lg .0 .1 .1 .0; fields = fit-fields (r .fields) (lg .0 .1 .1 .1 .1 .1) }
-
-fit-struct : (s : StructL) → structL utf8 D .legal s → FitStruct s
-unfolding structL named section boxed _then_ num
-fit-struct s lg = record { size = lg .0 .0; fields = fit-fields (s .fields) (lg .0 .1 .1) }
-
-fit-parts : (t : Layout) → LegalLayout utf8 D t → FitParts (fromLayout t .0)
-unfolding LegalLayout parts groups counted sized times _then_
-fit-parts t lg = record {
-  records = all-of (recordL utf8 D) FitRecord fit-record (t .records) (lg .0 .1 .0 .1 .1);
-  structs = all-of (structL utf8 D) FitStruct fit-struct (t .structs) (lg .0 .1 .1 .0 .1 .1);
-  few = lg .0 .1 .1 .0 .0;
-}
-
-rows-rest : (t : Layout) → rows t ≡ rows (toLayout (fromLayout t .0, []))
-unfolding rows
-rows-rest t = refl
-
--- so the rules over a legal layout's rows are the layout's
-pub legal-rules : (sheet : List ℕ) (w : ℕ) (t : Layout) → LegalLayout utf8 D t → rowsRules sheet w (flat (rows t)) ≡ rulesOf sheet w (fromLayout t .0)
-legal-rules sheet w t lg = ap (λ rs. rowsRules sheet w (flat rs)) (rows-rest t) ∙ rows-rules sheet w (fromLayout t .0) (fit-parts t lg)

@@ -2,18 +2,15 @@
 -- They hold for any type sheet and any symbol width.
 -- Assumes nothing.
 use Prim.Native.Nat.{ℕ, zero, suc, _+_, _%_, max}
-use mathlib.Core.Path.{_≡_, refl, ap, ap₂}
+use mathlib.Core.Path.{_≡_, refl}
 use mathlib.Core.Bool.{Bool, true, false, not, cond}
 use mathlib.Core.List.{List, [], _∷_, map}
 use lib.ListN.{length, getD}
 use lib.Dec.{ltb, eqb}
-use Rattle.codec.specs.Codec.{Res, ok, _>>=_, need, Codec, among, timesBare, named, padded, _then_, sized, times, boxed, counted, num}
-use Rattle.codec.specs.Laws.{length-bare}
+use Rattle.codec.specs.Codec.{Res, ok, _>>=_, need, among}
 use Rattle.text.specs.Utf8.{utf8}
-use Rattle.wire.specs.Formats.{section}
-use Rattle.wire.specs.FormatLaws.{law-name}
-use Rattle.layout.specs.Layout.{Entry, Fields, RecordL, StructL, LabelDef, Layout, Parts, fromLayout, entry, fields, recordL, structL, labelDef, groups, parts}
-use Rattle.layout.specs.LayoutLaws.{law-entry, law-labelDef}
+use Rattle.layout.specs.Layout.{Fields, RecordL, StructL, Layout, Parts, fromLayout, parts}
+use Rattle.layout.specs.Standing.{structs-bare, records-bare, labels-bare}
 use Rattle.layout.specs.Given.{D, layoutOf}
 use Rattle.fields.specs.Sheet.{idOf, offOf, endOf, isPadding, pastBase, memberAlign}
 use Rattle.fields.specs.Field.{refuse, differs, fieldFault}
@@ -131,38 +128,17 @@ ruledOf sheet width s =
     need (eqb 0 (rulesOf sheet width (fromLayout t .0))) (rulesOf sheet width (fromLayout t .0)) j >>= λ _ j.
     ok t j
 
--- ---- the rules see no start and no skipped byte
-
-map-bare : {A B : Type 0} (c : Codec A) (f : A → B) → ((x : A) → f (c .bare x) ≡ f x) → (xs : List A) → map f (timesBare c xs) ≡ map f xs
-map-bare c f h [] = refl
-map-bare c f h (x ∷ xs) = ap₂ _∷_ (h x) (map-bare c f h xs)
-
-fields-blind : (rtype base : ℕ) (f : Fields) → seqOf rtype base (fields utf8 D .bare f) ≡ seqOf rtype base f
-unfolding fields named sized _then_ times entry padded
-fields-blind rtype base f =
-    ap₂ (λ n es. record { rtype = rtype; base = base; names = n; entries = es })
-    (length-bare _ (law-name utf8) (f .names))
-    (map-bare (entry utf8 D) (λ e. e .head) (λ e. refl) (f .entries))
-
-struct-blind : (s : StructL) → structSeq (structL utf8 D .bare s) ≡ structSeq s
-unfolding structL named section boxed _then_ num
-struct-blind s = fields-blind 0 (s .size) (s .fields)
-
-record-blind : (r : RecordL) → recordSeq (recordL utf8 D .bare r) ≡ recordSeq r
-unfolding recordL named section boxed _then_ num
-record-blind r = fields-blind (r .rtype) (r .base) (r .fields)
-
-pub rules-blind : (sheet : List ℕ) (w : ℕ) (x : Parts) → rulesOf sheet w (parts utf8 D .bare x) ≡ rulesOf sheet w x
-unfolding rulesOf parts groups counted sized times _then_ num
-rules-blind sheet w x =
-    rw (
-      map-bare (structL utf8 D) structSeq struct-blind (x .1 .1 .0),
-      map-bare (recordL utf8 D) recordSeq record-blind (x .1 .0),
-      length-bare _ (law-labelDef utf8) (x .1 .1 .1),
-    )
-
--- what `ruledOf` is made of
-pub ruled-is : (sheet : List ℕ) (width : ℕ) (s : List ℕ)
-    → ruledOf sheet width s ≡ (layoutOf s >>= λ t j. need (eqb 0 (rulesOf sheet width (fromLayout t .0))) (rulesOf sheet width (fromLayout t .0)) j >>= λ _ j. ok t j)
+-- a layout with a fault is refused by its number
+pub ruled-is : (sheet : List ℕ) (width : ℕ) (s : List ℕ) → ruledOf sheet width s
+    ≡ (layoutOf s >>= λ t j. need (eqb 0 (rulesOf sheet width (fromLayout t .0))) (rulesOf sheet width (fromLayout t .0)) j >>= λ _ j. ok t j)
 unfolding ruledOf
 ruled-is sheet width s = refl
+
+-- ---- the rules see no start and no skipped byte
+
+seq : ℕ → ℕ → ℕ → List (List ℕ) → Seq
+seq rtype base names es = record { rtype = rtype; base = base; names = names; entries = es }
+
+pub rules-blind : (sheet : List ℕ) (w : ℕ) (x : Parts) → rulesOf sheet w (parts utf8 D .bare x) ≡ rulesOf sheet w x
+unfolding rulesOf seq
+rules-blind sheet w x = rw (structs-bare seq x, records-bare seq x, labels-bare x)

@@ -15,7 +15,7 @@ use Rattle.rules.specs.declared.Next.the-variants.{Found, End}
 use Rattle.rules.specs.Rules.{Seq}
 use Rattle.rules.specs.RowRules.{column, rowsOf, seqsIn}
 use Rattle.rules.specs.Entries.{entriesOf, Room}
-use Rattle.rules.specs.Standing.{countAt, headsAt}
+use Rattle.layout.specs.Standing.{countAt, headsAt}
 
 abbrev pub kindOf : Bool → ℕ
 kindOf isRecord = column isRecord 10 13

@@ -22,7 +22,7 @@ use Rattle.rules.specs.declared.Place.{Place}
 use Rattle.rules.specs.Rules.{Seq, seqsFault, structSeq, recordSeq, rulesOf, ruledOf}
 use Rattle.rules.specs.RowRules.{column, rowsOf, seqsIn, kindRows, rowsRules}
 use Rattle.rules.specs.Entries.{entryAt, entriesAt, entriesOf}
-use Rattle.rules.specs.Standing.{headsAt, countAt, Fielded, StructAt, RecordAt, AllAt, skipTo, structsAt, labelsAt, LayoutAt, layout-at}
+use Rattle.layout.specs.Standing.{headsAt, heads-none, heads-more, countAt, Fielded, StructAt, RecordAt, AllAt, skipTo, structsAt, labelsAt, LayoutAt, layout-at}
 use Rattle.rules.specs.Walk.{itemSeq, countIn, sectionItem, Lies, sectionSeqs, Stand, seqsFrom, Good, Ready}
 
 -- the layout in s is accepted
@@ -47,9 +47,9 @@ isKind x kind = cond (eqb x kind) 1 0
 -- ---- an accepted layout
 
 heads-are : (s t : List ℕ) (n a : ℕ) → headsAt s a n ≡ entriesAt s t false D a n
-unfolding headsAt entriesAt entryAt
-heads-are s t zero a = refl
-heads-are s t (suc n) a = ap₂ _∷_ refl (heads-are s t n (a + D))
+unfolding entriesAt entryAt
+heads-are s t zero a = heads-none s a
+heads-are s t (suc n) a = heads-more s a n ∙ ap₂ _∷_ refl (heads-are s t n (a + D))
 
 seq-eq : {a a′ b b′ m m′ : ℕ} {es es′ : List (List ℕ)} → a ≡ a′ → b ≡ b′ → m ≡ m′ → es ≡ es′
     → _≡_ {A = Seq} (record { rtype = a; base = b; names = m; entries = es }) (record { rtype = a′; base = b′; names = m′; entries = es′ })

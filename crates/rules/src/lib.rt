@@ -7,7 +7,7 @@ ghost use Rattle.layout.specs.Answers.{verdict};
 ghost use Rattle.layout.specs.Given.{layoutOf};
 ghost use Rattle.rules.specs.Rules.{ruledOf};
 ghost use Rattle.rules.specs.RowRules.{rowsOf, kindRows, rowsRules};
-ghost use Rattle.rules.specs.Standing.{skipTo};
+ghost use Rattle.layout.specs.Standing.{skipTo};
 ghost use Rattle.rules.specs.Whole.{Accepted, Skips, rulesIn, isKind};
 
 mod entries;

@@ -5,7 +5,7 @@ use mathlib.Core.Path.{_≡_, refl, sym, ap, _∙_, subst}
 use mathlib.Core.Bool.{Bool}
 use mathlib.Core.List.{List, _++_}
 use lib.ListN.{length, take, drop, length-append}
-use Rattle.codec.specs.Codec.{ok, Bytes, Codec, raw, num, _then_, named, checked, asks, limited, placed, boxed}
+use Rattle.codec.specs.Codec.{ok, Bytes, raw, num, _then_, named, checked, asks, limited, placed, boxed}
 use Rattle.codec.specs.Laws.{Law, law-raw, law-num, law-then, law-named, law-checked, law-placed, law-asks, law-limited, law-boxed, law-full, length-little, Whole, whole-reads, whole-back, part-take, left-part, right-part}
 use Rattle.symbology.specs.Symbology.{Symbol, Interval, Mapping, Symbology, symbol, date, list, interval, mappingBody, mapping, symbology, spanned, followed}
 

@@ -2,6 +2,8 @@
 use super::lists::can_be;
 use super::lists::put_symbol;
 use super::lists::symbol_at;
+use refusal::INTERVAL_COUNT_LARGE;
+use refusal::SYMBOL_NOT_UTF8;
 use wire::Got;
 ghost use mathlib.Core.Path.{_≡_};
 ghost use Prim.Native.Nat.{_+_, _<_};
@@ -89,7 +91,7 @@ fn mapping(s: &[u8], at: usize, width: usize, base: usize, table: &mut [u32], n:
                         put_symbol(table, n, 3, base + at, part, count as u32, 0);
                         return intervals(s, q, count, width, base, table, n + 1);
                     }
-                    Got::Refused(refusal::INTERVAL_COUNT_LARGE)
+                    Got::Refused(INTERVAL_COUNT_LARGE)
                 }
                 Got::Refused(why) => Got::Refused(why),
             }
@@ -119,13 +121,7 @@ fn intervals(
         match date_at(s, p, refusal::START_DATE) {
             Got::Value { value: a, next: q } => match date_at(s, q, refusal::END_DATE) {
                 Got::Value { value: b, next: r } => {
-                    match symbol_at(
-                        s,
-                        r,
-                        width,
-                        refusal::INTERVAL_COUNT_LARGE,
-                        refusal::SYMBOL_NOT_UTF8,
-                    ) {
+                    match symbol_at(s, r, width, INTERVAL_COUNT_LARGE, SYMBOL_NOT_UTF8) {
                         Got::Value { value: _, next: e } => {
                             let part = &s[r..e];
                             put_symbol(table, k, 4, base + r, part, a as u32, b as u32);

@@ -1,8 +1,10 @@
 -- The laws of names and sections, from those of their parts. Assumes nothing.
-use Prim.Native.Nat.{ℕ}
+use Prim.Native.Nat.{ℕ, _+_, _%_}
+use native.Mathlib.Omega.{arith}
 use mathlib.Core.Path.{_≡_, refl}
 use mathlib.Core.Bool.{Bool}
-use mathlib.Core.List.{List, []}
+use mathlib.Core.List.{List, [], _∷_}
+use lib.ListN.{length, length-append}
 use Rattle.codec.specs.Codec.{Codec, raw, byte, _then_, named, checked, placed, sized, boxed}
 use Rattle.codec.specs.Laws.{Law, law-raw, law-byte, law-then, law-named, law-checked, law-placed, law-sized, law-boxed}
 use Rattle.wire.specs.Formats.{Name, section, noNul, text, name}
@@ -20,6 +22,19 @@ module _ {A : Type 0} (c : Codec A) where
   pub section-each : (P : ℕ → List ℕ → Type 0) (z : A × List ℕ) → section c .each P z → c .each P (z .0)
   unfolding section boxed
   section-each P z e = e
+
+  -- a section's places and bytes
+  pub section-locate : (p : ℕ) (z : A × List ℕ) → section c .locate p z ≡ (c .locate (p + 2) (z .0), z .1)
+  unfolding section boxed
+  section-locate p z = refl
+
+  pub section-size : (z : A × List ℕ) → length (section c .print z) ≡ 2 + length (c .print (z .0)) + length (z .1)
+  unfolding section boxed
+  section-size z = omega (arith, length-append (c .print (z .0)) (z .1))
+
+  pub section-legal : (z : A × List ℕ) → section c .legal z → c .legal (z .0)
+  unfolding section boxed
+  section-legal z lg = lg .0
 
 module _ (utf8 : List ℕ → Bool) where
   law-text : Law (text utf8)
@@ -41,3 +56,12 @@ module _ (utf8 : List ℕ → Bool) where
   pub name-each : (P : ℕ → List ℕ → Type 0) (n : Name) → name utf8 .each P n → P (n .start) (n .text)
   unfolding name named _then_ text sized placed checked raw byte
   name-each P n e = e .0
+
+  -- a name's place and bytes
+  pub name-locate : (p : ℕ) (n : Name) → name utf8 .locate p n ≡ record { start = p + 1; text = n .text }
+  unfolding name named _then_ text sized placed checked raw byte
+  name-locate p n = refl
+
+  pub name-size : (n : Name) → length (name utf8 .print n) ≡ length (n .text) + 2
+  unfolding name named _then_ text sized placed checked raw byte
+  name-size n = omega (arith, length-append (length (n .text) % 256 ∷ n .text) (0 ∷ []))

@@ -19,7 +19,7 @@ use Rattle.layout.specs.TextLaws.{rowText}
 use Rattle.layout.specs.Prints.{reads, parts-still}
 use Rattle.rules.specs.Rules.{rulesOf, ruledOf, rules-blind, ruled-is}
 use Rattle.rules.specs.RowRules.{rowsRules}
-use Rattle.rules.specs.RowLaws.{legal-rules}
+use Rattle.rules.specs.RowLaws.{rows-rules}
 use Rattle.rows_check.specs.Tree.{rowsIn, treeOf}
 use Rattle.rows_check.specs.Check.{fault, printed}
 use Rattle.rows_check.specs.Legal.{sound, tree-legal}
@@ -27,6 +27,7 @@ use Rattle.rows_check.specs.Table.{tree-rows, tree-flat}
 use Rattle.rows_check.specs.Names.{tree-each}
 use Rattle.rows_check.specs.Bodies.{printed-length}
 use Rattle.writer.specs.Write.{writeLayout}
+use Rattle.writer.specs.Fit.{fit-parts}
 use Rattle.writer.specs.declared.Written.the-variants.{Length, Refused}
 
 pub record ReadsBack (sheet : List ℕ) (width version : ℕ) (table text : List ℕ) : Type 0 where
@@ -85,7 +86,7 @@ module _ (sheet : List ℕ) (width version : ℕ) (table text : List ℕ) (room 
       let l : length (printed version table text) ≤ 4294967295 = omega (arith, s .within, printed-length table text version) in
       let b = reads t text lg l (tree-each table text version w) in
       let z : rulesOf sheet width (fromLayout (locateLayout utf8 D t) .0) ≡ 0 =
-      rules-still sheet width t ∙ sym (legal-rules sheet width t lg) ∙ ap (rowsRules sheet width) (tree-flat table text version w) ∙ a .ruled in
+      rules-still sheet width t ∙ sym (rows-rules sheet width (fromLayout t .0) (fit-parts t lg)) ∙ ap (rowsRules sheet width) (tree-flat table text version w) ∙ a .ruled in
       record {
         layout = locateLayout utf8 D t;
         accepted = ruled-is sheet width (printed version table text) ∙ rw (b .accepted, z);

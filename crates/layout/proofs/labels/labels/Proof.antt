@@ -19,26 +19,29 @@ abbrev μ-loop : tie.MeasureT-loop
 loop-holds : tie.Need-loop-holds Inv-loop μ-loop
 loop-holds c = record { seen = []; going = going _ (c .before .before .pre .0); marks = c .before .before .pre .1; trail = trail _ _ _ }
 
-cast-key : tie.Need-cast-key Inv-loop μ-loop
-cast-key c = omega (arith, past-at (c .before .before .before .before .before .before .before .u16-at .ensures .1) (c .before .before .before .before .before .code .given .1))
+cast-is-marked : tie.Need-cast-is-marked Inv-loop μ-loop
+cast-is-marked c = omega (arith, past-at (c .before .before .before .before .before .before .before .before .u16-at .ensures .1) (c .before .before .before .before .before .before .x .given .1))
+
+cast-mark : tie.Need-cast-mark Inv-loop μ-loop
+cast-mark c = omega (arith, past-at (c .before .before .before .before .before .before .before .before .before .before .before .u16-at .ensures .1) (c .before .before .before .before .before .before .before .before .before .x .given .1))
 
 same-length : tie.Need-same-length Inv-loop μ-loop
 same-length c = c .before .before .before .before .before .before .before .before .before .before .before .before .loop .inv .going .wide
 
 returns : tie.Need-returns Inv-loop μ-loop
-returns c = (going-no (c .before .before .before .before .before .before .before .before .before .before .before .before .loop .inv .going) (labels-55 _ _ _ _ _ (c .before .before .before .before .before .before .before .before .before .before .before .loop-test .taken) (sym (c .before .before .before .before .before .before .before .before .before .before .u16-at .ensures .0) ∙ c .before .before .before .before .before .before .before .before .code .given .1) (sym (c .before .before .before .before .before .before .name-at .ensures .0) ∙ c .before .before .before .before .len .given .1) (sym (c .before .before .before .before .before .before .before .before .before .before .before .before .loop .inv .marks .right _ (past-at (c .before .before .before .before .before .before .before .before .before .before .u16-at .ensures .1) (c .before .before .before .before .before .before .before .before .code .given .1) .2)) ∙ sym (c .before .is-marked .ensures) ∙ c .if1 .taken)), tt)
+returns c = (going-no (c .before .before .before .before .before .before .before .before .before .before .before .before .loop .inv .going) (labels-55 _ _ _ _ _ (c .before .before .before .before .before .before .before .before .before .before .before .loop-test .taken) (sym (c .before .before .before .before .before .before .before .before .before .before .u16-at .ensures .0) ∙ c .before .before .before .before .before .before .before .before .x .given .1) (sym (c .before .before .before .before .before .before .name-at .ensures .0) ∙ c .before .before .before .before .l .given .1) (sym (c .before .before .before .before .before .before .before .before .before .before .before .before .loop .inv .marks .right _ (past-at (c .before .before .before .before .before .before .before .before .before .before .u16-at .ensures .1) (c .before .before .before .before .before .before .before .before .x .given .1) .2)) ∙ sym (c .before .is-marked .ensures) ∙ c .if1 .taken)), tt)
 
 add-label-row : tie.Need-add-label-row Inv-loop μ-loop
-add-label-row c = omega (arith, past-at (c .before .before .before .before .before .before .before .before .name-at .ensures .1) (c .before .before .before .before .before .before .len .given .1))
+add-label-row c = omega (arith, past-at (c .before .before .before .before .before .before .before .before .name-at .ensures .1) (c .before .before .before .before .before .before .l .given .1))
 
 add-label-row-2 : tie.Need-add-label-row-2 Inv-loop μ-loop
-add-label-row-2 c = omega (arith, past-at (c .before .before .before .before .before .before .before .before .name-at .ensures .1) (c .before .before .before .before .before .before .len .given .1))
+add-label-row-2 c = omega (arith, past-at (c .before .before .before .before .before .before .before .before .name-at .ensures .1) (c .before .before .before .before .before .before .l .given .1))
 
 label-row-requires : tie.Need-label-row-requires Inv-loop μ-loop
-label-row-requires c κs = omega (arith, past-at (c .before .before .before .before .before .before .before .before .name-at .ensures .1) (c .before .before .before .before .before .before .len .given .1), past-at (c .before .before .before .before .before .before .before .before .before .before .before .before .u16-at .ensures .1) (c .before .before .before .before .before .before .before .before .before .before .code .given .1))
+label-row-requires c κs = omega (arith, past-at (c .before .before .before .before .before .before .before .before .name-at .ensures .1) (c .before .before .before .before .before .before .l .given .1), past-at (c .before .before .before .before .before .before .before .before .before .before .before .before .u16-at .ensures .1) (c .before .before .before .before .before .before .before .before .before .before .x .given .1))
 
 add-k : tie.Need-add-k Inv-loop μ-loop
-add-k c = omega (arith, past-at (c .before .before .before .before .before .before .before .before .before .before .before .before .before .before .name-at .ensures .1) (c .before .before .before .before .before .before .before .before .before .before .before .before .len .given .1), c .before .before .before .before .before .before .before .before .before .before .before .before .before .before .before .before .before .before .before .before .loop .inv .going, c .before .before .before .before .before .before .before .before .before .before .before .before .before .before .before .before .before .before .before .before .before .before .before .pre .0)
+add-k c = omega (arith, past-at (c .before .before .before .before .before .before .before .before .before .before .before .before .before .before .name-at .ensures .1) (c .before .before .before .before .before .before .before .before .before .before .before .before .l .given .1), c .before .before .before .before .before .before .before .before .before .before .before .before .before .before .before .before .before .before .before .before .loop .inv .going, c .before .before .before .before .before .before .before .before .before .before .before .before .before .before .before .before .before .before .before .before .before .before .before .pre .0)
 
 sub-todo : tie.Need-sub-todo Inv-loop μ-loop
 sub-todo c = omega arith
@@ -48,21 +51,21 @@ loop-less c = omega arith
 
 loop-again : tie.Need-loop-again Inv-loop μ-loop
 loop-again c =
-    let w = label-place _ _ (sym (c .before .before .before .before .before .before .before .before .before .before .before .before .before .before .before .before .before .before .u16-at .ensures .0) ∙ c .before .before .before .before .before .before .before .before .before .before .before .before .before .before .before .before .code .given .1) (sym (c .before .before .before .before .before .before .before .before .before .before .before .before .before .before .name-at .ensures .0) ∙ c .before .before .before .before .before .before .before .before .before .before .before .before .len .given .1) (past-at (c .before .before .before .before .before .before .before .before .before .before .before .before .before .before .name-at .ensures .1) (c .before .before .before .before .before .before .before .before .before .before .before .before .len .given .1) .1) in
-    let free = sym (c .before .before .before .before .before .before .before .before .before .before .before .before .before .before .before .before .before .before .before .before .loop .inv .marks .right _ (past-at (c .before .before .before .before .before .before .before .before .before .before .before .before .before .before .before .before .before .before .u16-at .ensures .1) (c .before .before .before .before .before .before .before .before .before .before .before .before .before .before .before .before .code .given .1) .2)) ∙ sym (c .before .before .before .before .before .before .before .before .before .is-marked .ensures) ∙ c .before .before .before .before .before .before .before .before .if1 .left in
+    let w = label-place _ _ (sym (c .before .before .before .before .before .before .before .before .before .before .before .before .before .before .before .before .before .before .u16-at .ensures .0) ∙ c .before .before .before .before .before .before .before .before .before .before .before .before .before .before .before .before .x .given .1) (sym (c .before .before .before .before .before .before .before .before .before .before .before .before .before .before .name-at .ensures .0) ∙ c .before .before .before .before .before .before .before .before .before .before .before .before .l .given .1) (past-at (c .before .before .before .before .before .before .before .before .before .before .before .before .before .before .name-at .ensures .1) (c .before .before .before .before .before .before .before .before .before .before .before .before .l .given .1) .1) in
+    let free = sym (c .before .before .before .before .before .before .before .before .before .before .before .before .before .before .before .before .before .before .before .before .loop .inv .marks .right _ (past-at (c .before .before .before .before .before .before .before .before .before .before .before .before .before .before .before .before .before .before .u16-at .ensures .1) (c .before .before .before .before .before .before .before .before .before .before .before .before .before .before .before .before .x .given .1) .2)) ∙ sym (c .before .before .before .before .before .before .before .before .before .is-marked .ensures) ∙ c .before .before .before .before .before .before .before .before .if1 .left in
     record {
       seen = _;
-      going = going-row (c .before .before .before .before .before .before .before .before .before .before .before .before .before .before .before .before .before .before .before .before .loop .inv .going) (labels-row _ _ _ _ _ (c .before .before .before .before .before .before .before .before .before .before .before .before .before .before .before .before .before .before .before .loop-test .taken) (sym (c .before .before .before .before .before .before .before .before .before .before .before .before .before .before .before .before .before .before .u16-at .ensures .0) ∙ c .before .before .before .before .before .before .before .before .before .before .before .before .before .before .before .before .code .given .1) (sym (c .before .before .before .before .before .before .before .before .before .before .before .before .before .before .name-at .ensures .0) ∙ c .before .before .before .before .before .before .before .before .before .before .before .before .len .given .1) free)
-          (put-as (c .before .before .before .before .before .label-row .ensures) (c .before .before .put-row .ensures)) (c .before .before .put-row .kept .0) (omega (arith, past-at (c .before .before .before .before .before .before .before .before .before .before .before .before .before .before .before .before .before .before .u16-at .ensures .1) (c .before .before .before .before .before .before .before .before .before .before .before .before .before .before .before .before .code .given .1), past-at (c .before .before .before .before .before .before .before .before .before .before .before .before .before .before .name-at .ensures .1) (c .before .before .before .before .before .before .before .before .before .before .before .before .len .given .1), c .before .before .before .before .before .before .before .before .before .before .before .before .before .before .before .before .before .before .before .before .loop .inv .going));
-      marks = rw (c .before .before .before .before .before .before .mark .ensures) (marks-more _ _ _ (past-at (c .before .before .before .before .before .before .before .before .before .before .before .before .before .before .before .before .before .before .u16-at .ensures .1) (c .before .before .before .before .before .before .before .before .before .before .before .before .before .before .before .before .code .given .1) .2) (c .before .before .before .before .before .before .before .before .before .before .before .before .before .before .before .before .before .before .before .before .loop .inv .marks));
-      trail = trail-next _ (c .before .before .before .before .before .before .before .before .before .before .before .before .before .before .before .before .before .before .before .before .loop .inv .trail) (c .before .before .before .before .before .before .before .before .before .before .before .before .before .before .before .before .before .before .before .loop-test .taken) (w .0) (w .1) (past-at (c .before .before .before .before .before .before .before .before .before .before .before .before .before .before .name-at .ensures .1) (c .before .before .before .before .before .before .before .before .before .before .before .before .len .given .1) .1);
+      going = going-row (c .before .before .before .before .before .before .before .before .before .before .before .before .before .before .before .before .before .before .before .before .loop .inv .going) (labels-row _ _ _ _ _ (c .before .before .before .before .before .before .before .before .before .before .before .before .before .before .before .before .before .before .before .loop-test .taken) (sym (c .before .before .before .before .before .before .before .before .before .before .before .before .before .before .before .before .before .before .u16-at .ensures .0) ∙ c .before .before .before .before .before .before .before .before .before .before .before .before .before .before .before .before .x .given .1) (sym (c .before .before .before .before .before .before .before .before .before .before .before .before .before .before .name-at .ensures .0) ∙ c .before .before .before .before .before .before .before .before .before .before .before .before .l .given .1) free)
+          (put-as (c .before .before .before .before .before .label-row .ensures) (c .before .before .put-row .ensures)) (c .before .before .put-row .kept .0) (omega (arith, past-at (c .before .before .before .before .before .before .before .before .before .before .before .before .before .before .before .before .before .before .u16-at .ensures .1) (c .before .before .before .before .before .before .before .before .before .before .before .before .before .before .before .before .x .given .1), past-at (c .before .before .before .before .before .before .before .before .before .before .before .before .before .before .name-at .ensures .1) (c .before .before .before .before .before .before .before .before .before .before .before .before .l .given .1), c .before .before .before .before .before .before .before .before .before .before .before .before .before .before .before .before .before .before .before .before .loop .inv .going));
+      marks = rw (c .before .before .before .before .before .before .mark .ensures) (marks-more _ _ _ (past-at (c .before .before .before .before .before .before .before .before .before .before .before .before .before .before .before .before .before .before .u16-at .ensures .1) (c .before .before .before .before .before .before .before .before .before .before .before .before .before .before .before .before .x .given .1) .2) (c .before .before .before .before .before .before .before .before .before .before .before .before .before .before .before .before .before .before .before .before .loop .inv .marks));
+      trail = trail-next _ (c .before .before .before .before .before .before .before .before .before .before .before .before .before .before .before .before .before .before .before .before .loop .inv .trail) (c .before .before .before .before .before .before .before .before .before .before .before .before .before .before .before .before .before .before .before .loop-test .taken) (w .0) (w .1) (past-at (c .before .before .before .before .before .before .before .before .before .before .before .before .before .before .name-at .ensures .1) (c .before .before .before .before .before .before .before .before .before .before .before .before .l .given .1) .1);
     }
 
 same-length-2 : tie.Need-same-length-2 Inv-loop μ-loop
 same-length-2 c = c .before .before .before .before .before .before .before .before .before .loop .inv .going .wide
 
 returns-2 : tie.Need-returns-2 Inv-loop μ-loop
-returns-2 c = (going-no (c .before .before .before .before .before .before .before .before .before .loop .inv .going) (labels-no2 _ _ _ _ _ (c .before .before .before .before .before .before .before .before .loop-test .taken) (sym (c .before .before .before .before .before .before .before .u16-at .ensures .0) ∙ c .before .before .before .before .before .code .given .1) (sym (c .before .before .before .name-at .ensures .0) ∙ c .before .why .given .1)), tt)
+returns-2 c = (going-no (c .before .before .before .before .before .before .before .before .before .loop .inv .going) (labels-no2 _ _ _ _ _ (c .before .before .before .before .before .before .before .before .loop-test .taken) (sym (c .before .before .before .before .before .before .before .u16-at .ensures .0) ∙ c .before .before .before .before .before .x .given .1) (sym (c .before .before .before .name-at .ensures .0) ∙ c .before .why .given .1)), tt)
 
 same-length-3 : tie.Need-same-length-3 Inv-loop μ-loop
 same-length-3 c = c .before .before .before .before .before .loop .inv .going .wide
@@ -90,10 +93,11 @@ labels-spec =
     (λ c. search needs)
     (λ c κs. search needs)
     (λ c. search needs)
-    cast-key
+    cast-is-marked
     (λ c κs. search needs)
     same-length
     returns
+    cast-mark
     (λ c κs. search needs)
     add-label-row
     add-label-row-2

@@ -25,18 +25,26 @@ use Rattle.wire.specs.NameLaws.{nameOf, name-is, name-place}
 use Rattle.wire.specs.SectionLaws.{section-got, section-bad, section-of}
 use Rattle.wire.specs.declared.Got.{Got}
 use Rattle.wire.specs.declared.Got.the-variants.{Value, Refused}
 use Rattle.layout.specs.Layout
 use Rattle.layout.specs.Layout.{Entry, Fields, RecordL, StructL, LabelDef, Layout, Parts, toRecord, toStruct, toLayout}
 use Rattle.layout.specs.LayoutLaws.{law-entry, law-labelDef}
 use Rattle.layout.specs.Given.{D, D-least, entry, fields, recordL, structL, labelDef, layoutOf}
 use Rattle.layout.specs.Reader.{entryBytes}
 use Rattle.layout.specs.Rows.{recordRows, structRows, labelDefRows, rows}
 use Rattle.wire.specs.Out.{allRows}
 
 -- the first eleven bytes of n entries from a on
 unfoldable pub headsAt : List ℕ → ℕ → ℕ → List (List ℕ)
 headsAt s a zero = []
 headsAt s a (suc n) = entryBytes s a ∷ headsAt s (a + D) n
+
+pub heads-none : (s : List ℕ) (a : ℕ) → headsAt s a 0 ≡ []
+unfolding headsAt
+heads-none s a = refl
+
+pub heads-more : (s : List ℕ) (a n : ℕ) → headsAt s a (suc n) ≡ entryBytes s a ∷ headsAt s (a + D) n
+unfolding headsAt
+heads-more s a n = refl
 
 -- the count of fields, after a name at h
 abbrev pub countAt : List ℕ → ℕ → ℕ
@@ -427,3 +435,38 @@ layout-at s t j e = by-le (length s) 4294967295 (λ h. go h (rw (le-leb (length 
 pub rows-parts : (t : Parts) → rows (toLayout (t, [])) ≡ allRows recordRows (t .1 .0) ++ (allRows structRows (t .1 .1 .0) ++ allRows labelDefRows (t .1 .1 .1))
 unfolding rows
 rows-parts t = append-assoc (allRows recordRows (t .1 .0)) (allRows structRows (t .1 .1 .0)) (allRows labelDefRows (t .1 .1 .1))
+
+-- ---- without places and skipped bytes
+
+map-bare : {A B : Type 0} (c : Codec A) (f : A → B) → ((x : A) → f (c .bare x) ≡ f x) → (xs : List A) → map f (timesBare c xs) ≡ map f xs
+map-bare c f h [] = refl
+map-bare c f h (x ∷ xs) = ap₂ _∷_ (h x) (map-bare c f h xs)
+
+-- what a view of rtype, base, names' number and heads sees of the fields of a bare layout is what it sees of the layout
+module _ {B : Type 0} (view : ℕ → ℕ → ℕ → List (List ℕ) → B) where
+  abbrev pub viewed : ℕ → ℕ → Fields → B
+  viewed rtype base f = view rtype base (length (f .names)) (map (λ e. e .head) (f .entries))
+
+  fields-bare : (rtype base : ℕ) (f : Fields) → viewed rtype base (fields .bare f) ≡ viewed rtype base f
+  unfolding Layout.fields named sized _then_ times Layout.entry padded
+  fields-bare rtype base f = ap₂ (view rtype base) (length-bare _ (law-name utf8) (f .names)) (map-bare entry (λ e. e .head) (λ e. refl) (f .entries))
+
+  struct-bare : (s : StructL) → viewed 0 (structL .bare s .size) (structL .bare s .fields) ≡ viewed 0 (s .size) (s .fields)
+  unfolding Layout.structL named section boxed _then_ num
+  struct-bare s = fields-bare 0 (s .size) (s .fields)
+
+  record-bare : (r : RecordL) → viewed (recordL .bare r .rtype) (recordL .bare r .base) (recordL .bare r .fields) ≡ viewed (r .rtype) (r .base) (r .fields)
+  unfolding Layout.recordL named section boxed _then_ num
+  record-bare r = fields-bare (r .rtype) (r .base) (r .fields)
+
+  pub structs-bare : (x : Parts) → map (λ s. viewed 0 (s .size) (s .fields)) (Layout.parts utf8 D .bare x .1 .1 .0) ≡ map (λ s. viewed 0 (s .size) (s .fields)) (x .1 .1 .0)
+  unfolding Layout.parts Layout.groups counted sized times _then_ num
+  structs-bare x = map-bare structL (λ s. viewed 0 (s .size) (s .fields)) struct-bare (x .1 .1 .0)
+
+  pub records-bare : (x : Parts) → map (λ r. viewed (r .rtype) (r .base) (r .fields)) (Layout.parts utf8 D .bare x .1 .0) ≡ map (λ r. viewed (r .rtype) (r .base) (r .fields)) (x .1 .0)
+  unfolding Layout.parts Layout.groups counted sized times _then_ num
+  records-bare x = map-bare recordL (λ r. viewed (r .rtype) (r .base) (r .fields)) record-bare (x .1 .0)
+
+pub labels-bare : (x : Parts) → length (Layout.parts utf8 D .bare x .1 .1 .1) ≡ length (x .1 .1 .1)
+unfolding Layout.parts Layout.groups counted sized times _then_ num
+labels-bare x = length-bare _ (law-labelDef utf8) (x .1 .1 .1)

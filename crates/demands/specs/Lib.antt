@@ -1,0 +1,10 @@
+pub mod LayoutEdits
+pub mod LayoutRows
+pub mod SymbologyRows
+pub mod BlockEdits
+pub mod Edited
+pub mod Demand3
+pub mod Number28
+pub mod NotHollow
+pub mod TableP
+pub mod Demand2

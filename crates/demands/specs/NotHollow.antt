@@ -1,0 +1,68 @@
+-- Nothing is hollow: the reader accepts a block of each version, with any type sheet; accepted blocks differ in their rows, and
+-- refusals in their numbers.
+-- Assumes nothing.
+use Prim.Native.Nat.{ℕ}
+use native.Mathlib.Omega.{arith}
+use mathlib.Core.Path.{_≡_, refl, sym, _∙_}
+use mathlib.Core.Bool.{Bool, true, false}
+use mathlib.Core.List.{List, [], _∷_, _++_}
+use lib.ListN.{length, replicate}
+use Rattle.codec.specs.Codec.{Res, ok, refuse, _>>=_, raw, skip, num, _then_, _on_, named, checked, judged, some, asks, placed, sized, limited, counted, times, whole, boxed, full}
+use Rattle.codec.specs.Remainder.{remainder}
+use Rattle.text.specs.Utf8.{utf8}
+use Rattle.symbology.specs.Symbology.{symbol, list, mapping, symbology}
+use Rattle.symbology.specs.SymbologyRows.{symbologyRows}
+use Rattle.layout.specs.Layout.{parts, groups}
+use Rattle.layout.specs.Rows.{rows}
+use Rattle.rules.specs.Rules.{rulesOf, seqsFault, structsFault, recordsFault}
+use Rattle.block.specs.Block.{Block, lengths, header, layoutPart, symbologyPart, block, blockOf}
+use Rattle.block.specs.Read.{fives, nines}
+use Rattle.block.specs.Examples.{listed, rowsOf, P10, P11}
+
+-- the rows of what was read, or the refusal
+abbrev pub rowsRead : Res (Block × List ℕ) → Res (List (List ℕ) × List (List ℕ))
+rowsRead r = r >>= λ z j. ok (fives (z .0), nines (z .0)) j
+
+-- the least block below version 4: header, layout length, four counts
+abbrev pub least : List ℕ
+least = replicate 120 0
+
+-- the least block of version 4: header, a layout without items, four counts
+abbrev pub least4 : List ℕ
+least4 = replicate 100 0 ++ (8 ∷ 0 ∷ 0 ∷ 0 ∷ 1 ∷ 0 ∷ 0 ∷ 0 ∷ 0 ∷ 0 ∷ 0 ∷ 0 ∷ 16 ∷ 0 ∷ 0 ∷ 0 ∷ replicate 16 0)
+
+pub accepts1 : (sheet : List ℕ) → rowsRead (blockOf 1 sheet least) ≡ ok ([], []) 120
+unfolding blockOf lengths whole block header layoutPart symbologyPart remainder named _then_ _on_ checked raw skip num sized utf8 symbology list mapping limited symbologyRows rows
+accepts1 sheet = refl
+
+pub accepts2 : (sheet : List ℕ) → rowsRead (blockOf 2 sheet least) ≡ ok ([], []) 120
+unfolding blockOf lengths whole block header layoutPart symbologyPart remainder named _then_ _on_ checked raw skip num sized utf8 symbology list mapping limited symbologyRows rows
+accepts2 sheet = refl
+
+pub accepts3 : (sheet : List ℕ) → rowsRead (blockOf 3 sheet least) ≡ ok ([], []) 120
+unfolding blockOf lengths whole block header layoutPart symbologyPart remainder named _then_ _on_ checked raw skip num sized utf8 symbology list mapping limited symbologyRows rows
+accepts3 sheet = refl
+
+pub accepts4 : (sheet : List ℕ) → rowsRead (blockOf 4 sheet least4) ≡ ok ([], []) 132
+unfolding blockOf lengths whole block header layoutPart symbologyPart remainder named _then_ _on_ checked raw skip num sized utf8 symbology list mapping limited symbologyRows rows judged boxed some parts groups counted times full rulesOf seqsFault structsFault recordsFault
+accepts4 sheet = refl
+
+-- a block of version 2 with one symbol has a row, and one without has none
+pub rows-differ : (sheet : List ℕ) → _≡_ {A = Res (List (List ℕ))} (rowsOf sheet (listed (69 ∷ 83 ∷ 0 ∷ []))) (rowsOf sheet (listed (69 ∷ 0 ∷ 83 ∷ []))) → ⊥
+rows-differ sheet e =
+    let q : _≡_ {A = Res (List (List ℕ))} (ok ((0 ∷ 108 ∷ 2 ∷ 0 ∷ 0 ∷ []) ∷ []) 123) (ok ((0 ∷ 108 ∷ 3 ∷ 0 ∷ 0 ∷ []) ∷ []) 123) = sym (P10 sheet) ∙ e ∙ P11 sheet in
+    let z : _≡_ {A = ℕ} 2 3 = cc in
+    omega arith
+
+-- refusals differ: 11 for a version past 4, 13 for a block below 100 bytes, 26 for a version 4 block without a layout
+pub refuses11 : (sheet b : List ℕ) → blockOf 5 sheet b ≡ refuse 11
+unfolding blockOf
+refuses11 sheet b = refl
+
+pub refuses13 : (sheet : List ℕ) → blockOf 2 sheet [] ≡ refuse 13
+unfolding blockOf
+refuses13 sheet = refl
+
+pub refuses26 : (sheet : List ℕ) → blockOf 4 sheet least ≡ refuse 26
+unfolding blockOf lengths whole block header layoutPart symbologyPart named _then_ _on_ checked raw skip num sized utf8 judged boxed some
+refuses26 sheet = refl
