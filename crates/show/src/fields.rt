@@ -8,7 +8,7 @@ use block::Optional;
 pub fn show(f: Fields, store: &[u8]) {
     let len = f.dataset_len;
     if 8 <= store.len() {
-        print::count(b"version: ", store[3] as u64);
+        print::count(b"version: ", wide(store[3]));
         if len <= store.len() - 8 {
             let end = 8 + len;
             print::line(b"dataset: ", &store[8..end]);
@@ -53,4 +53,8 @@ fn yes_or_no(label: &[u8], x: bool) {
     } else {
         print::line(label, b"no");
     }
+}
+
+fn wide(x: u8) -> u64 {
+    x as u64
 }
