@@ -4,13 +4,13 @@ use block::Optional;
 use libc::STDOUT_FILENO;
 
 // A text and the line's end.
-pub fn line(s: &[u8]) {
+pub(crate) fn line(s: &[u8]) {
     io::write_all(STDOUT_FILENO, s);
     io::write_all(STDOUT_FILENO, b"\n");
 }
 
 // A label, a number and the line's end.
-pub fn count(label: &[u8], n: u64) {
+pub(crate) fn count(label: &[u8], n: u64) {
     number(label, n);
     io::write_all(STDOUT_FILENO, b"\n");
 }
@@ -31,7 +31,7 @@ fn optional_number(label: &[u8], n: Optional) {
 }
 
 // The fields of an accepted block, on two lines; - for what is absent.
-pub fn fields(f: Fields) {
+pub(crate) fn fields(f: Fields) {
     let schema = f.schema;
     let end = f.end;
     let limit = f.limit;
@@ -54,7 +54,7 @@ pub fn fields(f: Fields) {
 }
 
 // Each of the first n symbology rows, with its name.
-pub fn symbology(block: &[u8], rows: &[u32], n: usize) {
+pub(crate) fn symbology(block: &[u8], rows: &[u32], n: usize) {
     let mut i = 0;
     while i < n {
         if rows.len() / 5 <= i {
@@ -69,7 +69,7 @@ pub fn symbology(block: &[u8], rows: &[u32], n: usize) {
 }
 
 // Each of the first n layout rows, with its name.
-pub fn layout(layout: &[u8], rows: &[u32], n: usize) {
+pub(crate) fn layout(layout: &[u8], rows: &[u32], n: usize) {
     let mut i = 0;
     while i < n {
         if rows.len() / 9 <= i {

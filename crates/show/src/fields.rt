@@ -5,7 +5,7 @@ use block::Fields;
 use block::Optional;
 
 // Dataset, schema, times and the rest, a line each.
-pub fn show(f: Fields, store: &[u8]) {
+pub(crate) fn show(f: Fields, store: &[u8]) {
     let len = f.dataset_len;
     if 8 <= store.len() {
         print::count(b"version: ", wide(store[3]));

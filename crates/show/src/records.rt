@@ -6,7 +6,7 @@ ghost use Prim.Native.Nat.{_<_};
 const LAYOUT_AT: usize = 112;
 
 // A line for each of the first n rows; a field's name is its own row, as many rows on as there are fields.
-pub fn show(store: &[u8], rows: &[u32], n: usize) {
+pub(crate) fn show(store: &[u8], rows: &[u32], n: usize) {
     if store.len() < LAYOUT_AT {
         return;
     }

@@ -2,7 +2,7 @@
 use crate::print;
 
 // The number and its sentence.
-pub fn show(n: u32) {
+pub(crate) fn show(n: u32) {
     print::text(b"refused ");
     print::number(n as u64);
     print::text(b": ");

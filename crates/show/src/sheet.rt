@@ -1,6 +1,6 @@
 // A made type sheet: the crate's own is not at hand. 1, 2, 3 and 4 are numbers of 1, 2, 4 and 8 bytes, 5 is a decimal of 8 bytes,
 // 7 a symbol, 8 a struct, 9 padding and 10 a label of one byte; bit 6 of the flags marks an extension, and a header is 16 bytes.
-pub fn made() -> [u16; 520] {
+pub(crate) fn made() -> [u16; 520] {
     let mut sheet = [0u16; 520];
     sheet[1] = 1;
     sheet[2] = 2;

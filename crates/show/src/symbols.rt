@@ -3,7 +3,7 @@ use crate::print;
 ghost use Prim.Native.Nat.{_<_};
 
 // A line for each of the first n rows.
-pub fn show(store: &[u8], rows: &[u32], n: usize) {
+pub(crate) fn show(store: &[u8], rows: &[u32], n: usize) {
     if store.len() < 8 {
         return;
     }

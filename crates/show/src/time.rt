@@ -3,7 +3,7 @@ use crate::print;
 ghost use Prim.Native.Nat.{_≤_, _<_};
 
 // A label, and nanoseconds since 1970 as a date and a time of day, UTC.
-pub fn show(label: &[u8], ns: u64) {
+pub(crate) fn show(label: &[u8], ns: u64) {
     print::text(label);
     let seconds = ns / 1000000000;
     print::date(date_of(seconds / 86400));
