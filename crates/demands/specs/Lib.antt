@@ -8,3 +8,4 @@ pub mod Number28
 pub mod NotHollow
 pub mod TableP
 pub mod Demand2
+pub mod WriterAccepts
