@@ -1,0 +1,28 @@
+-- The loop goes over the 520 numbers.
+use borrow.Author.Needs.{needs}
+use Prim.Native.Nat.{ℕ, _-_}
+use Rattle.replay.proofs.cases.take_sheet.Statement.{statement}
+use Rattle.replay.proofs.cases.take_sheet.Tie as tie
+
+abbrev Inv-loop : tie.InvT-loop
+Inv-loop s sheet₀ i₀ sheet i = Unit
+
+abbrev μ-loop : tie.MeasureT-loop
+μ-loop s sheet₀ i₀ sheet i = 520 - i
+
+pub take-sheet-spec : {M : Type 1} → statement M
+take-sheet-spec =
+    tie.close
+    (tie.spec
+    Inv-loop
+    μ-loop
+    (λ c. search needs)
+    (λ c. search needs)
+    (λ c. search needs)
+    (λ c κs. search needs)
+    (λ c. search needs)
+    (λ c. search needs)
+    (λ c. search needs)
+    (λ c. search needs)
+    (λ c. search needs)
+    (λ c. search needs))

@@ -1,0 +1,38 @@
+//! oracle compare N SEED | sample FOLDER | bench
+mod bench;
+mod compare;
+mod of_crate;
+mod ours;
+mod paper;
+mod sample;
+mod walk;
+
+#[path = "../../relay/bench/mod.rs"]
+mod bench_shapes;
+#[path = "../../relay/fuzz/calls.rs"]
+mod calls;
+#[path = "../../relay/fuzz/gen.rs"]
+mod gen;
+
+fn main() {
+    let words: Vec<String> = std::env::args().skip(1).collect();
+    let number = |i: usize, default: u64| words.get(i).map_or(default, |word| word.parse().expect("a number"));
+    match words.first().map(String::as_str) {
+        Some("compare") => {
+            // The crate's panics are answers here.
+            std::panic::set_hook(Box::new(|_| {}));
+            let good = compare::run(number(1, 20_000), number(2, 1)).print();
+            std::process::exit(if good { 0 } else { 1 });
+        }
+        Some("sample") => {
+            std::panic::set_hook(Box::new(|_| {}));
+            let folder = words.get(1).expect("sample FOLDER");
+            sample::write(folder.as_ref()).expect("a folder to write to");
+        }
+        Some("bench") => bench::run(),
+        _ => {
+            eprintln!("oracle compare N SEED | sample FOLDER | bench");
+            std::process::exit(2);
+        }
+    }
+}

@@ -1,0 +1,494 @@
+//! What must hold of every answer.
+use super::{
+    calls::{self, FeedAnswer},
+    gen::{self, Rng, Sheet},
+    Count,
+};
+
+/// A table or output full of marks, so that a write shows.
+fn marked<T>(r: &mut Rng, length: usize, mark: impl Fn(u64) -> T) -> Vec<T> {
+    (0..length).map(|_| mark(r.next())).collect()
+}
+
+fn marked_out<const N: usize>(r: &mut Rng) -> [u64; N] {
+    [0; N].map(|_| r.next() | 1)
+}
+
+/// Counts an answer: 0 with nothing needed, 0 with bytes needed, or a refusal.
+fn tell(count: &mut Count, number: u32, needed: u64) {
+    count.calls += 1;
+    match (number, needed) {
+        (0, 0) => count.accepted += 1,
+        (0, _) => count.waiting += 1,
+        _ => count.refused += 1,
+    }
+}
+
+/// The places of `out` that an answer of a block may change.
+fn named(number: u32) -> std::ops::Range<usize> {
+    match number {
+        0 => 0..16,
+        3 => 10..12,
+        _ => 0..0,
+    }
+}
+
+/// The lengths of two tables, and whether they are long enough for the rows.
+fn tables(r: &mut Rng, rows: (usize, usize)) -> (usize, usize, bool) {
+    let (s, l) = (rows.0 * 5, rows.1 * 9);
+    match r.below(6) {
+        0 if s > 0 => (s - 1 - r.below(s.min(5)), l + r.below(20), false),
+        1 if l > 0 => (s + r.below(20), l - 1 - r.below(l.min(9)), false),
+        2 => (s, l, true),
+        _ => (s + r.below(12), l + r.below(20), true),
+    }
+}
+
+/// One stream start, fed whole, fed in pieces, and read as a block.
+pub fn stream(r: &mut Rng, sheet: &Sheet, count: &mut Count) {
+    let version = 1 + r.below(4) as u8;
+    let mut bytes = gen::stream(r, sheet, version);
+    for _ in 0..r.pick(&[0, 0, 1, 1, 1, 2, 3]) {
+        bytes = gen::damage(r, &bytes);
+    }
+    let declared = bytes.get(4..8).map_or(0, |x| u32::from_le_bytes(x.try_into().unwrap()) as usize);
+    let room = if declared > 1 << 20 { 200 } else { 8 + declared };
+    let room = if r.one_in(12) { r.below(room + 1) } else { room + r.below(6) };
+    let store = marked(r, room, |x| x as u8);
+    let out = marked_out(r);
+
+    // With empty tables, to learn how many rows are needed.
+    let bare = calls::feed(0, &store, &bytes, &sheet.0, &[], &[], &out);
+    fed(&bare, 0, &store, &bytes, &[], &[], &out);
+    tell(count, bare.number, bare.out[18]);
+    let rows = if bare.number == 3 { (bare.out[10] as usize, bare.out[11] as usize) } else { (0, 0) };
+    let (sn, ln, enough) = tables(r, rows);
+    let symbology = marked(r, sn, |x| x as u32);
+    let layout = marked(r, ln, |x| x as u32);
+
+    let whole = calls::feed(0, &store, &bytes, &sheet.0, &symbology, &layout, &out);
+    fed(&whole, 0, &store, &bytes, &symbology, &layout, &out);
+    tell(count, whole.number, whole.out[18]);
+    match bare.number {
+        3 if enough => assert_eq!(whole.number, 0, "tables of the rows needed are enough"),
+        3 => {
+            assert_eq!(whole.number, 3, "a table shorter than the rows needed");
+            assert_eq!(whole.out[10..12], bare.out[10..12], "rows needed");
+        }
+        other => assert_eq!(whole.number, other, "tables matter for 3 alone"),
+    }
+    if (whole.number, whole.out[18]) == (0, 0) {
+        assert_eq!((whole.out[10] as usize, whole.out[11] as usize), rows, "rows given are the rows needed");
+        assert_eq!(whole.symbology[rows.0 * 5..], symbology[rows.0 * 5..], "past the last symbology row");
+        assert_eq!(whole.layout[rows.1 * 9..], layout[rows.1 * 9..], "past the last layout row");
+    }
+    cut(r, &bytes, sheet, &store, &symbology, &layout, &whole, count);
+    if bytes.len() >= 8 && room >= 8 {
+        prelude(r, &bytes, &whole, room);
+    }
+    if bytes.len() >= 8 + declared && room >= 8 + declared && declared >= 100 && &bytes[..3] == b"DBN" {
+        block(r, &bytes, declared, sheet, &symbology, &layout, &whole, count);
+    }
+}
+
+/// What holds of every single feed.
+fn fed(a: &FeedAnswer, held: usize, store: &[u8], piece: &[u8], symbology: &[u32], layout: &[u32], out: &[u64; 20]) {
+    let [taken, now, needed] = [16, 17, 18].map(|i| a.out[i] as usize);
+    assert!(taken <= piece.len(), "more taken than given");
+    assert_eq!(now, held + taken, "held count");
+    assert_eq!(a.out[19], out[19], "out[19] is nobody's");
+    if taken > 0 {
+        assert_eq!(a.store[..held], store[..held], "bytes held before");
+        assert_eq!(a.store[held..now], piece[..taken], "bytes taken");
+        assert_eq!(a.store[now..], store[now..], "store past the held bytes");
+    } else {
+        assert_eq!(a.store, store, "a feed that takes nothing");
+    }
+    let waits = a.number == 0 && needed > 0;
+    if waits {
+        assert_eq!(taken, piece.len(), "a feed that still needs bytes takes all");
+    }
+    if a.number != 0 {
+        assert_eq!(needed, 0, "a refusal needs nothing");
+    }
+    if a.number != 0 || waits {
+        assert_eq!(a.symbology, symbology, "symbology table after {}", a.number);
+        assert_eq!(a.layout, layout, "layout table after {}", a.number);
+    }
+    let named = if waits { 0..0 } else { named(a.number) };
+    for i in (0..16).filter(|i| !named.contains(i)) {
+        assert_eq!(a.out[i], out[i], "out[{i}] after {}", a.number);
+    }
+}
+
+/// The same stream in pieces: the end is the same, and every count needed is the least.
+#[allow(clippy::too_many_arguments)]
+fn cut(
+    r: &mut Rng,
+    bytes: &[u8],
+    sheet: &Sheet,
+    store: &[u8],
+    symbology: &[u32],
+    layout: &[u32],
+    whole: &FeedAnswer,
+    count: &mut Count,
+) {
+    let most = r.pick(&[1, 3, 16, 100, 100, 400, 400]);
+    let mut held = FeedAnswer {
+        number: 0,
+        out: [0; 20],
+        store: store.to_vec(),
+        symbology: symbology.to_vec(),
+        layout: layout.to_vec(),
+    };
+    let (mut at, mut pieces) = (0, 0);
+    loop {
+        // Bytewise only so far, since a long stream would take long.
+        let length = if pieces > 40 { bytes.len() } else { r.below(most + 1) };
+        let piece = &bytes[at..(at + length).min(bytes.len())];
+        let before = held.out[17] as usize;
+        let out = marked_out(r);
+        let next = calls::feed(before as u64, &held.store, piece, &sheet.0, &held.symbology, &held.layout, &out);
+        fed(&next, before, &held.store, piece, &held.symbology, &held.layout, &out);
+        tell(count, next.number, next.out[18]);
+        held = next;
+        at += piece.len();
+        pieces += 1;
+        let waits = held.number == 0 && held.out[18] > 0;
+        if waits && r.one_in(4) {
+            least(r, &held, sheet, count);
+        }
+        if !waits || at == bytes.len() {
+            break;
+        }
+    }
+    assert_eq!(held.number, whole.number, "the end of a cut stream");
+    assert_eq!(held.out[17..19], whole.out[17..19], "held and needed of a cut stream");
+    assert_eq!(held.store, whole.store, "the store of a cut stream");
+    assert_eq!(held.symbology, whole.symbology, "the symbology table of a cut stream");
+    assert_eq!(held.layout, whole.layout, "the layout table of a cut stream");
+    if (held.number, held.out[18]) == (0, 0) {
+        assert_eq!(held.out[..16], whole.out[..16], "the fields of a cut stream");
+    }
+    if held.number != 0 || held.out[18] == 0 {
+        let again = calls::feed(
+            held.out[17],
+            &held.store,
+            &bytes[..bytes.len().min(30)],
+            &sheet.0,
+            &held.symbology,
+            &held.layout,
+            &held.out,
+        );
+        assert_eq!((again.number, again.out[16]), (held.number, 0), "a feed after the end takes nothing");
+        assert_eq!(again.out[..16], held.out[..16], "and gives the same");
+        assert_eq!((again.symbology, again.layout), (held.symbology, held.layout), "and the same rows");
+    }
+}
+
+/// One byte less than the count needed never ends the stage, and that byte then does.
+fn least(r: &mut Rng, held: &FeedAnswer, sheet: &Sheet, count: &mut Count) {
+    let needed = held.out[18] as usize;
+    if needed > 1 << 16 {
+        return;
+    }
+    let piece = marked(r, needed, |x| x as u8);
+    let (symbology, layout) = (&held.symbology, &held.layout);
+    let out = marked_out(r);
+    let less = calls::feed(held.out[17], &held.store, &piece[..needed - 1], &sheet.0, symbology, layout, &out);
+    tell(count, less.number, less.out[18]);
+    assert_eq!((less.number, less.out[18]), (0, 1), "one byte less ended the stage");
+    let full = calls::feed(held.out[17], &held.store, &piece, &sheet.0, symbology, layout, &out);
+    tell(count, full.number, full.out[18]);
+    let stage_ended = full.number != 0 || full.out[18] == 0 || full.out[18] >= 100;
+    assert!(stage_ended, "the bytes needed did not end the stage");
+}
+
+/// The verdict on the prelude is that of the feed.
+fn prelude(r: &mut Rng, bytes: &[u8], whole: &FeedAnswer, room: usize) {
+    let out = marked_out(r);
+    let (number, told) = calls::prelude(bytes, &out);
+    if number != 0 {
+        assert_eq!(number, whole.number, "the prelude's refusal");
+        assert_eq!(told, out, "out after a refused prelude");
+    } else {
+        let length = u32::from_le_bytes(bytes[4..8].try_into().unwrap()) as u64;
+        assert_eq!(told, [0, bytes[3] as u64, length, 0], "the prelude");
+        assert_eq!(whole.number == 2, (room as u64) < 8 + length, "a store below 8 + length");
+    }
+    let short = r.below(8);
+    assert_eq!(calls::prelude(&bytes[..short], &out), (0, [8 - short as u64, 0, 0, 0]), "a short prelude");
+}
+
+/// A whole block gets the answer of its stream, its layout the rows of the block, and its names lie in it.
+#[allow(clippy::too_many_arguments)]
+fn block(
+    r: &mut Rng,
+    bytes: &[u8],
+    declared: usize,
+    sheet: &Sheet,
+    symbology: &[u32],
+    layout: &[u32],
+    whole: &FeedAnswer,
+    count: &mut Count,
+) {
+    let version = bytes[3];
+    let block = &bytes[8..8 + declared];
+    let out = marked_out(r);
+    let a = calls::block(version, block, &sheet.0, symbology, layout, &out);
+    tell(count, a.number, 0);
+    assert_eq!(a.number, whole.number, "a block and its stream");
+    assert_eq!((&a.symbology, &a.layout), (&whole.symbology, &whole.layout), "the rows of a block and its stream");
+    let mut wanted = out;
+    wanted[named(a.number)].copy_from_slice(&whole.out[named(a.number)]);
+    assert_eq!(a.out, wanted, "out of a block after {}", a.number);
+    if a.number != 0 {
+        return;
+    }
+    let (sn, ln) = (a.out[10] as usize * 5, a.out[11] as usize * 9);
+    names(r, block, &a.symbology[..sn], 5);
+    if version < 4 {
+        assert_eq!((a.out[9], ln), (0, 0), "no layout below version 4");
+        return;
+    }
+    let length = u32::from_le_bytes(block[100..104].try_into().unwrap()) as usize;
+    let inner = &block[104..104 + length];
+    let b = calls::layout(inner, a.out[8] as u16, &sheet.0, layout, &out);
+    assert_eq!((b.number, b.out[9], b.out[11]), (0, a.out[9], a.out[11]), "a block's layout");
+    assert_eq!(b.rows, a.layout, "the rows of a block's layout");
+    names(r, inner, &a.layout[..ln], 9);
+}
+
+/// Every name asked for lies in the bytes and is a text; a row without one, and any other index, gives 90.
+fn names(r: &mut Rng, bytes: &[u8], rows: &[u32], width: usize) {
+    let count = (rows.len() / width) as u64;
+    for _ in 0..3 {
+        let index =
+            if r.one_in(4) { r.pick(&[count, count + 1, u64::MAX, u64::MAX / 5]) } else { r.next() % (count + 1) };
+        let (number, [start, length]) = calls::name(bytes, rows, width, index);
+        let row = rows.get(index.min(count) as usize * width..).and_then(|x| x.get(..width));
+        match row {
+            Some(row) if row[0] != 11 => {
+                assert_eq!(number, 0, "the name of row {index}");
+                assert_eq!([start, length], [row[1] as u64, row[2] as u64], "the span of row {index}");
+                let text = &bytes[start as usize..(start + length) as usize];
+                assert!(relay::is_text(text) && std::str::from_utf8(text).is_ok(), "a name that is no text");
+            }
+            _ => assert_eq!((number, [start, length]), (90, [0, 0]), "row {index} has no name"),
+        }
+    }
+}
+
+/// One layout: read, written back, and its rows bent and written.
+pub fn layout(r: &mut Rng, sheet: &Sheet, count: &mut Count) {
+    let width = r.pick(&[0u16, 3, 8, 22, 71]);
+    let (records, fields) = (r.below(4), r.below(9));
+    let mut tree = gen::layout(r, sheet, width as usize, records, fields);
+    for _ in 0..r.pick(&[0, 0, 0, 1, 1, 2]) {
+        gen::bend(r, sheet, &mut tree);
+    }
+    let mut bytes = tree.bytes(r);
+    match r.below(8) {
+        0 => {
+            let i = r.below(bytes.len());
+            bytes[i] = r.byte();
+        }
+        1 => bytes.truncate(r.below(bytes.len())),
+        _ => {}
+    }
+    let out = marked_out(r);
+    let bare = calls::layout(&bytes, width, &sheet.0, &[], &out);
+    tell(count, bare.number, 0);
+    let rows = if bare.number == 3 { bare.out[11] as usize } else { 0 };
+    let length = rows * 9 + r.below(20);
+    let table = marked(r, length, |x| x as u32);
+    if rows > 0 {
+        let short = &table[..rows * 9 - 1];
+        let a = calls::layout(&bytes, width, &sheet.0, short, &out);
+        assert_eq!((a.number, a.out[11]), (3, rows as u64), "a table one number short");
+        assert_eq!(a.rows, short, "the table after 3");
+    }
+    let a = calls::layout(&bytes, width, &sheet.0, &table, &out);
+    tell(count, a.number, 0);
+    assert_eq!(a.number, if bare.number == 3 { 0 } else { bare.number }, "tables matter for 3 alone");
+    let named: &[usize] = match a.number {
+        0 => &[9, 11],
+        _ => &[],
+    };
+    for i in (0..16).filter(|i| !named.contains(i)) {
+        assert_eq!(a.out[i], out[i], "out[{i}] of a layout after {}", a.number);
+    }
+    if a.number != 0 {
+        assert_eq!(a.rows, table, "the table after {}", a.number);
+        return;
+    }
+    assert_eq!(a.out[11] as usize, rows, "rows given are the rows needed");
+    assert_eq!(a.rows[rows * 9..], table[rows * 9..], "past the last row");
+    let version = a.out[9] as u16;
+    let read = &a.rows[..rows * 9];
+    names(r, &bytes, read, 9);
+    write_back(r, sheet, read, &bytes, version, width, count);
+    let mut bent = read.to_vec();
+    for _ in 0..1 + r.below(2) {
+        bend_rows(r, &mut bent);
+    }
+    write_any(r, sheet, &bent, &bytes, version, width, count);
+}
+
+/// Rows that were read are written, but for label codes that do not rise, and read back the same, starts apart.
+fn write_back(r: &mut Rng, sheet: &Sheet, rows: &[u32], bytes: &[u8], version: u16, width: u16, count: &mut Count) {
+    let output = marked(r, bytes.len() + 4, |x| x as u8);
+    let out = marked_out(r);
+    let a = calls::write(rows, bytes, version, width, &sheet.0, &output, &out);
+    tell(count, a.number, 0);
+    if !rising(rows) {
+        assert_eq!(a.number, 95, "label codes that do not rise");
+        assert_eq!((a.output, a.out), (output, out), "output after 95");
+        return;
+    }
+    assert_eq!(a.number, 0, "rows that were read are written");
+    let length = a.out[0] as usize;
+    assert!(length <= bytes.len(), "what is written is no longer than what was read");
+    assert_eq!(a.output[length..], output[length..], "output past the written length");
+    assert_eq!(a.out[1..], out[1..], "out of the writer");
+    same_back(&a.output[..length], bytes, rows, sheet, version, width);
+    if length > 0 {
+        let short = &output[..length - 1];
+        let b = calls::write(rows, bytes, version, width, &sheet.0, short, &out);
+        assert_eq!((b.number, &b.output[..], b.out), (96, short, out), "an output one byte short");
+    }
+}
+
+/// Any rows: a refusal leaves the output, and what is written reads back the same.
+fn write_any(r: &mut Rng, sheet: &Sheet, rows: &[u32], text: &[u8], version: u16, width: u16, count: &mut Count) {
+    let output = marked(r, text.len() * 2 + 60, |x| x as u8);
+    let out = marked_out(r);
+    let a = calls::write(rows, text, version, width, &sheet.0, &output, &out);
+    tell(count, a.number, 0);
+    if a.number != 0 {
+        assert_eq!((&a.output, a.out), (&output, out), "output after {}", a.number);
+        return;
+    }
+    let length = a.out[0] as usize;
+    assert_eq!(a.output[length..], output[length..], "output past the written length");
+    same_back(&a.output[..length], text, rows, sheet, version, width);
+}
+
+/// Written bytes read back as the same version, rows and names, starts apart.
+fn same_back(written: &[u8], text: &[u8], rows: &[u32], sheet: &Sheet, version: u16, width: u16) {
+    let table = vec![0; rows.len()];
+    let back = calls::layout(written, width, &sheet.0, &table, &[0; 16]);
+    assert_eq!((back.number, back.out[9]), (0, version as u64), "what was written reads back");
+    assert_eq!(back.out[11] as usize, rows.len() / 9, "as many rows");
+    for (one, two) in rows.chunks(9).zip(back.rows.chunks(9)) {
+        let from = if one[0] == 11 { 1 } else { 2 };
+        assert_eq!((one[0], &one[from..]), (two[0], &two[from..]), "a row read back");
+        if one[0] != 11 {
+            let name = |row: &[u32], bytes: &[u8]| bytes[row[1] as usize..(row[1] + row[2]) as usize].to_vec();
+            assert_eq!(name(one, text), name(two, written), "a name read back");
+        }
+    }
+}
+
+/// Whether the codes of every label def rise.
+fn rising(rows: &[u32]) -> bool {
+    rows.chunks(9).zip(rows.chunks(9).skip(1)).all(|(a, b)| a[0] != 15 || b[0] != 15 || a[3] < b[3])
+}
+
+/// A change of one number, a row more, a row less, two rows swapped, or a length that is not of nine.
+fn bend_rows(r: &mut Rng, rows: &mut Vec<u32>) {
+    let n = rows.len() / 9;
+    if n == 0 {
+        rows.extend(marked(r, 9, |x| (x % 16) as u32));
+        return;
+    }
+    let (i, j) = (r.below(n), r.below(n));
+    match r.below(10) {
+        0 => {
+            rows.drain(i * 9..i * 9 + 9);
+        }
+        1 => {
+            let row: Vec<u32> = rows[i * 9..i * 9 + 9].to_vec();
+            rows.splice(j * 9..j * 9, row);
+        }
+        2 => {
+            for k in 0..9 {
+                rows.swap(i * 9 + k, j * 9 + k);
+            }
+        }
+        3 => rows.truncate(r.below(rows.len())),
+        4 => rows[i * 9] = 9 + r.below(8) as u32,
+        5 => rows[i * 9 + 8] = r.below(2) as u32,
+        6 => rows[i * 9 + 1 + r.below(2)] = r.pick(&[0, 1, 2, 255, 256, u32::MAX, 0x8000_0000]),
+        7 => {
+            let number = &mut rows[i * 9 + 1 + r.below(8)];
+            *number = number.wrapping_add(r.pick(&[1, u32::MAX, 65536, 256]));
+        }
+        _ => rows[i * 9 + 1 + r.below(8)] = r.next() as u32 % r.pick(&[4, 300, 65536, 70000]),
+    }
+}
+
+/// Any state, any tables, any rows: the same call gives the same answer, and a refusal leaves what was lent.
+pub fn anything(r: &mut Rng, sheet: &Sheet, count: &mut Count) {
+    let length = r.below(300);
+    let mut store = marked(r, length, |x| x as u8);
+    if r.one_in(2) {
+        let version = 1 + r.below(4) as u8;
+        let good = gen::stream(r, sheet, version);
+        let n = good.len().min(store.len());
+        store[..n].copy_from_slice(&good[..n]);
+    }
+    let length = r.below(120);
+    let piece = marked(r, length, |x| x as u8);
+    let held = if r.one_in(3) { r.next() >> r.below(64) } else { r.below(store.len() + 3) as u64 };
+    let (sn, ln) = (r.below(40), r.below(40));
+    let (symbology, layout) = (marked(r, sn, |x| x as u32), marked(r, ln, |x| x as u32));
+    let out = marked_out(r);
+    let a = calls::feed(held, &store, &piece, &sheet.0, &symbology, &layout, &out);
+    tell(count, a.number, a.out[18]);
+    if held > store.len() as u64 {
+        assert_eq!((a.number, a.out[16], a.out[17]), (1, 0, held), "held beyond the store");
+        assert_eq!(a.store, store, "the store after 1");
+    } else {
+        fed(&a, held as usize, &store, &piece, &symbology, &layout, &out);
+        if store.len() < 8 {
+            assert_eq!(a.number, 2, "a store below 8");
+        }
+    }
+    assert_eq!(a, calls::feed(held, &store, &piece, &sheet.0, &symbology, &layout, &out), "the same call again");
+
+    let out = marked_out(r);
+    let version = r.byte() % 7;
+    let b = calls::block(version, &store, &sheet.0, &symbology, &layout, &out);
+    tell(count, b.number, 0);
+    if !(1..=4).contains(&version) {
+        assert_eq!(b.number, 11, "version {version}");
+    } else if store.len() < 100 {
+        assert_eq!(b.number, 13, "a block below 100 bytes");
+    }
+    if b.number != 0 {
+        assert_eq!((b.symbology, b.layout), (symbology, layout.clone()), "tables after {}", b.number);
+    }
+
+    // Rows of anything: a span outside gives 90.
+    let n = r.below(5);
+    for width in [5usize, 9] {
+        let length = n * width + r.below(3);
+        let rows = marked(r, length, |x| (x >> 32) as u32 % [20, 200, u32::MAX][x as usize % 3]);
+        let index = r.below(n + 2) as u64;
+        let (number, [start, length]) = calls::name(&store, &rows, width, index);
+        count.calls += 1;
+        let inside = start.checked_add(length).is_some_and(|end| end <= store.len() as u64);
+        assert!(inside && (number == 0 || (number, start, length) == (90, 0, 0)), "a name of any rows");
+        if number == 0 {
+            assert!(index < n as u64, "a name past the table");
+            let row = &rows[index as usize * width..];
+            assert_eq!([start, length], [row[1] as u64, row[2] as u64], "the span of a row");
+            let kinds: &[u32] = if width == 5 { &[0, 1, 2, 3, 4] } else { &[10, 12, 13, 14, 15] };
+            assert!(kinds.contains(&row[0]), "a name of a row without a text");
+        }
+    }
+    let length = r.pick(&[0, 9, 18, 27, 26]);
+    let rows = marked(r, length, |x| (x >> 40) as u32 % [3, 16, 300][x as usize % 3]);
+    write_any(r, sheet, &rows, &store, version as u16, piece.len() as u16, count);
+}

@@ -1,0 +1,57 @@
+//! The fuzz loop: made and damaged inputs through every C function.
+//!
+//! What is checked needs no second reader: no guard word is touched; a refusal leaves tables and output as they were, and
+//! `out` too but for what is named; the answer is the same however a stream is cut; the count needed is the least that ends
+//! the stage; a block, its stream and its layout get the same answer; names lie within the bytes; what is read is written
+//! back, and what is written is read back.
+pub mod calls;
+mod checks;
+pub mod gen;
+
+use gen::Rng;
+
+/// How many inputs were tried, and what they came to.
+#[derive(Default, Debug, Clone, Copy, PartialEq, Eq)]
+pub struct Count {
+    pub inputs: u64,
+    pub accepted: u64,
+    pub refused: u64,
+    pub waiting: u64,
+    pub calls: u64,
+}
+
+/// Tells which input was at hand where a check fails.
+struct At {
+    seed: u64,
+    input: u64,
+}
+
+impl Drop for At {
+    fn drop(&mut self) {
+        if std::thread::panicking() {
+            eprintln!("fuzz: input {} of seed {}", self.input, self.seed);
+        }
+    }
+}
+
+/// Tries the inputs from `first` up to `end` of `seed`. Each has a generator of its own, so that one can be tried alone.
+pub fn run(first: u64, end: u64, seed: u64) -> Count {
+    let mut count = Count::default();
+    for input in first..end {
+        let at = At { seed, input };
+        let mut r = Rng::new(seed.wrapping_mul(1_000_003).wrapping_add(input.wrapping_mul(0x5851_F42D_4C95_7F2D)));
+        let sheet = match r.below(4) {
+            0 => gen::other_sheet(),
+            1 => gen::Sheet::random(&mut r),
+            _ => gen::plain_sheet(),
+        };
+        match r.below(8) {
+            0..=3 => checks::stream(&mut r, &sheet, &mut count),
+            4..=6 => checks::layout(&mut r, &sheet, &mut count),
+            _ => checks::anything(&mut r, &sheet, &mut count),
+        }
+        count.inputs += 1;
+        drop(at);
+    }
+    count
+}

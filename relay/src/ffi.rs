@@ -1,0 +1,94 @@
+//! The C functions of crate `dbn_c`, as `include/dbn_start.h` declares them.
+//!
+//! Each answers a refusal number (0: accepted), but [`dbn_text`] and [`dbn_date`], which answer 1 for yes and 0 for no.
+//! A slice is a pointer and a length. What `out` does not name keeps its value. Lent buffers must not overlap.
+
+/// The length of a type sheet.
+pub const SHEET: usize = 520;
+
+extern "C" {
+    /// Whether the bytes are UTF-8.
+    pub fn dbn_text(s: *const u8, n: usize) -> u32;
+
+    /// Whether the number is a date, year x 10000 + month x 100 + day.
+    pub fn dbn_date(yyyymmdd: u32) -> u32;
+
+    /// Below 8 bytes: 0, `out` = {8 - n, 0, 0, 0}. Else 10, 11, 12, or 0 with `out` = {0, version, block length, 0}.
+    pub fn dbn_prelude(s: *const u8, n: usize, out: *mut [u64; 4]) -> u32;
+
+    /// 0: `out` = {dataset length, schema, start, end, limit, stype_in, stype_out, ts_out, width, layout version,
+    /// symbology rows, layout rows, presence bits (1 schema, 2 end, 4 limit, 8 stype_in), 0, 0, 0}.
+    /// 3: `out[10]` and `out[11]` are the rows needed.
+    pub fn dbn_block(
+        version: u8,
+        block: *const u8,
+        n: usize,
+        sheet: *const [u16; SHEET],
+        symbology: *mut u32,
+        sn: usize,
+        layout: *mut u32,
+        ln: usize,
+        out: *mut [u64; 16],
+    ) -> u32;
+
+    /// Always: `out[16]` taken, `out[17]` held, `out[18]` needed (0 when done or refused).
+    /// Done: `out[0..16]` as [`dbn_block`]. 3: `out[10]` and `out[11]`.
+    pub fn dbn_feed(
+        held: u64,
+        store: *mut u8,
+        storelen: usize,
+        piece: *const u8,
+        n: usize,
+        sheet: *const [u16; SHEET],
+        symbology: *mut u32,
+        sn: usize,
+        layout: *mut u32,
+        ln: usize,
+        out: *mut [u64; 20],
+    ) -> u32;
+
+    /// 0: `out[9]` layout version, `out[11]` rows. 3: `out[11]`.
+    pub fn dbn_layout(
+        layout: *const u8,
+        n: usize,
+        width: u16,
+        sheet: *const [u16; SHEET],
+        rows: *mut u32,
+        rn: usize,
+        out: *mut [u64; 16],
+    ) -> u32;
+
+    /// 0: `out[0]` the written length.
+    pub fn dbn_write_layout(
+        rows: *const u32,
+        rn: usize,
+        text: *const u8,
+        tn: usize,
+        version: u16,
+        width: u16,
+        sheet: *const [u16; SHEET],
+        output: *mut u8,
+        on: usize,
+        out: *mut [u64; 16],
+    ) -> u32;
+
+    /// 0: `out` = {start, length} in the block. 90: {0, 0}.
+    pub fn dbn_symbology_name(
+        block: *const u8,
+        n: usize,
+        rows: *const u32,
+        rn: usize,
+        index: u64,
+        out: *mut [u64; 2],
+    ) -> u32;
+
+    /// 0: `out` = {start, length} in the layout. 90: {0, 0}.
+    pub fn dbn_layout_name(
+        layout: *const u8,
+        n: usize,
+        rows: *const u32,
+        rn: usize,
+        index: u64,
+        out: *mut [u64; 2],
+    ) -> u32;
+}

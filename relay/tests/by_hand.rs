@@ -1,0 +1,167 @@
+//! Document 01's table P, checked by hand, and the examples beside it.
+mod common;
+use common::{hex, p10, plain, stream_of};
+use relay::{is_date, is_text, prelude, Block, Feed, Layout, Prelude, Refusal, Step, Tables};
+
+/// What a whole stream start comes to when it is fed at once.
+fn fed(bytes: &[u8]) -> Result<Step, Refusal> {
+    Feed::new(&plain(), 1 << 20).feed(bytes).map(|fed| fed.step)
+}
+
+fn refused<T: std::fmt::Debug>(answer: Result<T, Refusal>) -> u32 {
+    answer.expect_err("a refusal").number()
+}
+
+const P7: &str = "0100 0000 0000 0100 0E00 01 53 00 0100 4200 03 426964 00";
+
+/// The rows of a layout, as numbers.
+fn rows(bytes: &[u8]) -> Result<Vec<u32>, Refusal> {
+    Ok(Layout::read(bytes, 71, &plain(), &mut Vec::new())?.numbers().to_vec())
+}
+
+#[test]
+fn p1_an_empty_feed_needs_8() {
+    assert_eq!(fed(b""), Ok(Step::Needs(8)));
+    assert_eq!(prelude(b""), Ok(Prelude::Needs(8)));
+}
+
+#[test]
+fn p2_two_bytes_need_6() {
+    assert_eq!(fed(&hex("4442")), Ok(Step::Needs(6)));
+    assert_eq!(prelude(&hex("4442")), Ok(Prelude::Needs(6)));
+}
+
+#[test]
+fn p3_a_prelude_needs_its_block() {
+    assert_eq!(fed(&hex("44424E0264000000")), Ok(Step::Needs(100)));
+    assert_eq!(prelude(&hex("44424E0264000000")), Ok(Prelude::Whole { version: 2, length: 100 }));
+}
+
+#[test]
+fn p4_a_block_of_99_is_12() {
+    assert_eq!(refused(fed(&hex("44424E0263000000"))), 12);
+    assert_eq!(refused(prelude(&hex("44424E0263000000"))), 12);
+}
+
+#[test]
+fn p5_version_5_is_11() {
+    assert_eq!(refused(fed(&hex("44424E0500000000"))), 11);
+    assert_eq!(refused(prelude(&hex("44424E0500000000"))), 11);
+}
+
+#[test]
+fn the_magic_is_judged_with_eight_bytes() {
+    assert_eq!(fed(b"DBM"), Ok(Step::Needs(5)));
+    assert_eq!(refused(fed(b"DBM\x02\x64\0\0\0")), 10);
+}
+
+#[test]
+fn p6_an_empty_layout() {
+    let bytes = hex("0100 000000000000");
+    let mut table = Vec::new();
+    let layout = Layout::read(&bytes, 71, &plain(), &mut table).unwrap();
+    assert_eq!((layout.version(), layout.rows().len()), (1, 0));
+}
+
+#[test]
+fn p7_one_label() {
+    assert_eq!(rows(&hex(P7)), Ok(vec![14, 11, 1, 1, 0, 0, 0, 0, 0, 15, 18, 3, 66, 0, 0, 0, 0, 0]));
+    let (bytes, mut table) = (hex(P7), Vec::new());
+    let layout = Layout::read(&bytes, 71, &plain(), &mut table).unwrap();
+    let def = layout.label_defs().next().unwrap();
+    let label = def.labels().next().unwrap();
+    assert_eq!((def.name, label.code, label.name), ("S", 66, "Bid"));
+}
+
+#[test]
+fn p8_leftovers_in_a_section_are_ignored() {
+    let mut bytes = hex(P7);
+    bytes[8] = 0x10;
+    bytes.extend([0xAA, 0xAA]);
+    assert_eq!(rows(&bytes), rows(&hex(P7)));
+}
+
+#[test]
+fn p9_a_section_below_2_is_51() {
+    let mut bytes = hex(P7);
+    bytes[8] = 1;
+    assert_eq!(refused(rows(&bytes)), 51);
+}
+
+#[test]
+fn p10_one_symbol() {
+    let bytes = p10([0x45, 0x53, 0]);
+    assert_eq!(bytes.len(), 123);
+    let mut tables = Tables::default();
+    let block = Block::read(2, &bytes, &plain(), &mut tables).unwrap();
+    assert_eq!(block.rows().collect::<Vec<_>>(), [&[0, 108, 2, 0, 0]]);
+    assert_eq!(block.symbols().collect::<Vec<_>>(), ["ES"]);
+    assert_eq!(fed(&stream_of(2, &bytes)), Ok(Step::Done));
+}
+
+#[test]
+fn p11_an_inner_nul_stays() {
+    let bytes = p10([0x45, 0, 0x53]);
+    let mut tables = Tables::default();
+    let block = Block::read(2, &bytes, &plain(), &mut tables).unwrap();
+    assert_eq!(block.rows().collect::<Vec<_>>(), [&[0, 108, 3, 0, 0]]);
+    assert_eq!(block.symbols().collect::<Vec<_>>(), ["E\0S"]);
+}
+
+#[test]
+fn p12_dates() {
+    assert_eq!([20240229, 20000229, 19000229, 20241301].map(is_date), [true, true, false, false]);
+}
+
+#[test]
+fn p13_texts() {
+    let texts = ["E2808D", "C080", "EDA080", "F4908080"].map(|text| is_text(&hex(text)));
+    assert_eq!(texts, [true, false, false, false]);
+}
+
+#[test]
+fn a_layout_length_past_the_end_is_24_before_25() {
+    let mut block = p10([0, 0, 0])[..104].to_vec();
+    block[100] = 5;
+    block.extend([0; 4]);
+    assert_eq!(refused(Block::read(2, &block, &plain(), &mut Tables::default())), 24);
+    block.push(0);
+    assert_eq!(refused(Block::read(2, &block, &plain(), &mut Tables::default())), 25);
+}
+
+#[test]
+fn every_date_is_as_the_calendar_says() {
+    let days = [31, 28, 31, 30, 31, 30, 31, 31, 30, 31, 30, 31];
+    let mut dates = 0;
+    for year in 0..=9999u32 {
+        let leap = (year % 4 == 0 && year % 100 != 0) || year % 400 == 0;
+        for month in 0..=13u32 {
+            let last = match month {
+                0 | 13 => 0,
+                2 if leap => 29,
+                _ => days[month as usize - 1],
+            };
+            for day in 0..=32 {
+                let wanted = day >= 1 && day <= last;
+                assert_eq!(is_date(year * 10000 + month * 100 + day), wanted, "{year} {month} {day}");
+                dates += wanted as u32;
+            }
+        }
+    }
+    assert_eq!(dates, 3_652_425);
+    assert!(!is_date(100_000_101) && !is_date(u32::MAX));
+}
+
+#[test]
+fn texts_of_up_to_three_bytes_are_as_the_standard_library_says() {
+    for a in 0..=255u8 {
+        assert_eq!(is_text(&[a]), std::str::from_utf8(&[a]).is_ok());
+        for b in 0..=255u8 {
+            assert_eq!(is_text(&[a, b]), std::str::from_utf8(&[a, b]).is_ok());
+            for c in 0..=255u8 {
+                let bytes = [a, b, c];
+                assert_eq!(is_text(&bytes), std::str::from_utf8(&bytes).is_ok(), "{bytes:02x?}");
+            }
+        }
+    }
+}

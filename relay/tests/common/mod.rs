@@ -1,0 +1,85 @@
+//! Bytes that several tests use.
+#![allow(dead_code)]
+use relay::Sheet;
+
+/// Bytes from hexadecimal digits; blanks are skipped.
+pub fn hex(digits: &str) -> Vec<u8> {
+    let digits: Vec<u8> = digits.bytes().filter(|b| !b.is_ascii_whitespace()).collect();
+    let value = |b: u8| (b as char).to_digit(16).expect("a hexadecimal digit") as u8;
+    digits.chunks(2).map(|two| value(two[0]) * 16 + value(two[1])).collect()
+}
+
+pub const STRUCT: u8 = 1;
+pub const SYMBOL: u8 = 2;
+pub const TEXT: u8 = 3;
+pub const DECIMAL: u8 = 4;
+pub const PADDING: u8 = 0;
+pub const U64: u8 = 8;
+
+/// A made sheet: ids 5 to 8 are integers of 1, 2, 4 and 8 bytes, 13 an enum of one byte, and the header has 24 bytes.
+pub fn plain() -> Sheet {
+    let mut sheet = [0; 520];
+    for (id, size) in [(4, 8), (5, 1), (6, 2), (7, 4), (8, 8), (13, 1)] {
+        sheet[id] = size;
+    }
+    sheet[256 + 13] = 1;
+    sheet[512..519].copy_from_slice(&[STRUCT as u16, SYMBOL as u16, DECIMAL as u16, PADDING as u16, 64, 65535, 24]);
+    sheet
+}
+
+/// A prelude and its block.
+pub fn stream_of(version: u8, block: &[u8]) -> Vec<u8> {
+    let mut out = vec![0x44, 0x42, 0x4E, version];
+    out.extend((block.len() as u32).to_le_bytes());
+    out.extend(block);
+    out
+}
+
+/// P10's block: version 2, width 3, one symbol.
+pub fn p10(symbol: [u8; 3]) -> Vec<u8> {
+    let mut out = vec![0; 104];
+    out[45] = 3;
+    out.extend([1, 0, 0, 0]);
+    out.extend(symbol);
+    out.extend([0; 12]);
+    out
+}
+
+/// The intervals of the capture's stand-in.
+pub const INTERVALS: [(u32, u32, &str); 4] = [
+    (20230101, 20230317, "3403"),
+    (20230317, 20230616, "206299"),
+    (20230616, 20230915, "95414"),
+    (20230915, 20231215, "314863"),
+];
+
+/// A stand-in for the trader's capture: one continuous symbol with four intervals. Also the places inside the intervals
+/// where four network pieces meet.
+pub fn capture() -> (Vec<u8>, [usize; 3]) {
+    let symbol = |text: &str| {
+        let mut out = text.as_bytes().to_vec();
+        out.resize(71, 0);
+        out
+    };
+    let mut block = b"GLBX.MDP3\0\0\0\0\0\0\0".to_vec();
+    block.extend(0u16.to_le_bytes());
+    block.extend(1_672_531_200_000_000_000u64.to_le_bytes());
+    block.extend(1_700_000_000_000_000_000u64.to_le_bytes());
+    block.extend(0u64.to_le_bytes());
+    block.extend([6, 0, 0]);
+    block.extend(71u16.to_le_bytes());
+    block.resize(104, 0);
+    block.extend(1u32.to_le_bytes());
+    block.extend(symbol("ES.c.0"));
+    block.extend([0; 8]);
+    block.extend(1u32.to_le_bytes());
+    block.extend(symbol("ES.c.0"));
+    block.extend(4u32.to_le_bytes());
+    let first = 8 + block.len();
+    for (start, end, instrument) in INTERVALS {
+        block.extend(start.to_le_bytes());
+        block.extend(end.to_le_bytes());
+        block.extend(symbol(instrument));
+    }
+    (stream_of(2, &block), [first + 2, first + 79 + 6, first + 2 * 79 + 12])
+}

@@ -1,0 +1,144 @@
+//! Lent tables and outputs: a refusal leaves them as they were, and rows past the last are untouched.
+mod common;
+use common::{capture, p10, plain};
+use relay::ffi;
+
+const MARK: u32 = 0xA5A5_5A5A;
+
+/// `dbn_block` with marked tables of these lengths: number, out, tables.
+fn block(version: u8, bytes: &[u8], sn: usize, ln: usize) -> (u32, [u64; 16], Vec<u32>, Vec<u32>) {
+    let (mut symbology, mut layout, mut out) = (vec![MARK; sn], vec![MARK; ln], [99; 16]);
+    // SAFETY: every pointer is to a buffer of the given length, and no two overlap.
+    let number = unsafe {
+        ffi::dbn_block(
+            version,
+            bytes.as_ptr(),
+            bytes.len(),
+            &plain(),
+            symbology.as_mut_ptr(),
+            sn,
+            layout.as_mut_ptr(),
+            ln,
+            &mut out,
+        )
+    };
+    (number, out, symbology, layout)
+}
+
+#[test]
+fn a_refusal_leaves_the_tables_and_out() {
+    let (stream, _) = capture();
+    let good = &stream[8..];
+    // Each place broken in turn: dataset, schema, stype_in, stype_out, layout length, list count, a symbol, the mapping
+    // count, the raw symbol, the interval count, dates, and the last interval's symbol.
+    let last = good.len() - 71;
+    let broken = [
+        (0, 20),
+        (17, 21),
+        (42, 22),
+        (43, 23),
+        (103, 24),
+        (107, 31),
+        (108, 32),
+        (190, 34),
+        (191, 36),
+        (265, 37),
+        (last - 5, 38),
+        (last - 1, 39),
+        (last, 40),
+    ];
+    for (place, number) in broken {
+        let mut bytes = good.to_vec();
+        bytes[place] = 0xFE;
+        let (got, out, symbology, layout) = block(2, &bytes, 100, 100);
+        assert_eq!(got, number, "byte {place}");
+        assert_eq!(out, [99; 16], "out after {number}");
+        assert!(symbology.iter().chain(&layout).all(|&x| x == MARK), "tables after {number}");
+    }
+}
+
+#[test]
+fn a_short_table_is_3_with_the_rows_needed_and_nothing_else() {
+    let (stream, _) = capture();
+    for sn in 0..30 {
+        let (number, out, symbology, layout) = block(2, &stream[8..], sn, 4);
+        assert_eq!(number, 3, "{sn} numbers");
+        let mut wanted = [99; 16];
+        (wanted[10], wanted[11]) = (6, 0);
+        assert_eq!(out, wanted);
+        assert!(symbology.iter().chain(&layout).all(|&x| x == MARK));
+    }
+}
+
+#[test]
+fn rows_past_the_last_are_untouched() {
+    let (stream, _) = capture();
+    let (number, out, symbology, layout) = block(2, &stream[8..], 37, 4);
+    assert_eq!((number, out[10], out[11]), (0, 6, 0));
+    assert_eq!(symbology[..5], [0, 108, 6, 0, 0]);
+    assert_eq!(symbology[5..10], [3, 191, 6, 4, 0]);
+    assert_eq!(symbology[10..15], [4, 274, 4, 20230101, 20230317]);
+    assert!(symbology[30..].iter().chain(&layout).all(|&x| x == MARK));
+}
+
+#[test]
+fn a_feed_that_is_refused_keeps_only_the_bytes_it_took() {
+    let mut bytes = common::stream_of(2, &p10([0x45, 0x53, 0xFF]));
+    bytes.extend([9; 10]);
+    let (mut store, mut symbology, mut layout, mut out) = ([0xEE; 200], [MARK; 20], [MARK; 20], [99; 20]);
+    // SAFETY: every pointer is to a buffer of the given length, and no two overlap.
+    let number = unsafe {
+        ffi::dbn_feed(
+            0,
+            store.as_mut_ptr(),
+            store.len(),
+            bytes.as_ptr(),
+            bytes.len(),
+            &plain(),
+            symbology.as_mut_ptr(),
+            symbology.len(),
+            layout.as_mut_ptr(),
+            layout.len(),
+            &mut out,
+        )
+    };
+    assert_eq!(number, 32);
+    assert_eq!(out[16..19], [131, 131, 0], "taken, held, needed");
+    assert_eq!((&out[..16], out[19]), (&[99; 16][..], 99));
+    assert_eq!(store[..131], bytes[..131]);
+    assert_eq!(store[131..], [0xEE; 69]);
+    assert!(symbology.iter().chain(&layout).all(|&x| x == MARK));
+}
+
+#[test]
+fn held_counts_and_stores_that_do_not_fit() {
+    let (stream, _) = capture();
+    let call = |held: u64, length: usize| {
+        let (mut store, mut out) = (stream[..length].to_vec(), [99; 20]);
+        // SAFETY: every pointer is to a buffer of the given length, and no two overlap.
+        let number = unsafe {
+            ffi::dbn_feed(
+                held,
+                store.as_mut_ptr(),
+                length,
+                [].as_ptr(),
+                0,
+                &plain(),
+                [0u32; 0].as_mut_ptr(),
+                0,
+                [0u32; 0].as_mut_ptr(),
+                0,
+                &mut out,
+            )
+        };
+        (number, out[16], out[17], out[18])
+    };
+    assert_eq!(call(8, 7), (1, 0, 8, 0), "beyond the store comes first");
+    assert_eq!(call(u64::MAX, 100), (1, 0, u64::MAX, 0));
+    assert_eq!(call(0, 7), (2, 0, 0, 0));
+    assert_eq!(call(8, 100), (2, 0, 8, 0), "a store below 8 + length");
+    assert_eq!(call(7, 100), (0, 0, 7, 1));
+    let whole = stream.len() as u64;
+    assert_eq!(call(whole, stream.len()), (3, 0, whole, 0));
+    assert_eq!(call(whole - 1, stream.len()), (0, 0, whole - 1, 1));
+}
