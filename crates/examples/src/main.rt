@@ -1,6 +1,8 @@
 // Runs the cases of standard input through the readers of layouts and symbologies, and says of each what it gives and
 // whether that is what the line expects. A line is a kind, a name, for a symbology its width and base, the bytes in
-// hexadecimal, and the numbers that are expected: a refusal number, or 0 and what follows it. Other lines are passed over.
+// hexadecimal, and the numbers that are expected: a refusal number, or 0 and what follows it. A line of kind m has two numbers
+// of which the program makes a layout with many labels. Other lines are passed over.
+ghost use mathlib.Core.Path.{_≡_};
 ghost use Prim.Native.Nat.{_≤_, _<_};
 ghost use lib.ListN.{length};
 ghost use Rattle.io.specs.Counts.{Counts};
@@ -12,9 +14,16 @@ struct Told {
 }
 
 fn main() {
-    let mut space = io::large_buffer();
+    let mut space = file_space();
     let n = io::read_full(0, &mut space);
     lines(&space[..n]);
+}
+
+// Room for the cases.
+fn file_space() -> [u8; 262144]
+    ensures { λ r. ⌜ 262144 ≡ length r ⌝ }
+{
+    [0; 262144]
 }
 
 // Every line of the text.
@@ -56,6 +65,10 @@ fn line(text: &[u8]) {
     if kind == b'y' {
         say(&text[2..e]);
         symbology_case(text, e);
+    }
+    if kind == b'm' {
+        say(&text[2..e]);
+        labels_case(text, e);
     }
 }
 
@@ -109,6 +122,92 @@ fn layout_gives(text: &[u8], at: usize, layout: &[u8])
         }
         layout::Answer::Short(rows) => say_short(clip(rows)),
         layout::Answer::Refused(why) => say_refused(wide(why), want),
+    }
+}
+
+// A layout with as many labels as the first number says, the last of them with the second as its code.
+fn labels_case(text: &[u8], at: usize)
+    requires { ⌜ at ≤ length (now text) ⌝ }
+{
+    let count = number(text, at);
+    let n = count.value;
+    let p = count.next;
+    let code = number(text, p);
+    let last = code.value;
+    let q = code.next;
+    let mut bytes = io::large_buffer();
+    let labels = at_most(n, 16380) as usize;
+    put_labels(&mut bytes, labels, at_most(last, 65535) as usize);
+    labels_give(text, q, front(&bytes, 14 + 4 * labels));
+}
+
+// The first n bytes; all where there are fewer.
+fn front(s: &[u8], n: usize) -> &[u8] {
+    if s.len() < n {
+        return s;
+    }
+    &s[0..n]
+}
+
+// The verdict on a layout, which touches no table: its version and rows, or the refusal.
+fn labels_give(text: &[u8], at: usize, layout: &[u8])
+    requires { ⌜ at ≤ length (now text) ⌝ }
+{
+    let first = number(text, at);
+    let want = first.value;
+    let from = first.next;
+    match layout::layout_verdict(layout) {
+        layout::Verdict::Accepted { version, rows } => {
+            let a = clip(version);
+            let n = clip(rows);
+            say_read(a, n);
+            let none = [0u32; 1];
+            if want == 0 {
+                say_end(rows_are(text, from, a, n, 0, &none));
+            } else {
+                say_end(false);
+            }
+        }
+        layout::Verdict::Refused(why) => say_refused(wide(why), want),
+    }
+}
+
+// Puts a layout of version 1 with one label def of n labels without names, of codes 0, 1 and so on, but for the last.
+fn put_labels(out: &mut [u8], n: usize, last: usize)
+    requires { ⌜ n ≤ 16380 ⌝ }
+    ensures { λ _. ⌜ length (now (out .exit)) ≡ length (now (out .entry)) ⌝ }
+{
+    put(out, 0, 1);
+    put(out, 6, 1);
+    put(out, 8, 6 + 4 * n);
+    put(out, 12, n);
+    let mut i = 0;
+    while i < n {
+        put(out, 14 + 4 * i, i);
+        i += 1;
+    }
+    put(out, 10 + 4 * n, last);
+}
+
+// Puts the low two bytes of a number at a place.
+fn put(out: &mut [u8], at: usize, n: usize)
+    requires { ⌜ at < 262144 ⌝ }
+    ensures { λ _. ⌜ length (now (out .exit)) ≡ length (now (out .entry)) ⌝ }
+{
+    put_byte(out, at, low(n));
+    put_byte(out, at + 1, low(n / 256));
+}
+
+fn low(n: usize) -> u8 {
+    (n % 256) as u8
+}
+
+// Puts a byte at a place; nothing where there is no room.
+fn put_byte(out: &mut [u8], at: usize, b: u8)
+    ensures { λ _. ⌜ length (now (out .exit)) ≡ length (now (out .entry)) ⌝ }
+{
+    if at < out.len() {
+        out[at] = b;
     }
 }
 
@@ -330,6 +429,12 @@ fn clip(n: usize) -> u64
     } else {
         4294967295
     }
+}
+
+fn at_most(n: u64, most: u64) -> u64
+    ensures { λ r. ⌜ r ≤ most ⌝ }
+{
+    if n <= most { n } else { most }
 }
 
 fn narrow(n: u64) -> u16 {
