@@ -2,7 +2,7 @@
 use Prim.Native.Nat.{ℕ, suc, _+_, _-_, _*_, _≤_, _<_, min}
 use native.Mathlib.Omega.{arith}
 use mathlib.Core.Path.{_≡_, refl, sym, ap, _∙_}
-use mathlib.Core.Bool.{Bool, true, false}
+use mathlib.Core.Bool.{Bool, true, false, _&&_}
 use mathlib.Core.List.{List, _++_}
 use lib.ListN.{length, length-append, take, drop}
 use lib.Dec.{eqb, leb}
@@ -11,11 +11,32 @@ use Rattle.wire.specs.Pick.{pick}
 use Rattle.layout.specs.Given.{D}
 use Rattle.rows_check.specs.Tree.{cell, rowCount, after, countOf, namesFrom, nextSec, countKind, kinds, structsFrom, labelsFrom}
 use Rattle.rows_check.specs.Check.{both, every, passes, secOk, walk, wellFormed, countsFit, secAt, fitsAll, sectionsFit, size, risesAt, fault}
-use Rattle.rows_check.specs.Tests.{sec-place}
+use Rattle.rows_check.specs.Tests.{every-none, every-next, sec-place}
 use Rattle.rows_check.specs.Secs.{SecRows}
 use Rattle.rows_check.specs.Bodies.{many, many-none, many-next, nameAt, recordBody, structBody, labelBody, bodyAt, section-is, group, layout-is, record-length, struct-length, label-length}
 use Rattle.rows_check.specs.Rows.{headSize, clip, sizeOf, sizedOf}
 use Rattle.rows_check.specs.declared.Sized.the-variants.{Length, Refused}
+
+-- ---- the numbers of a row
+
+and-both : (x a b : Bool) → (x && both a b) ≡ ((x && a) && b)
+unfolding both
+and-both true true b = refl
+and-both true false b = refl
+and-both false a b = refl
+
+and-true : (x : Bool) → (x && true) ≡ x
+and-true true = refl
+and-true false = refl
+
+module _ (f : ℕ → Bool) (j : ℕ) (x : Bool) where
+  pub fit-next : j < 9 → (x && every f j (9 - j)) ≡ ((x && f j) && every f (j + 1) (9 - (j + 1)))
+  fit-next h =
+      let e : 9 - j - 1 ≡ 9 - (j + 1) = omega arith in
+      ap (λ b. x && b) (every-next f j (9 - j) (omega arith) ∙ rw e) ∙ and-both x (f j) (every f (j + 1) (9 - (j + 1)))
+
+  pub fit-none : 9 ≤ j → (x && every f j (9 - j)) ≡ x
+  fit-none h = ap (λ b. x && b) (every-none f j (9 - j) (omega arith)) ∙ and-true x
 
 -- ---- counts and walks
 

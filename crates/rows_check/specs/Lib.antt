@@ -1,6 +1,7 @@
 pub mod Tree
 pub mod Check
 pub mod Tests
+pub mod Easy
 pub mod Table
 pub mod Legal
 pub mod Bodies

@@ -4,7 +4,9 @@ ghost use mathlib.Core.Path.{_≡_};
 ghost use mathlib.Core.Bool.{not};
 ghost use Prim.Native.Nat.{_+_, _*_, _≤_, _<_};
 ghost use lib.ListN.{length};
-ghost use Rattle.rows_check.specs.Check.{every, limitOf, numberFits, spanFits, rowFits, countFits, nameShort, clean, nameClean, rowTest, passes};
+ghost use Rattle.rows_check.specs.Check.{every, limits, limitOf, numberFits, spanFits, rowFits, countFits, nameShort, clean, nameClean, rowTest, passes};
+ghost use Rattle.rows_check.specs.Easy.{rowGood, Easy};
+ghost use Rattle.rows_check.specs.Tree.{rowCount};
 
 // The largest that each of a row's nine numbers may be, for kinds 10 to 15.
 const LIMITS: [u32; 54] = [
@@ -64,6 +66,59 @@ const LIMITS: [u32; 54] = [
     0,
 ];
 
+// Whether the test `which` passes at all rows; `easy` says that each row passes 90 to 93.
+pub(crate) fn all_pass(easy: bool, which: usize, rows: &[u32], text: &[u8]) -> bool
+    requires { ⌜ Easy easy which (now rows) (now text) ⌝ }
+    ensures { λ r. ⌜ r ≡ passes which (now (rows .entry)) (now (text .entry)) 0 (rowCount (now (rows .entry))) ⌝ }
+{
+    if easy {
+        return true;
+    }
+    rows_pass(which, rows, text, 0, rows.len() / 9)
+}
+
+// Whether each row passes 90 to 93, in one go.
+pub(crate) fn all_good(rows: &[u32], text: &[u8]) -> bool
+    ensures { λ r. ⌜ r ≡ every (rowGood (now (rows .entry)) (now (text .entry))) 0 (rowCount (now (rows .entry))) ⌝ }
+{
+    all_within(&LIMITS, rows, text)
+}
+
+// The same, with the table of limits, which is built once.
+fn all_within(table: &[u32; 54], rows: &[u32], text: &[u8]) -> bool
+    requires { ⌜ now table ≡ limits ⌝ }
+    ensures { λ r. ⌜ r ≡ every (rowGood (now (rows .entry)) (now (text .entry))) 0 (rowCount (now (rows .entry))) ⌝ }
+{
+    let mut p = 0;
+    let mut todo = rows.len() / 9;
+    while 0 < todo {
+        if !row_good(table, rows, text, p) {
+            return false;
+        }
+        p += 1;
+        todo -= 1;
+    }
+    true
+}
+
+// 90 to 93, of one row.
+fn row_good(table: &[u32; 54], rows: &[u32], text: &[u8], q: usize) -> bool
+    requires { ⌜ now table ≡ limits ⌝ }
+    requires { ⌜ 9 * (q + 1) ≤ length (now rows) ⌝ }
+    ensures { λ r. ⌜ r ≡ rowGood (now (rows .entry)) (now (text .entry)) q ⌝ }
+{
+    if !row_fits(table, rows, text, q) {
+        return false;
+    }
+    if !count_fits(rows, q) {
+        return false;
+    }
+    if !name_short(rows, q) {
+        return false;
+    }
+    name_clean(rows, text, q)
+}
+
 // Whether the test `which` passes at n rows from q on.
 pub(crate) fn rows_pass(which: usize, rows: &[u32], text: &[u8], q: usize, n: usize) -> bool
     requires { ⌜ 9 * (q + n) ≤ length (now rows) ⌝ }
@@ -87,7 +142,7 @@ fn row_test(which: usize, rows: &[u32], text: &[u8], q: usize) -> bool
     ensures { λ r. ⌜ r ≡ rowTest which (now (rows .entry)) (now (text .entry)) q ⌝ }
 {
     if which == 90 {
-        return row_fits(rows, text, q);
+        return row_fits(&LIMITS, rows, text, q);
     }
     if which == 91 {
         return count_fits(rows, q);
@@ -102,7 +157,8 @@ fn row_test(which: usize, rows: &[u32], text: &[u8], q: usize) -> bool
 }
 
 // 90: the row is of a kind, its numbers fit, and its span lies in the text.
-fn row_fits(rows: &[u32], text: &[u8], q: usize) -> bool
+fn row_fits(table: &[u32; 54], rows: &[u32], text: &[u8], q: usize) -> bool
+    requires { ⌜ now table ≡ limits ⌝ }
     requires { ⌜ 9 * (q + 1) ≤ length (now rows) ⌝ }
     ensures { λ r. ⌜ r ≡ rowFits (now (rows .entry)) (now (text .entry)) q ⌝ }
 {
@@ -113,7 +169,7 @@ fn row_fits(rows: &[u32], text: &[u8], q: usize) -> bool
     if cells::LABEL < kind {
         return false;
     }
-    if !numbers_fit(rows, q, kind) {
+    if !numbers_fit(table, rows, q, kind) {
         return false;
     }
     if kind == cells::FIELD {
@@ -122,28 +178,26 @@ fn row_fits(rows: &[u32], text: &[u8], q: usize) -> bool
     span_fits(rows, text, q)
 }
 
-fn limit_of(kind: usize, j: usize) -> usize
+fn limit_of(table: &[u32; 54], kind: usize, j: usize) -> usize
+    requires { ⌜ now table ≡ limits ⌝ }
     requires { ⌜ (10 ≤ kind) × ((kind ≤ 15) × (j < 9)) ⌝ }
     ensures { λ r. ⌜ r ≡ limitOf kind j ⌝ }
 {
-    cells::wide(LIMITS[9 * (kind - 10) + j])
+    cells::wide(table[9 * (kind - 10) + j])
 }
 
-fn numbers_fit(rows: &[u32], q: usize, kind: usize) -> bool
+// Each of the row's numbers is within its limit: the eight are compared without a branch.
+fn numbers_fit(table: &[u32; 54], rows: &[u32], q: usize, kind: usize) -> bool
+    requires { ⌜ now table ≡ limits ⌝ }
     requires { ⌜ (10 ≤ kind) × (kind ≤ 15) ⌝ }
     requires { ⌜ 9 * (q + 1) ≤ length (now rows) ⌝ }
     ensures { λ r. ⌜ r ≡ every (numberFits (now (rows .entry)) q kind) 1 8 ⌝ }
 {
-    let mut j = 1;
-    let mut todo: usize = 8;
-    while 0 < todo {
-        if limit_of(kind, j) < cells::cell_of(rows, q, j) {
-            return false;
-        }
-        j += 1;
-        todo -= 1;
+    let mut fit = true;
+    for j in 1..9 {
+        fit = fit & (cells::cell_of(rows, q, j) <= limit_of(table, kind, j));
     }
-    true
+    fit
 }
 
 fn span_fits(rows: &[u32], text: &[u8], q: usize) -> bool

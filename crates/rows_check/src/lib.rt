@@ -22,20 +22,21 @@ pub enum Sized {
 pub fn layout_size(rows: &[u32], text: &[u8]) -> Sized
     ensures { λ r. ⌜ r ≡ sizedOf (now (rows .entry)) (now (text .entry)) ⌝ }
 {
-    if !order::well_formed(rows, text) {
+    let k = order::kinds_of(rows);
+    let r = k.records;
+    let s = k.structs;
+    let l = k.labels;
+    let easy = fits::all_good(rows, text);
+    if !order::well_formed(easy, rows, text, r, s, l) {
         return Sized::Refused(refusal::ROWS_MALFORMED);
     }
-    let r = order::kinds_of(rows, cells::RECORD);
-    let s = order::kinds_of(rows, cells::STRUCT);
-    let l = order::kinds_of(rows, cells::LABEL_DEF);
-    let nr = rows.len() / 9;
-    if !order::counts_fit(rows, text, r, s, l) {
+    if !order::counts_fit(easy, rows, text, r, s, l) {
         return Sized::Refused(refusal::COUNT_LARGE);
     }
-    if !fits::rows_pass(92, rows, text, 0, nr) {
+    if !fits::all_pass(easy, 92, rows, text) {
         return Sized::Refused(refusal::NAME_LONG);
     }
-    if !fits::rows_pass(93, rows, text, 0, nr) {
+    if !fits::all_pass(easy, 93, rows, text) {
         return Sized::Refused(refusal::NAME_TEXT);
     }
     let bytes = sizes::total_size(rows, text, r, s, l);

@@ -7,34 +7,46 @@ ghost use lib.ListN.{length};
 ghost use lib.Dec.{eqb};
 ghost use Rattle.wire.specs.Pick.{pick};
 ghost use Rattle.rows_check.specs.Tree.{countKind, rowCount, kinds};
+ghost use Rattle.rows_check.specs.Easy.{Easy};
 ghost use Rattle.rows_check.specs.Check.{every, secOk, walk, inOrder, wellFormed, groupsFit, countsFit, risesAt};
 
+// How many rows begin a record, a struct and a label def.
+pub(crate) struct Kinds {
+    pub records: usize,
+    pub structs: usize,
+    pub labels: usize,
+}
+
 // 90: rows of nine whose numbers fit, each kind in its place.
-pub(crate) fn well_formed(rows: &[u32], text: &[u8]) -> bool
-    ensures { λ r. ⌜ r ≡ wellFormed (now (rows .entry)) (now (text .entry)) ⌝ }
+pub(crate) fn well_formed(
+    easy: bool,
+    rows: &[u32],
+    text: &[u8],
+    r: usize,
+    s: usize,
+    l: usize,
+) -> bool
+    requires { ⌜ (r ≡ kinds (now rows) 10) × ((s ≡ kinds (now rows) 13) × (l ≡ kinds (now rows) 14)) ⌝ }
+    requires { ⌜ Easy easy 90 (now rows) (now text) ⌝ }
+    ensures { λ b. ⌜ b ≡ wellFormed (now (rows .entry)) (now (text .entry)) ⌝ }
 {
     if rows.len() % 9 != 0 {
         return false;
     }
-    if !fits::rows_pass(90, rows, text, 0, rows.len() / 9) {
+    if !fits::all_pass(easy, 90, rows, text) {
         return false;
     }
-    in_order(rows, text)
+    in_order(rows, text, r, s, l)
 }
 
 // Record sections, then struct sections, then label defs, and no row besides.
-fn in_order(rows: &[u32], text: &[u8]) -> bool
-    ensures { λ r. ⌜ r ≡ inOrder (now (rows .entry)) (now (text .entry)) ⌝ }
+fn in_order(rows: &[u32], text: &[u8], r: usize, s: usize, l: usize) -> bool
+    requires { ⌜ (r ≡ kinds (now rows) 10) × ((s ≡ kinds (now rows) 13) × (l ≡ kinds (now rows) 14)) ⌝ }
+    ensures { λ b. ⌜ b ≡ inOrder (now (rows .entry)) (now (text .entry)) ⌝ }
 {
-    let a = walk_secs(cells::RECORD, rows, text, 0, kinds_of(rows, cells::RECORD));
-    let b = walk_secs(cells::STRUCT, rows, text, a, kinds_of(rows, cells::STRUCT));
-    let d = walk_secs(
-        cells::LABEL_DEF,
-        rows,
-        text,
-        b,
-        kinds_of(rows, cells::LABEL_DEF),
-    );
+    let a = walk_secs(cells::RECORD, rows, text, 0, r);
+    let b = walk_secs(cells::STRUCT, rows, text, a, s);
+    let d = walk_secs(cells::LABEL_DEF, rows, text, b, l);
     d == rows.len() / 9
 }
 
@@ -78,19 +90,28 @@ fn sec_ok(kind: usize, rows: &[u32], text: &[u8], q: usize) -> bool
     fits::rows_pass(cells::name_kind(kind), rows, text, from, n)
 }
 
-// How many rows are of a kind.
-pub(crate) fn kinds_of(rows: &[u32], kind: usize) -> usize
-    ensures { λ r. ⌜ (r ≡ kinds (now (rows .entry)) kind) × (r ≤ rowCount (now (rows .entry))) ⌝ }
+// How many rows are of the kinds that begin a section.
+pub(crate) fn kinds_of(rows: &[u32]) -> Kinds
+    ensures { λ r. ⌜ (r .records ≡ kinds (now (rows .entry)) 10) × ((r .structs ≡ kinds (now (rows .entry)) 13) × (r .labels ≡ kinds (now (rows .entry)) 14)) ⌝ }
 {
-    let mut sum: usize = 0;
+    let mut r: usize = 0;
+    let mut s: usize = 0;
+    let mut l: usize = 0;
     let mut p: usize = 0;
     let mut todo = rows.len() / 9;
     while 0 < todo {
-        sum += one_if(cells::cell_of(rows, p, 0), kind);
+        let kind = cells::cell_of(rows, p, 0);
+        r += one_if(kind, cells::RECORD);
+        s += one_if(kind, cells::STRUCT);
+        l += one_if(kind, cells::LABEL_DEF);
         p += 1;
         todo -= 1;
     }
-    sum
+    Kinds {
+        records: r,
+        structs: s,
+        labels: l,
+    }
 }
 
 fn one_if(a: usize, b: usize) -> usize
@@ -103,11 +124,19 @@ fn one_if(a: usize, b: usize) -> usize
 }
 
 // 91: the counts of fields and labels, and those of records, structs and label defs, which are given.
-pub(crate) fn counts_fit(rows: &[u32], text: &[u8], r: usize, s: usize, l: usize) -> bool
+pub(crate) fn counts_fit(
+    easy: bool,
+    rows: &[u32],
+    text: &[u8],
+    r: usize,
+    s: usize,
+    l: usize,
+) -> bool
     requires { ⌜ (r ≡ kinds (now rows) 10) × ((s ≡ kinds (now rows) 13) × (l ≡ kinds (now rows) 14)) ⌝ }
+    requires { ⌜ Easy easy 91 (now rows) (now text) ⌝ }
     ensures { λ b. ⌜ b ≡ countsFit (now (rows .entry)) (now (text .entry)) ⌝ }
 {
-    if !fits::rows_pass(91, rows, text, 0, rows.len() / 9) {
+    if !fits::all_pass(easy, 91, rows, text) {
         return false;
     }
     groups_fit(r, s, l)

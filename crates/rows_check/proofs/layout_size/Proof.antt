@@ -4,67 +4,76 @@ use mathlib.Core.Path.{sym, _∙_}
 use denote.Ref.{now}
 use borrow.Author.Tests.{not-true, not-false}
 use Rattle.rows_check.specs.Tests.{formed}
+use Rattle.rows_check.specs.Easy.{easy-90, easy-91, easy-92, easy-93}
 use Rattle.rows_check.specs.Secs.{record-secs, struct-secs, label-secs}
 use Rattle.rows_check.proofs.Laws.{exit-90, exit-91, exit-92, exit-93, exit-94, exit-95, done}
 use borrow.Author.Needs.{needs}
 use Rattle.rows_check.proofs.layout_size.Statement.{statement}
 use Rattle.rows_check.proofs.layout_size.Tie as tie
 
+well-formed-requires : tie.Need-well-formed-requires
+well-formed-requires c κs = (c .before .kinds-of .ensures, easy-90 _ _ _ (c .all-good .ensures))
+
 returns : tie.Need-returns
-returns c = exit-90 (now (c .before .before .before .before .args .rows)) (now (c .before .before .before .before .args .text)) (sym (c .before .well-formed .ensures) ∙ not-true (c .before .well-formed .result) (c .if1 .taken))
+returns c = exit-90 (now (c .before .before .before .before .before .before .args .rows)) (now (c .before .before .before .before .before .before .args .text)) (sym (c .before .well-formed .ensures) ∙ not-true (c .before .well-formed .result) (c .if1 .taken))
 
 counts-fit-requires : tie.Need-counts-fit-requires
-counts-fit-requires c κs = (c .before .before .kinds-of .ensures .0, (c .before .kinds-of2 .ensures .0, c .kinds-of3 .ensures .0))
+counts-fit-requires c κs = (c .before .before .before .kinds-of .ensures, easy-91 _ _ _ (c .before .before .all-good .ensures))
 
 returns-2 : tie.Need-returns-2
-returns-2 c = exit-91 (now (c .before .before .before .before .before .before .before .before .before .args .rows)) (now (c .before .before .before .before .before .before .before .before .before .args .text)) (sym (c .before .before .before .before .before .before .well-formed .ensures) ∙ not-false (c .before .before .before .before .before .before .well-formed .result) (c .before .before .before .before .before .if1 .left)) (sym (c .before .counts-fit .ensures) ∙ not-true (c .before .counts-fit .result) (c .if2 .taken))
+returns-2 c = exit-91 (now (c .before .before .before .before .before .before .before .before .args .rows)) (now (c .before .before .before .before .before .before .before .before .args .text)) (sym (c .before .before .before .well-formed .ensures) ∙ not-false (c .before .before .before .well-formed .result) (c .before .before .if1 .left)) (sym (c .before .counts-fit .ensures) ∙ not-true (c .before .counts-fit .result) (c .if2 .taken))
+
+all-pass-requires : tie.Need-all-pass-requires
+all-pass-requires c κs = easy-92 _ _ _ (c .before .before .before .before .all-good .ensures)
 
 returns-3 : tie.Need-returns-3
 returns-3 c =
-    exit-92 (now (c .before .before .before .before .before .before .before .before .before .before .before .args .rows)) (now (c .before .before .before .before .before .before .before .before .before .before .before .args .text)) (sym (c .before .before .before .before .before .before .before .before .well-formed .ensures) ∙ not-false (c .before .before .before .before .before .before .before .before .well-formed .result) (c .before .before .before .before .before .before .before .if1 .left)) (sym (c .before .before .before .counts-fit .ensures) ∙ not-false (c .before .before .before .counts-fit .result) (c .before .before .if2 .left))
-    (sym (c .before .rows-pass .ensures) ∙ not-true (c .before .rows-pass .result) (c .if3 .taken))
+    exit-92 (now (c .before .before .before .before .before .before .before .before .before .before .args .rows)) (now (c .before .before .before .before .before .before .before .before .before .before .args .text)) (sym (c .before .before .before .before .before .well-formed .ensures) ∙ not-false (c .before .before .before .before .before .well-formed .result) (c .before .before .before .before .if1 .left)) (sym (c .before .before .before .counts-fit .ensures) ∙ not-false (c .before .before .before .counts-fit .result) (c .before .before .if2 .left))
+    (sym (c .before .all-pass .ensures) ∙ not-true (c .before .all-pass .result) (c .if3 .taken))
+
+all-pass-requires-2 : tie.Need-all-pass-requires-2
+all-pass-requires-2 c κs = easy-93 _ _ _ (c .before .before .before .before .before .before .all-good .ensures)
 
 returns-4 : tie.Need-returns-4
 returns-4 c =
-    exit-93 (now (c .before .before .before .before .before .before .before .before .before .before .before .before .before .args .rows)) (now (c .before .before .before .before .before .before .before .before .before .before .before .before .before .args .text)) (sym (c .before .before .before .before .before .before .before .before .before .before .well-formed .ensures) ∙ not-false (c .before .before .before .before .before .before .before .before .before .before .well-formed .result) (c .before .before .before .before .before .before .before .before .before .if1 .left)) (sym (c .before .before .before .before .before .counts-fit .ensures) ∙ not-false (c .before .before .before .before .before .counts-fit .result) (c .before .before .before .before .if2 .left))
-    (sym (c .before .before .before .rows-pass .ensures) ∙ not-false (c .before .before .before .rows-pass .result) (c .before .before .if3 .left)) (sym (c .before .rows-pass2 .ensures) ∙ not-true (c .before .rows-pass2 .result) (c .if4 .taken))
+    exit-93 (now (c .before .before .before .before .before .before .before .before .before .before .before .before .args .rows)) (now (c .before .before .before .before .before .before .before .before .before .before .before .before .args .text)) (sym (c .before .before .before .before .before .before .before .well-formed .ensures) ∙ not-false (c .before .before .before .before .before .before .before .well-formed .result) (c .before .before .before .before .before .before .if1 .left)) (sym (c .before .before .before .before .before .counts-fit .ensures) ∙ not-false (c .before .before .before .before .before .counts-fit .result) (c .before .before .before .before .if2 .left))
+    (sym (c .before .before .before .all-pass .ensures) ∙ not-false (c .before .before .before .all-pass .result) (c .before .before .if3 .left)) (sym (c .before .all-pass2 .ensures) ∙ not-true (c .before .all-pass2 .result) (c .if4 .taken))
 
 total-size-requires : tie.Need-total-size-requires
 total-size-requires c κs =
-    let w = formed (now (c .before .before .before .before .before .before .before .before .before .before .before .before .before .args .rows)) (now (c .before .before .before .before .before .before .before .before .before .before .before .before .before .args .text)) (sym (c .before .before .before .before .before .before .before .before .before .before .well-formed .ensures) ∙ not-false (c .before .before .before .before .before .before .before .before .before .before .well-formed .result) (c .before .before .before .before .before .before .before .before .before .if1 .left)) in
-    ((c .before .before .before .before .before .before .before .before .kinds-of .ensures .0, (c .before .before .before .before .before .before .before .kinds-of2 .ensures .0, c .before .before .before .before .before .before .kinds-of3 .ensures .0)), (record-secs _ _ w, (struct-secs _ _ w, label-secs _ _ w)))
+    let w = formed (now (c .before .before .before .before .before .before .before .before .before .before .before .before .args .rows)) (now (c .before .before .before .before .before .before .before .before .before .before .before .before .args .text)) (sym (c .before .before .before .before .before .before .before .well-formed .ensures) ∙ not-false (c .before .before .before .before .before .before .before .well-formed .result) (c .before .before .before .before .before .before .if1 .left)) in
+    (c .before .before .before .before .before .before .before .before .before .kinds-of .ensures, (record-secs _ _ w, (struct-secs _ _ w, label-secs _ _ w)))
 
 returns-5 : tie.Need-returns-5
 returns-5 c =
-    exit-94 (now (c .before .before .before .before .before .before .before .before .before .before .before .before .before .before .before .args .rows)) (now (c .before .before .before .before .before .before .before .before .before .before .before .before .before .before .before .args .text)) (sym (c .before .before .before .before .before .before .before .before .before .before .before .before .well-formed .ensures) ∙ not-false (c .before .before .before .before .before .before .before .before .before .before .before .before .well-formed .result) (c .before .before .before .before .before .before .before .before .before .before .before .if1 .left)) (sym (c .before .before .before .before .before .before .before .counts-fit .ensures) ∙ not-false (c .before .before .before .before .before .before .before .counts-fit .result) (c .before .before .before .before .before .before .if2 .left))
-    (sym (c .before .before .before .before .before .rows-pass .ensures) ∙ not-false (c .before .before .before .before .before .rows-pass .result) (c .before .before .before .before .if3 .left)) (sym (c .before .before .before .rows-pass2 .ensures) ∙ not-false (c .before .before .before .rows-pass2 .result) (c .before .before .if4 .left)) (c .before .total-size .result) (c .before .total-size .ensures) (c .if5 .taken)
+    exit-94 (now (c .before .before .before .before .before .before .before .before .before .before .before .before .before .before .args .rows)) (now (c .before .before .before .before .before .before .before .before .before .before .before .before .before .before .args .text)) (sym (c .before .before .before .before .before .before .before .before .before .well-formed .ensures) ∙ not-false (c .before .before .before .before .before .before .before .before .before .well-formed .result) (c .before .before .before .before .before .before .before .before .if1 .left)) (sym (c .before .before .before .before .before .before .before .counts-fit .ensures) ∙ not-false (c .before .before .before .before .before .before .before .counts-fit .result) (c .before .before .before .before .before .before .if2 .left))
+    (sym (c .before .before .before .before .before .all-pass .ensures) ∙ not-false (c .before .before .before .before .before .all-pass .result) (c .before .before .before .before .if3 .left)) (sym (c .before .before .before .all-pass2 .ensures) ∙ not-false (c .before .before .before .all-pass2 .result) (c .before .before .if4 .left)) (c .before .total-size .result) (c .before .total-size .ensures) (c .if5 .taken)
 
 returns-6 : tie.Need-returns-6
 returns-6 c =
-    exit-95 (now (c .before .before .before .before .before .before .before .before .before .before .before .before .before .before .before .before .before .args .rows)) (now (c .before .before .before .before .before .before .before .before .before .before .before .before .before .before .before .before .before .args .text)) (sym (c .before .before .before .before .before .before .before .before .before .before .before .before .before .before .well-formed .ensures) ∙ not-false (c .before .before .before .before .before .before .before .before .before .before .before .before .before .before .well-formed .result) (c .before .before .before .before .before .before .before .before .before .before .before .before .before .if1 .left)) (sym (c .before .before .before .before .before .before .before .before .before .counts-fit .ensures) ∙ not-false (c .before .before .before .before .before .before .before .before .before .counts-fit .result) (c .before .before .before .before .before .before .before .before .if2 .left))
-    (sym (c .before .before .before .before .before .before .before .rows-pass .ensures) ∙ not-false (c .before .before .before .before .before .before .before .rows-pass .result) (c .before .before .before .before .before .before .if3 .left)) (sym (c .before .before .before .before .before .rows-pass2 .ensures) ∙ not-false (c .before .before .before .before .before .rows-pass2 .result) (c .before .before .before .before .if4 .left)) (c .before .before .before .total-size .result) (c .before .before .before .total-size .ensures) (c .before .before .if5 .left)
+    exit-95 (now (c .before .before .before .before .before .before .before .before .before .before .before .before .before .before .before .before .args .rows)) (now (c .before .before .before .before .before .before .before .before .before .before .before .before .before .before .before .before .args .text)) (sym (c .before .before .before .before .before .before .before .before .before .before .before .well-formed .ensures) ∙ not-false (c .before .before .before .before .before .before .before .before .before .before .before .well-formed .result) (c .before .before .before .before .before .before .before .before .before .before .if1 .left)) (sym (c .before .before .before .before .before .before .before .before .before .counts-fit .ensures) ∙ not-false (c .before .before .before .before .before .before .before .before .before .counts-fit .result) (c .before .before .before .before .before .before .before .before .if2 .left))
+    (sym (c .before .before .before .before .before .before .before .all-pass .ensures) ∙ not-false (c .before .before .before .before .before .before .before .all-pass .result) (c .before .before .before .before .before .before .if3 .left)) (sym (c .before .before .before .before .before .all-pass2 .ensures) ∙ not-false (c .before .before .before .before .before .all-pass2 .result) (c .before .before .before .before .if4 .left)) (c .before .before .before .total-size .result) (c .before .before .before .total-size .ensures) (c .before .before .if5 .left)
     (sym (c .before .labels-rise .ensures) ∙ not-true (c .before .labels-rise .result) (c .if6 .taken))
 
 returns-7 : tie.Need-returns-7
 returns-7 c =
-    done (now (c .before .before .before .before .before .before .before .before .before .before .before .before .before .before .before .before .before .args .rows)) (now (c .before .before .before .before .before .before .before .before .before .before .before .before .before .before .before .before .before .args .text)) (sym (c .before .before .before .before .before .before .before .before .before .before .before .before .before .before .well-formed .ensures) ∙ not-false (c .before .before .before .before .before .before .before .before .before .before .before .before .before .before .well-formed .result) (c .before .before .before .before .before .before .before .before .before .before .before .before .before .if1 .left)) (sym (c .before .before .before .before .before .before .before .before .before .counts-fit .ensures) ∙ not-false (c .before .before .before .before .before .before .before .before .before .counts-fit .result) (c .before .before .before .before .before .before .before .before .if2 .left))
-    (sym (c .before .before .before .before .before .before .before .rows-pass .ensures) ∙ not-false (c .before .before .before .before .before .before .before .rows-pass .result) (c .before .before .before .before .before .before .if3 .left)) (sym (c .before .before .before .before .before .rows-pass2 .ensures) ∙ not-false (c .before .before .before .before .before .rows-pass2 .result) (c .before .before .before .before .if4 .left)) (c .before .before .before .total-size .result) (c .before .before .before .total-size .ensures) (c .before .before .if5 .left)
-    (sym (c .before .labels-rise .ensures) ∙ not-false (c .before .labels-rise .result) (c .if6 .left)) (c .before .before .before .before .before .before .before .before .before .before .before .before .kinds-of .result) (c .before .before .before .before .before .before .before .before .before .before .before .kinds-of2 .result) (c .before .before .before .before .before .before .before .before .before .before .kinds-of3 .result) (c .before .before .before .before .before .before .before .before .before .before .before .before .kinds-of .ensures .0) (c .before .before .before .before .before .before .before .before .before .before .before .kinds-of2 .ensures .0) (c .before .before .before .before .before .before .before .before .before .before .kinds-of3 .ensures .0)
+    done (now (c .before .before .before .before .before .before .before .before .before .before .before .before .before .before .before .before .args .rows)) (now (c .before .before .before .before .before .before .before .before .before .before .before .before .before .before .before .before .args .text)) (sym (c .before .before .before .before .before .before .before .before .before .before .before .well-formed .ensures) ∙ not-false (c .before .before .before .before .before .before .before .before .before .before .before .well-formed .result) (c .before .before .before .before .before .before .before .before .before .before .if1 .left)) (sym (c .before .before .before .before .before .before .before .before .before .counts-fit .ensures) ∙ not-false (c .before .before .before .before .before .before .before .before .before .counts-fit .result) (c .before .before .before .before .before .before .before .before .if2 .left))
+    (sym (c .before .before .before .before .before .before .before .all-pass .ensures) ∙ not-false (c .before .before .before .before .before .before .before .all-pass .result) (c .before .before .before .before .before .before .if3 .left)) (sym (c .before .before .before .before .before .all-pass2 .ensures) ∙ not-false (c .before .before .before .before .before .all-pass2 .result) (c .before .before .before .before .if4 .left)) (c .before .before .before .total-size .result) (c .before .before .before .total-size .ensures) (c .before .before .if5 .left)
+    (sym (c .before .labels-rise .ensures) ∙ not-false (c .before .labels-rise .result) (c .if6 .left)) (c .before .before .before .before .before .before .before .before .before .before .before .before .before .kinds-of .result .records) (c .before .before .before .before .before .before .before .before .before .before .before .before .before .kinds-of .result .structs) (c .before .before .before .before .before .before .before .before .before .before .before .before .before .kinds-of .result .labels) (c .before .before .before .before .before .before .before .before .before .before .before .before .before .kinds-of .ensures .0) (c .before .before .before .before .before .before .before .before .before .before .before .before .before .kinds-of .ensures .1 .0) (c .before .before .before .before .before .before .before .before .before .before .before .before .before .kinds-of .ensures .1 .1)
 
 pub layout-size-spec : {M : Type 1} → statement M
 layout-size-spec =
     tie.close
     (tie.spec
     (λ c κs. search needs)
+    (λ c κs. search needs)
+    well-formed-requires
     returns
-    (λ c κs. search needs)
-    (λ c κs. search needs)
-    (λ c κs. search needs)
     counts-fit-requires
     returns-2
-    (λ c κs. search needs)
+    all-pass-requires
     returns-3
-    (λ c κs. search needs)
+    all-pass-requires-2
     returns-4
     total-size-requires
     returns-5

@@ -9,7 +9,7 @@ use Rattle.rows_check.proofs.fits.row_test.Tie as tie
 
 returns : tie.Need-returns
 unfolding rowTest
-returns c = c .row-fits .ensures ∙ simp (eq-eqb _ _ (c .before .if1 .taken))
+returns c = c .row-fits .ensures ∙ simp (eq-eqb _ _ (c .before .before .if1 .taken))
 
 returns-2 : tie.Need-returns-2
 unfolding rowTest

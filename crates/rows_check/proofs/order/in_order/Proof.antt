@@ -7,16 +7,10 @@ use Rattle.rows_check.proofs.order.in_order.Tie as tie
 
 returns : tie.Need-returns
 unfolding inOrder
-returns c = rw (c .walk-secs3 .ensures, c .before .before .walk-secs2 .ensures, c .before .before .before .before .walk-secs .ensures, c .before .kinds-of3 .ensures .0, c .before .before .before .kinds-of2 .ensures .0, c .before .before .before .before .before .kinds-of .ensures .0)
+returns c =
+    let counts = c .before .before .before .before .before .pre in
+    rw (c .walk-secs3 .ensures, c .before .walk-secs2 .ensures, c .before .before .walk-secs .ensures, counts .0, counts .1 .0, counts .1 .1)
 
 pub in-order-spec : {M : Type 1} → statement M
 in-order-spec =
-    tie.close
-    (tie.spec
-    (λ c κs. search needs)
-    (λ c κs. search needs)
-    (λ c κs. search needs)
-    (λ c κs. search needs)
-    (λ c κs. search needs)
-    (λ c κs. search needs)
-    returns)
+    tie.close (tie.spec (λ c κs. search needs) (λ c κs. search needs) (λ c κs. search needs) returns)

@@ -13,11 +13,11 @@ returns c = simp (ne-eqb _ _ (c .if1 .taken))
 
 returns-2 : tie.Need-returns-2
 unfolding wellFormed both
-returns-2 c = simp (eq-eqb _ _ (c .before .before .if1 .left), sym (c .before .rows-pass .ensures) ∙ not-true (c .before .rows-pass .result) (c .if2 .taken))
+returns-2 c = simp (eq-eqb _ _ (c .before .before .if1 .left), sym (c .before .all-pass .ensures) ∙ not-true (c .before .all-pass .result) (c .if2 .taken))
 
 returns-3 : tie.Need-returns-3
 unfolding wellFormed both
-returns-3 c = c .in-order .ensures ∙ simp (eq-eqb _ _ (c .before .before .before .if1 .left), sym (c .before .before .rows-pass .ensures) ∙ not-false (c .before .before .rows-pass .result) (c .before .if2 .left))
+returns-3 c = c .in-order .ensures ∙ simp (eq-eqb _ _ (c .before .before .before .if1 .left), sym (c .before .before .all-pass .ensures) ∙ not-false (c .before .before .all-pass .result) (c .before .if2 .left))
 
 pub well-formed-spec : {M : Type 1} → statement M
 well-formed-spec =
