@@ -1,32 +1,30 @@
 -- The block's answer and tables from its header, its layout part and its symbology part. Assumes nothing.
-use Prim.Native.Nat.{ℕ, zero, suc, _+_, _-_, _*_, _/_, _≤_, _<_}
+use Prim.Native.Nat.{ℕ, _+_, _-_, _/_, _≤_, _<_}
 use native.Mathlib.Omega.{arith}
-use mathlib.Core.Path.{_≡_, refl, sym, ap, ap₂, _∙_, subst}
+use mathlib.Core.Path.{_≡_, refl, sym, ap, _∙_, subst}
 use mathlib.Core.Bool.{Bool, true, false, _&&_}
-use mathlib.Core.List.{List, [], _∷_}
+use mathlib.Core.List.{List}
 use lib.ListN.{length, take, drop}
 use lib.Dec.{leb, eqb}
 use borrow.Author.Tests.{le-leb, lt-leb}
 use Rattle.codec.specs.Cases.{by-bool}
-use Rattle.codec.specs.Codec.{Res, ok, refuse, _>>=_, need, Codec, named, _then_, _on_, whole}
-use Rattle.wire.specs.Pick.{pick}
+use Rattle.codec.specs.Codec.{Res, ok, refuse, named, _then_, _on_, whole}
 use Rattle.layout.specs.Layout.{Layout}
 use Rattle.layout.specs.Rows.{rows}
 use Rattle.symbology.specs.Symbology.{Symbology}
 use Rattle.symbology.specs.SymbologyRows.{symbologyRows}
-use Rattle.symbology.specs.Lists.{symbologyOf}
 use Rattle.layout.specs.Answers.{leave}
-use Rattle.symbology.specs.Answers.{leave5}
-use Rattle.block.specs.Block.{Header, Block, v1, v2, v4, lengths, isVersion, header, widthOf, layoutPart, symbologyPart, toBlock, block, blockOf}
+use Rattle.symbology.specs.ReadLaws.{Was, fives-read, fives-short, fives-no}
+use Rattle.symbology.specs.declared.Listed.{Listed}
+use Rattle.symbology.specs.declared.Listed.the-variants as Listed'
+use Rattle.block.specs.Block.{Header, Block, lengths, header, widthOf, layoutPart, symbologyPart, toBlock, block, blockOf}
 use Rattle.block.specs.Fields.{fieldsWith, fieldsOf}
-use Rattle.block.specs.Read.{fives, nines, roomy, blockAnswer, blockSymbology, blockLayout, Promise}
-use Rattle.block.specs.Steps.{Fixed, faultOf, OfHeader, Headed, leaveIf, Layout-read, Lays, lays, lays-no, Symbology-read, Lists, lists, lists-no, Does}
+use Rattle.block.specs.Read.{fives, nines, roomy, over, blockAnswer, blockSymbology, blockLayout, Promise}
+use Rattle.block.specs.Steps.{Fixed, faultOf, OfHeader, Headed, leaveIf, Layout-read, Lays, lays, lays-no, Lists, Does}
 use Rattle.block.specs.declared.MetadataLengths.{MetadataLengths}
 use Rattle.block.specs.declared.Fields.{Fields}
 use Rattle.block.specs.declared.Laid.{Laid}
 use Rattle.block.specs.declared.Laid.the-variants as Laid'
-use Rattle.block.specs.declared.Listing.{Listing}
-use Rattle.block.specs.declared.Listing.the-variants as Listing'
 use Rattle.block.specs.declared.BlockAnswer.{BlockAnswer}
 use Rattle.block.specs.declared.BlockAnswer.the-variants.{Read, Refused, Short}
 use Rattle.block.proofs.HeaderLaws.{headerAt, header-got}
@@ -45,18 +43,6 @@ lays-bad {has} {sheet} {w} {b} {k = k} h q = go (rw q at h)
     go : Lays has sheet w b (Laid'.Refused k) → layoutPart has sheet w .parse 0 b 100 ≡ refuse k
     go (lays-no x) = x
 
-pub lists-at : {has : Bool} {w at : ℕ} {b : List ℕ} {r : Listing} {n p e : ℕ} → Lists has w b at r → r ≡ Listing'.Accepted n p e → Symbology-read has w b at n p e
-lists-at {has} {w} {at} {b} {n = n} {p} {e} h q = go (rw q at h)
-  where
-    go : Lists has w b at (Listing'.Accepted n p e) → Symbology-read has w b at n p e
-    go (lists x) = x
-
-pub lists-bad : {has : Bool} {w at : ℕ} {b : List ℕ} {r : Listing} {k : ℕ} → Lists has w b at r → r ≡ Listing'.Refused k → symbologyPart has w .parse 0 b at ≡ refuse k
-lists-bad {has} {w} {at} {b} {k = k} h q = go (rw q at h)
-  where
-    go : Lists has w b at (Listing'.Refused k) → symbologyPart has w .parse 0 b at ≡ refuse k
-    go (lists-no x) = x
-
 -- ---- answers from what was read
 
 module _ (v : MetadataLengths) {z : Res (Block × List ℕ)} (s l : List ℕ) where
@@ -67,22 +53,9 @@ module _ (v : MetadataLengths) {z : Res (Block × List ℕ)} (s l : List ℕ) wh
     does-short : roomy (x .0) (length s) (length l) ≡ false → Does v z s l (Short (length (fives (x .0))) (length (nines (x .0)))) s l
     does-short q = record { answer = rw (e, q); symbology = rw (e, q); layout = rw (e, q) }
 
-    not-both : (a b : Bool) → b ≡ false → (a && b) ≡ false
-    not-both true b q = q
-    not-both false b q = refl
-
-    pub does-short5 : length s / 5 < length (fives (x .0)) → Does v z s l (Short (length (fives (x .0))) (length (nines (x .0)))) s l
-    does-short5 h = does-short (rw (lt-leb (length (fives (x .0))) (length s / 5) h))
-
-    pub does-short9 : length l / 9 < length (nines (x .0)) → Does v z s l (Short (length (fives (x .0))) (length (nines (x .0)))) s l
-    does-short9 h = does-short (not-both (leb (length (fives (x .0))) (length s / 5)) (leb (length (nines (x .0))) (length l / 9)) (lt-leb (length (nines (x .0))) (length l / 9) h))
-
-    pub does-read : {s′ l′ : List ℕ} {f : Fields} → length (fives (x .0)) ≤ length s / 5 → length (nines (x .0)) ≤ length l / 9
-        → s′ ≡ leave5 s (ok (x .0 .symbology) 0) → l′ ≡ leave l (ok (x .0 .layout) 0) → f ≡ fieldsOf v (x .0) → Does v z s l (Read f) s′ l′
-    does-read h5 h9 es el ef =
-        let q5 = le-leb (length (fives (x .0))) (length s / 5) h5 in
-        let q9 = le-leb (length (nines (x .0))) (length l / 9) h9 in
-        record { answer = rw (e, q5, q9, ef); symbology = es ∙ rw (e, q5, q9); layout = el ∙ rw (e, q5, q9) }
+    does-read : {s′ l′ : List ℕ} {f : Fields} → roomy (x .0) (length s) (length l) ≡ true → leb (length (nines (x .0))) (length l / 9) ≡ true
+        → s′ ≡ over (fives (x .0)) 5 s → l′ ≡ leave l (ok (x .0 .layout) 0) → f ≡ fieldsOf v (x .0) → Does v z s l (Read f) s′ l′
+    does-read q q9 es el ef = record { answer = rw (e, q, ef); symbology = es ∙ rw (e, q); layout = el ∙ rw (e, q, q9) }
 
 -- ---- the whole from its parts
 
@@ -113,32 +86,52 @@ module _ (sheet : List ℕ) (v : MetadataLengths) (b : List ℕ) (w : ℕ) (s l 
   pub body-no : {k : ℕ} → layoutPart (v .«has_layout») sheet w .parse 0 b 100 ≡ refuse k → Does v (whole (block sheet v) 0 b) s l (Refused k) s l
   body-no el = does-no v s l (whole-no sheet v b H w eh (hd .width-is H 100 eh) el)
 
-  module _ {n9 ver at : ℕ} (L : Layout-read (v .«has_layout») sheet w b ver n9 at) where
-    pub body-bad : {k : ℕ} → symbologyPart (v .«has_layout») w .parse 0 b at ≡ refuse k → Does v (whole (block sheet v) 0 b) s l (Refused k) s l
-    body-bad es = does-no v s l (whole-bad sheet v b H w eh (hd .width-is H 100 eh) (L .is) es)
+  module _ {n9 ver at : ℕ} (L : Layout-read (v .«has_layout») sheet w b ver n9 at)
+      {ready : Bool} {s′ : List ℕ} {r : Listed} (S : Lists (v .«has_layout») ready w b at s s′ r) where
+    pub body-bad : {k : ℕ} → r ≡ Listed'.Refused k → Does v (whole (block sheet v) 0 b) s l (Refused k) s′ l
+    body-bad {k} q =
+        let (e, es) = fives-no (S .fives) q in
+        rw es (does-no v s l (whole-bad sheet v b H w eh (hd .width-is H 100 eh) (L .is) (S .is ∙ rw e)))
 
-    module _ {n5 p e : ℕ} (S : Symbology-read (v .«has_layout») w b at n5 p e) where
-      is : whole (block sheet v) 0 b ≡ ok (toBlock (H, (L .tree, S .tree)), drop (S .next) b) (length b)
-      is = whole-ok sheet v b H w eh (hd .width-is H 100 eh) (L .is) (S .is)
+    -- the layout table was asked first
+    module _ (er : ready ≡ leb n9 (length l / 9)) where
+      module _ {written : Bool} {n5 : ℕ} (W : Was written ready (S .part) s s′ n5) where
+        abbrev read : Block
+        read = toBlock (H, (L .tree, W .tree))
 
-      counts : Does v (whole (block sheet v) 0 b) s l (Short (length (symbologyRows (S .tree))) (length (rows (L .tree)))) s l → Does v (whole (block sheet v) 0 b) s l (Short n5 n9) s l
-      counts d = subst (λ (n : ℕ). Does v (whole (block sheet v) 0 b) s l (Short n5 n) s l) (L .many)
-          (subst (λ (m : ℕ). Does v (whole (block sheet v) 0 b) s l (Short m (length (rows (L .tree)))) s l) (S .many) d)
+        is : whole (block sheet v) 0 b ≡ ok (read, drop (S .end (W .next)) b) (length b)
+        is = whole-ok sheet v b H w eh (hd .width-is H 100 eh) {j = S .end (W .next)} (L .is) (S .is ∙ rw (W .is))
 
-      pub body-short5 : length s / 5 < n5 → Does v (whole (block sheet v) 0 b) s l (Short n5 n9) s l
-      body-short5 h = counts (does-short5 v s l is (omega (arith, h, S .many)))
+        room9 : ready ≡ leb (length (rows (L .tree))) (length l / 9)
+        room9 = rw (L .many) er
 
-      pub body-short9 : length l / 9 < n9 → Does v (whole (block sheet v) 0 b) s l (Short n5 n9) s l
-      body-short9 h = counts (does-short9 v s l is (omega (arith, h, L .many)))
+        room : roomy read (length s) (length l) ≡ written
+        room = swap (leb (length (symbologyRows (W .tree))) (length s / 5)) _ ∙ rw (← room9) (W .room)
+          where
+            swap : (x y : Bool) → (x && y) ≡ (y && x)
+            swap true true = refl
+            swap true false = refl
+            swap false true = refl
+            swap false false = refl
 
-      pub body-read : {s′ l′ : List ℕ} {F : Fields} → n5 ≤ length s / 5 → n9 ≤ length l / 9 → s′ ≡ leave5 s (symbologyOf w p (take (e - p) (drop p b)))
-          → l′ ≡ leaveIf (v .«has_layout») (take (at - 104) (drop 104 b)) l → OfHeader v b (λ h. F ≡ fieldsWith v h ver n5 n9)
-          → Does v (whole (block sheet v) 0 b) s l (Read F) s′ l′
-      unfolding fieldsOf
-      body-read {s′} {l′} {F} h5 h9 es el ef =
-          let x : Block = toBlock (H, (L .tree, S .tree)) in
-          let q : F ≡ fieldsOf v x = ef H 100 eh ∙ rw (← S .many, ← L .many, ← L .version) in
-          does-read v s l is (omega (arith, h5, S .many)) (omega (arith, h9, L .many)) (es ∙ ap (leave5 s) (S .bytes)) (el ∙ L .leaves l) q
+        fields-is : {F : Fields} → OfHeader v b (λ h. F ≡ fieldsWith v h ver n5 n9) → F ≡ fieldsOf v read
+        unfolding fieldsOf
+        fields-is ef = ef H 100 eh ∙ rw (← W .many, ← L .many, ← L .version)
+
+      pub body-short : {n5 : ℕ} → r ≡ Listed'.Short n5 → Does v (whole (block sheet v) 0 b) s l (Short n5 n9) s′ l
+      body-short {n5} q =
+          let W = fives-short (S .fives) q in
+          rw (W .leaves, ← W .many, ← L .many) (does-short v s l (is W) (room W))
+
+      pub body-read : {n5 j : ℕ} {l′ : List ℕ} {F : Fields} → r ≡ Listed'.Read n5 j → l′ ≡ leaveIf (v .«has_layout») (take (at - 104) (drop 104 b)) l
+          → OfHeader v b (λ h. F ≡ fieldsWith v h ver n5 n9) → Does v (whole (block sheet v) 0 b) s l (Read F) s′ l′
+      body-read q el ef =
+          let W = fives-read (S .fives) q in
+          does-read v s l (is W) (room W) (sym (room9 W) ∙ first ready _ (W .room)) (W .leaves) (el ∙ L .leaves l) (fields-is W ef)
+        where
+          first : (x y : Bool) → (x && y) ≡ true → x ≡ true
+          first true y e = refl
+          first false y e = e
 
 -- ---- from the version on
 

@@ -1,14 +1,14 @@
 -- The layout part and the symbology part from the bytes that a u32 length announces. Assumes nothing.
-use Prim.Native.Nat.{ℕ, zero, suc, _+_, _-_, _*_, _/_, _≤_, _<_, zero-le}
-use native.Mathlib.Nat.{zero-add, add-zero}
+use Prim.Native.Nat.{ℕ, _+_, _-_, _/_, _≤_, _<_, zero-le}
+use native.Mathlib.Nat.{zero-add}
 use native.Mathlib.Omega.{arith}
 use mathlib.Core.Path.{_≡_, refl, sym, ap, ap₂, _∙_, subst}
 use mathlib.Core.Bool.{Bool, true, false}
 use mathlib.Core.List.{List, [], _∷_}
-use lib.ListN.{length, getD, take, drop, length-take, length-drop}
+use lib.ListN.{length, take, drop, length-take, length-drop}
 use lib.Seq.{take-all}
-use lib.Dec.{leb, ltb, eqb}
-use borrow.Author.Tests.{le-leb, lt-leb, lt-ltb}
+use lib.Dec.{leb, eqb}
+use borrow.Author.Tests.{le-leb, lt-ltb}
 use Rattle.codec.specs.Cases.{by-bool}
 use Rattle.codec.specs.Codec.{Res, ok, refuse, _>>=_, need, Codec, raw, num, value, sized, named, checked, judged, some, whole, boxed, isNil, full}
 use Rattle.codec.specs.Laws.{bind-ok}
@@ -18,27 +18,23 @@ use Rattle.text.specs.Utf8.{utf8}
 use Rattle.text.specs.Date.{isDate}
 use Rattle.layout.specs.Layout.{Layout, Parts, parts, toLayout, fromLayout}
 use Rattle.layout.specs.Given.{D, layoutOf}
-use Rattle.layout.specs.Rows.{rows}
 use Rattle.symbology.specs.Symbology.{Symbology, symbology}
-use Rattle.symbology.specs.SymbologyRows.{symbologyRows}
-use Rattle.symbology.specs.Lists.{symbologyOf}
+use Rattle.symbology.specs.Lists.{sectionOf}
 use Rattle.layout.specs.Answers.{leave, verdict}
-use Rattle.symbology.specs.Answers.{found}
+use Rattle.symbology.specs.Answers.{Fives}
 use Rattle.layout.specs.ReadLaws.{layout-whole, no-rows}
-use Rattle.symbology.specs.ReadLaws.{symbology-parse}
-use Rattle.layout.specs.declared.Verdict.{Verdict}
+use Rattle.symbology.specs.ReadLaws.{section-parse, rest-parse, fives-refused}
 use Rattle.layout.specs.declared.Verdict.the-variants as Verdict'
-use Rattle.symbology.specs.declared.Found.{Found}
-use Rattle.symbology.specs.declared.Found.the-variants as Found'
+use Rattle.symbology.specs.declared.Listed.{Listed}
+use Rattle.symbology.specs.declared.Listed.the-variants as Listed'
 use Rattle.rules.specs.Rules.{rulesOf, ruledOf, ruled-is}
 use Rattle.block.specs.Block.{noItems, layoutPart, symbologyPart}
-use Rattle.block.specs.Steps.{spanOf, spanAt, Within, within, outside, sectionAt, leaveIf, Layout-read, Lays, lays, lays-no, Symbology-read, Lists, lists, lists-no}
+use Rattle.block.specs.Steps.{spanOf, spanAt, Within, within, outside, sectionAt, leaveIf, Lays, lays, lays-no, Lists}
 use Rattle.block.proofs.RuledLaws.{verdict-ok, verdict-no, ruled-layout}
 use Rattle.block.specs.declared.Span.{Span}
 use Rattle.block.specs.declared.Span.the-variants.{Part}
 use Rattle.block.specs.declared.Span.the-variants as Span'
 use Rattle.block.specs.declared.Laid.the-variants as Laid'
-use Rattle.block.specs.declared.Listing.the-variants as Listing'
 
 -- ---- spans
 
@@ -267,96 +263,49 @@ module _ (sheet : List ℕ) (width : ℕ) (b : List ℕ) where
 
 -- ---- the symbology part
 
-nil-drop : (l : List ℕ) (j : ℕ) → length l ≤ j → isNil (drop j l) ≡ true
-nil-drop l j h = go (drop j l) (length-drop j l ∙ omega arith)
-  where
-    go : (m : List ℕ) → length m ≡ 0 → isNil m ≡ true
-    go [] e = refl
-    go (x ∷ m) e = absurd (omega arith)
-
-nil-more : (l : List ℕ) (j : ℕ) → j < length l → isNil (drop j l) ≡ false
-nil-more l j h = nil-not (drop j l) (simp length-drop (omega arith))
-
-found-ok : (r : Res Symbology) {n j : ℕ} → Found'.Accepted n j ≡ found r → (t : Symbology) × (r ≡ ok t j) × (length (symbologyRows t) ≡ n)
-found-ok (ok t i) {n} {j} e = let z : i ≡ j = cc in (t, ap (λ (m : ℕ). ok t m) z, (let y : length (symbologyRows t) ≡ n = cc in y))
-found-ok (refuse k) e = absurd (let z : _≡_ {A = ℕ} 0 1 = cc in omega arith)
-
-found-no : (r : Res Symbology) {k : ℕ} → Found'.Refused k ≡ found r → r ≡ refuse k
-found-no (ok t j) e = absurd (let z : _≡_ {A = ℕ} 0 1 = cc in omega arith)
-found-no (refuse j) {k} e = let z : j ≡ k = cc in ap (λ (m : ℕ). refuse m) z
-
 module _ (width : ℕ) (b : List ℕ) (at : ℕ) where
-  pub lists-span : (has : Bool) {k : ℕ} → sectionAt has b at ≡ Span'.Refused k → Lists has width b at (Listing'.Refused k)
+  pub lists-span : (has : Bool) {ready : Bool} {t : List ℕ} {k : ℕ} → sectionAt has b at ≡ Span'.Refused k → Lists has ready width b at t t (Listed'.Refused k)
   unfolding symbologyPart full
-  lists-span has {k} e = go has e
-    where
-      go : (has : Bool) → sectionAt has b at ≡ Span'.Refused k → Lists has width b at (Listing'.Refused k)
-      go true e = lists-no {k = k} (rw (box-no 27 (λ p. p) (symbology utf8 isDate width .each) (symbology utf8 isDate width) b at e))
-      go false e = absurd (let z : _≡_ {A = ℕ} 0 1 = cc in omega arith)
+  lists-span true {k = k} e = record { part = refuse k; end = λ j. j; is = rw (box-no 27 (λ p. p) (symbology utf8 isDate width .each) (symbology utf8 isDate width) b at e); fives = fives-refused }
+  lists-span false e = absurd (let z : _≡_ {A = ℕ} 0 1 = cc in omega arith)
 
   module _ (small : length b ≤ 4294967295) where
-    list-section : {p n : ℕ} → Spanned 27 b at p n → p + n ≤ length b
-        → symbologyPart true width .parse 0 b at ≡ (symbologyOf width p (take n (drop p b)) >>= λ t j. need (isNil (drop j (take n (drop p b)))) 28 (p + n) >>= λ _ m. ok t m)
+    list-section : {p n : ℕ} → Spanned 27 b at p n → p + n ≤ length b → symbologyPart true width .parse 0 b at ≡ (sectionOf true width p (take n (drop p b)) >>= λ x _. ok x (p + n))
     unfolding symbologyPart full whole
     list-section {p} {n} s h =
         let part : List ℕ = take n (drop p b) in
         let l : length part ≡ n = simp (length-take, length-drop) (omega arith) in
-        rw (box-ok 27 (λ p. p) (symbology utf8 isDate width .each) (symbology utf8 isDate width) b at s, zero-add p, symbology-parse width p part (omega arith))
+        rw (box-ok 27 (λ p. p) (symbology utf8 isDate width .each) (symbology utf8 isDate width) b at s, zero-add p, section-parse width p part (omega arith))
         (go part (symbology utf8 isDate width .parse p part 0))
       where
+        by : (x : Symbology) (j : ℕ) (y : Bool) → (need y 28 (p + n) >>= λ _ m. ok x m) ≡ ((need y 28 j >>= λ _ m. ok x m) >>= λ x _. ok x (p + n))
+        by x j true = refl
+        by x j false = refl
+
         go : (part : List ℕ) (r : Res Symbology)
             → ((_>>=_ {B = Symbology × List ℕ} (_>>=_ {B = Symbology × List ℕ} r λ x j. ok (x, drop j part) (length part)) λ z _. ok z (p + n)) >>= λ z j. need (isNil (z .1)) 28 j >>= λ _ j. ok (z .0) j)
-            ≡ (r >>= λ t j. need (isNil (drop j part)) 28 (p + n) >>= λ _ m. ok t m)
-        go part (ok t j) = refl
+            ≡ ((r >>= λ x j. need (isNil (drop j part)) 28 j >>= λ _ m. ok x m) >>= λ x _. ok x (p + n))
+        go part (ok x j) = by x j (isNil (drop j part))
         go part (refuse k) = refl
 
-    list-rest : at ≤ length b → symbologyPart false width .parse 0 b at ≡ (symbologyOf width at (drop at b) >>= λ t j. ok t (at + j))
+    list-rest : at ≤ length b → symbologyPart false width .parse 0 b at ≡ (sectionOf false width at (drop at b) >>= λ x j. ok x (at + j))
     unfolding symbologyPart remainder
-    list-rest h = rw (zero-add at, symbology-parse width at (drop at b) (simp length-drop (omega arith)))
+    list-rest h = rw (zero-add at, rest-parse width at (drop at b) (simp length-drop (omega arith)))
 
-    -- one law for both: the bytes from p up to p + n, and 28 where they are a section
+    -- one law for both: the bytes from p up to p + n
     module _ (has : Bool) {p n : ℕ} (e : sectionAt has b at ≡ Part p n) (w : (at ≤ p) × (p + n ≤ length b)) where
-      abbrev bytes : List ℕ
-      bytes = take n (drop p b)
+      section-is : has ≡ true → symbologyPart has width .parse 0 b at ≡ (sectionOf has width p (take (p + n - p) (drop p b)) >>= λ x _. ok x (p + n))
+      section-is y = rw (y, slice p n b) (list-section (spanned 27 b at (rw y at e) (w .1)) (w .1))
 
-      size′ : length bytes ≡ n
-      size′ = simp (length-take, length-drop) (omega (arith, w .1))
-
-      section-is : has ≡ true → symbologyPart has width .parse 0 b at ≡ (symbologyOf width p bytes >>= λ t j. need (isNil (drop j bytes)) 28 (p + n) >>= λ _ m. ok t m)
-      section-is t = rw t (list-section (spanned 27 b at (rw t at e) (w .1)) (w .1))
-
-      rest-is : has ≡ false → symbologyPart has width .parse 0 b at ≡ (symbologyOf width p bytes >>= λ t j. ok t (at + j))
-      rest-is t =
-          let q : Part at (length b - at) ≡ Part p n = (rw t at e) in
+      rest-is : has ≡ false → symbologyPart has width .parse 0 b at ≡ (sectionOf has width p (take (p + n - p) (drop p b)) >>= λ x j. ok x (at + j))
+      rest-is y =
+          let q : Part at (length b - at) ≡ Part p n = (rw y at e) in
           let ap′ : at ≡ p = cc in
           let an : length b - at ≡ n = cc in
           let l : length (drop at b) ≡ n = length-drop at b ∙ an in
-          rw (t, ← ap′, take-all n (drop at b) (omega (arith, l))) (list-rest (omega (arith, w .0, w .1)))
+          rw (y, slice p n b, ← ap′, take-all n (drop at b) (omega (arith, l))) (list-rest (omega (arith, w .0, w .1)))
 
-      pub lists-bad : {k : ℕ} → Found'.Refused k ≡ found (symbologyOf width p (take (p + n - p) (drop p b))) → Lists has width b at (Listing'.Refused k)
-      lists-bad q = by-bool has
-          (λ t. lists-no (section-is t ∙ rw (found-no (symbologyOf width p bytes) (rw (slice p n b) at q))))
-          (λ t. lists-no (rest-is t ∙ rw (found-no (symbologyOf width p bytes) (rw (slice p n b) at q))))
-
-      module _ {m j : ℕ} (q : Found'.Accepted m j ≡ found (symbologyOf width p (take (p + n - p) (drop p b)))) where
-        pub lists-28 : has ≡ true → j < n → Lists has width b at (Listing'.Refused 28)
-        lists-28 t h =
-            let (x, ex, em) = found-ok (symbologyOf width p bytes) (rw (slice p n b) at q) in
-            lists-no {k = 28} (section-is t ∙ rw (ex, nil-more bytes j (omega (arith, size′))))
-
-        accepted : (i : ℕ) (x : Symbology) → symbologyOf width p bytes ≡ ok x j → length (symbologyRows x) ≡ m → symbologyPart has width .parse 0 b at ≡ ok x i → Lists has width b at (Listing'.Accepted m p (p + n))
-        accepted i x ex em is =
-            let z : p + n - p ≡ n = omega arith in
-            lists {n = m} {p = p} {e = p + n} (record { tree = x; next = i; stop = j; is = is; bytes = rw z ex; from = omega arith; to = w .1; many = em })
-
-        full-is : has ≡ true → n ≤ j → (x : Symbology) → symbologyOf width p bytes ≡ ok x j → symbologyPart has width .parse 0 b at ≡ ok x (p + n)
-        full-is t h x ex = section-is t ∙ rw (ex, nil-drop bytes j (omega (arith, size′)))
-
-        pub lists-full : has ≡ true → n ≤ j → Lists has width b at (Listing'.Accepted m p (p + n))
-        lists-full t h = let (x, ex, em) = found-ok (symbologyOf width p bytes) (rw (slice p n b) at q) in accepted (p + n) x ex em (full-is t h x ex)
-
-        over-is : has ≡ false → (x : Symbology) → symbologyOf width p bytes ≡ ok x j → symbologyPart has width .parse 0 b at ≡ ok x (at + j)
-        over-is t x ex = rest-is t ∙ rw ex
-
-        pub lists-rest : has ≡ false → Lists has width b at (Listing'.Accepted m p (p + n))
-        lists-rest t = let (x, ex, em) = found-ok (symbologyOf width p bytes) (rw (slice p n b) at q) in accepted (at + j) x ex em (over-is t x ex)
+      pub lists-part : {ready : Bool} {t t′ : List ℕ} {r : Listed} → Fives ready (sectionOf has width p (take (p + n - p) (drop p b))) t t′ r → Lists has ready width b at t t′ r
+      lists-part f = by-bool has
+          (λ y. record { part = sectionOf has width p (take (p + n - p) (drop p b)); end = λ _. p + n; is = section-is y; fives = f })
+          (λ y. record { part = sectionOf has width p (take (p + n - p) (drop p b)); end = λ j. at + j; is = rest-is y; fives = f })

@@ -10,11 +10,10 @@ use Rattle.layout.specs.Layout.{Layout}
 use Rattle.layout.specs.Rows.{rows}
 use Rattle.layout.specs.Given.{layoutOf}
 use Rattle.symbology.specs.Symbology.{Symbology}
-use Rattle.symbology.specs.SymbologyRows.{symbologyRows}
-use Rattle.symbology.specs.Lists.{symbologyOf}
+use Rattle.symbology.specs.Answers.{Fives}
+use Rattle.symbology.specs.declared.Listed.{Listed}
 use Rattle.layout.specs.Answers.{leave}
-use Rattle.block.specs.Block.{Header, Block, header, widthOf, layoutPart, symbologyPart, block}
-use Rattle.block.specs.Fields.{fieldsWith}
+use Rattle.block.specs.Block.{Header, Block, header, widthOf, layoutPart, symbologyPart}
 use Rattle.block.specs.Read.{answerOf, symbologyAfter, layoutAfter}
 use Rattle.block.specs.declared.MetadataLengths.{MetadataLengths}
 use Rattle.block.specs.declared.Fields.{Fields}
@@ -23,8 +22,6 @@ use Rattle.block.specs.declared.Span.the-variants.{Part}
 use Rattle.block.specs.declared.Span.the-variants as Span'
 use Rattle.block.specs.declared.Laid.{Laid}
 use Rattle.block.specs.declared.Laid.the-variants as Laid'
-use Rattle.block.specs.declared.Listing.{Listing}
-use Rattle.block.specs.declared.Listing.the-variants as Listing'
 use Rattle.block.specs.declared.BlockAnswer.{BlockAnswer}
 
 -- a version's header is 100 bytes, and the block has these and no more than fit
@@ -85,20 +82,12 @@ pub data Lays (has : Bool) (sheet : List ℕ) (width : ℕ) (b : List ℕ) : Lai
   lays : {v n e : ℕ} → Layout-read has sheet width b v n e → Lays has sheet width b (Laid'.Accepted v n e)
   lays-no : {k : ℕ} → layoutPart has sheet width .parse 0 b 100 ≡ refuse k → Lays has sheet width b (Laid'.Refused k)
 
--- the symbology part that was read: its bytes are those from p up to e
-pub record Symbology-read (has : Bool) (width : ℕ) (b : List ℕ) (at n p e : ℕ) : Type 0 where
-  pub tree : Symbology
-  pub next : ℕ
-  pub stop : ℕ
-  pub is : symbologyPart has width .parse 0 b at ≡ ok tree next
-  pub bytes : symbologyOf width p (take (e - p) (drop p b)) ≡ ok tree stop
-  pub from : p ≤ e
-  pub to : e ≤ length b
-  pub many : length (symbologyRows tree) ≡ n
-
-pub data Lists (has : Bool) (width : ℕ) (b : List ℕ) (at : ℕ) : Listing → Type 0 where
-  lists : {n p e : ℕ} → Symbology-read has width b at n p e → Lists has width b at (Listing'.Accepted n p e)
-  lists-no : {k : ℕ} → symbologyPart has width .parse 0 b at ≡ refuse k → Lists has width b at (Listing'.Refused k)
+-- what reading the symbology part into the table t answers and leaves; `part` is what its bytes are read as
+pub record Lists (has ready : Bool) (width : ℕ) (b : List ℕ) (at : ℕ) (t t′ : List ℕ) (r : Listed) : Type 0 where
+  pub part : Res Symbology
+  pub end : ℕ → ℕ
+  pub is : symbologyPart has width .parse 0 b at ≡ (part >>= λ x j. ok x (end j))
+  pub fives : Fives ready part t t′ r
 
 -- the answer and the tables after reading z
 pub record Does (v : MetadataLengths) (z : Res (Block × List ℕ)) (s l : List ℕ) (r : BlockAnswer) (s′ l′ : List ℕ) : Type 0 where

@@ -66,16 +66,6 @@ enum Laid {
     Refused(u32),
 }
 
-// The symbology part: its rows and its bytes in the block; or the refusal.
-enum Listing {
-    Accepted {
-        rows: usize,
-        start: usize,
-        end: usize,
-    },
-    Refused(u32),
-}
-
 // A block given whole with its version: 11, 13, the block, then 3. The tables are written only where all is accepted and both
 // are long enough; rows past the last stay as they were.
 pub fn read_block(
@@ -173,31 +163,23 @@ fn read_body(
             version,
             rows: nines,
             end: at,
-        } => match parts::symbology_part(block, at, has_layout, width) {
-            Listing::Accepted {
-                rows: fives,
-                start,
-                end,
-            } => {
-                if symbology.len() / 5 < fives {
-                    return BlockAnswer::Short {
-                        symbology: fives,
-                        layout: nines,
-                    };
+        } => {
+            let ready = nines <= layout.len() / 9;
+            match parts::symbology_part(block, at, has_layout, width, ready, symbology) {
+                symbology::Listed::Read {
+                    rows: fives,
+                    next: _,
+                } => {
+                    parts::put_layout(block, has_layout, at, layout);
+                    BlockAnswer::Read(header::fields_of(block, v, version, fives, nines))
                 }
-                if layout.len() / 9 < nines {
-                    return BlockAnswer::Short {
-                        symbology: fives,
-                        layout: nines,
-                    };
-                }
-                let part = &block[start..end];
-                symbology::read_symbology_rows(part, start, width, symbology);
-                parts::put_layout(block, has_layout, at, layout);
-                BlockAnswer::Read(header::fields_of(block, v, version, fives, nines))
+                symbology::Listed::Short(fives) => BlockAnswer::Short {
+                    symbology: fives,
+                    layout: nines,
+                },
+                symbology::Listed::Refused(why) => BlockAnswer::Refused(why),
             }
-            Listing::Refused(why) => BlockAnswer::Refused(why),
-        },
+        }
         Laid::Refused(why) => BlockAnswer::Refused(why),
     }
 }

@@ -1,8 +1,8 @@
 // What follows the header: the layout part and the symbology part.
 use super::Laid;
-use super::Listing;
 use super::Span;
 use super::header;
+use symbology::Listed;
 ghost use mathlib.Core.Path.{_≡_};
 ghost use Prim.Native.Nat.{_+_, _-_, _≤_};
 ghost use lib.ListN.{length, take, drop};
@@ -42,28 +42,25 @@ pub(crate) fn layout_part(block: &[u8], has_layout: bool, width: u16, sheet: &[u
     }
 }
 
-// The symbology part from `at` on. In version 4 the contents span the section.
-pub(crate) fn symbology_part(block: &[u8], at: usize, has_layout: bool, width: u16) -> Listing
+// The symbology part from `at` on, its rows in the table where `ready` holds. In version 4 the contents span the section.
+pub(crate) fn symbology_part(
+    block: &[u8],
+    at: usize,
+    has_layout: bool,
+    width: u16,
+    ready: bool,
+    table: &mut [u32],
+) -> Listed
     requires { ⌜ (at ≤ length (now block)) × (length (now block) ≤ 4294967295) ⌝ }
-    ensures { λ r. ⌜ Lists «has_layout» width (now (block .entry)) at r ⌝ }
+    ensures { λ r. ⌜ Lists «has_layout» ready width (now (block .entry)) at (now (table .entry)) (now (table .exit)) r ⌝ }
 {
     match section_at(block, at, has_layout) {
         Span::Part { start, len } => {
             let end = start + len;
             let part = &block[start..end];
-            match symbology::symbology_verdict(part, start, width) {
-                symbology::Found::Accepted { rows, next } => {
-                    if has_layout {
-                        if next < len {
-                            return Listing::Refused(refusal::SYMBOLOGY_NOT_SPANNED);
-                        }
-                    }
-                    Listing::Accepted { rows, start, end }
-                }
-                symbology::Found::Refused(why) => Listing::Refused(why),
-            }
+            symbology::read_section_rows(part, start, width, has_layout, ready, table)
         }
-        Span::Refused(why) => Listing::Refused(why),
+        Span::Refused(why) => Listed::Refused(why),
     }
 }
 

@@ -2,6 +2,7 @@
 -- Assumes nothing.
 use Prim.Native.Nat.{ℕ, _*_, _/_}
 use mathlib.Core.Path.{_≡_}
+use mathlib.Core.Bool.{Bool, true, _&&_}
 use mathlib.Core.List.{List, _++_}
 use lib.ListN.{length, drop}
 use lib.Dec.{leb}
@@ -21,17 +22,29 @@ abbrev pub found : Res Symbology → Found
 found (ok t j) = Found'.Accepted (length (symbologyRows t)) j
 found (refuse k) = Found'.Refused k
 
--- a table of cap rows is long enough, or short
-abbrev pub judge5 : ℕ → Res Symbology → Listed
-judge5 cap (ok t j) = pick (leb (length (symbologyRows t)) cap) (Listed'.Read (length (symbologyRows t)) j) (Listed'.Short (length (symbologyRows t)))
-judge5 cap (refuse k) = Listed'.Refused k
+-- the rows are to be written (`ready`) and a table of cap rows is long enough; or it is short
+abbrev pub judgeIf : Bool → ℕ → Res Symbology → Listed
+judgeIf ready cap (ok t j) = pick (ready && leb (length (symbologyRows t)) cap) (Listed'.Read (length (symbologyRows t)) j) (Listed'.Short (length (symbologyRows t)))
+judgeIf ready cap (refuse k) = Listed'.Refused k
 
--- the rows stand at the front of the table, and the rest of it is as it was
+-- then the rows stand at the front of the table, and the rest of it is as it was
+abbrev pub leaveIf : Bool → List ℕ → Res Symbology → List ℕ
+leaveIf ready t (ok l j) = pick (ready && leb (length (symbologyRows l)) (length t / 5)) (flat (symbologyRows l) ++ drop (5 * length (symbologyRows l)) t) t
+leaveIf ready t (refuse k) = t
+
+-- the same of rows that are to be written
+abbrev pub judge5 : ℕ → Res Symbology → Listed
+judge5 cap z = judgeIf true cap z
+
 abbrev pub leave5 : List ℕ → Res Symbology → List ℕ
-leave5 t (ok l j) = pick (leb (length (symbologyRows l)) (length t / 5)) (flat (symbologyRows l) ++ drop (5 * length (symbologyRows l)) t) t
-leave5 t (refuse k) = t
+leave5 t z = leaveIf true t z
 
 -- what reading the symbology s at byte `base` of a block into the table t answers and leaves
 pub record Lists (width base : ℕ) (s t t′ : List ℕ) (r : Listed) : Type 0 where
   pub is : r ≡ judge5 (length t / 5) (symbologyOf width base s)
   pub leaves : t′ ≡ leave5 t (symbologyOf width base s)
+
+-- what reading z into the table t answers and leaves, where the rows are to be written only if `ready` holds
+pub record Fives (ready : Bool) (z : Res Symbology) (t t′ : List ℕ) (r : Listed) : Type 0 where
+  pub is : r ≡ judgeIf ready (length t / 5) z
+  pub leaves : t′ ≡ leaveIf ready t z

@@ -2,11 +2,11 @@
 -- Assumes nothing.
 use Prim.Native.Nat.{ℕ, _+_, _/_}
 use mathlib.Core.List.{List, map}
-use mathlib.Core.Bool.{Bool}
+use mathlib.Core.Bool.{Bool, true, false}
 use lib.Dec.{leb}
-use lib.ListN.{length}
+use lib.ListN.{length, drop}
 use Rattle.wire.specs.Pick.{pick}
-use Rattle.codec.specs.Codec.{Res, refuse, limited, timesParse, Codec}
+use Rattle.codec.specs.Codec.{Res, ok, refuse, _>>=_, need, isNil, limited, timesParse, Codec}
 use Rattle.text.specs.Utf8.{utf8}
 use Rattle.text.specs.Date.{isDate}
 use Rattle.symbology.specs.Symbology
@@ -65,3 +65,8 @@ canBe count room least = leb count (room / least)
 -- what a symbology at byte `base` of a block is read as
 unfoldable pub symbologyOf : ℕ → ℕ → List ℕ → Res Symbology.Symbology
 symbologyOf width base s = pick (leb (base + length s) 4294967295) (Symbology.symbology utf8 isDate width .parse base s 0) (refuse 13)
+
+-- the same of bytes that it is to span where `spanned` holds: 28 where some are left over
+unfoldable pub sectionOf : Bool → ℕ → ℕ → List ℕ → Res Symbology.Symbology
+sectionOf true width base s = symbologyOf width base s >>= λ t j. need (isNil (drop j s)) 28 j >>= λ _ j. ok t j
+sectionOf false width base s = symbologyOf width base s

@@ -6,8 +6,8 @@ use wire::Got;
 ghost use mathlib.Core.Path.{_≡_};
 ghost use Prim.Native.Nat.{_<_};
 ghost use Rattle.wire.specs.Out.{Room, Ran};
-ghost use Rattle.symbology.specs.Lists.{symbologyAt, symbologyOf};
-ghost use Rattle.symbology.specs.Answers.{found, Lists};
+ghost use Rattle.symbology.specs.Lists.{symbologyAt, symbologyOf, sectionOf};
+ghost use Rattle.symbology.specs.Answers.{found, Lists, Fives};
 
 // The verdict on a symbology: how many rows it has and the place after it; or the refusal.
 pub enum Found {
@@ -44,16 +44,49 @@ pub fn symbology_verdict(s: &[u8], base: usize, width: u16) -> Found
 pub fn read_symbology_rows(s: &[u8], base: usize, width: u16, table: &mut [u32]) -> Listed
     ensures { λ r. ⌜ Lists width base (now (s .entry)) (now (table .entry)) (now (table .exit)) r ⌝ }
 {
-    match symbology_verdict(s, base, width) {
+    read_section_rows(s, base, width, false, true, table)
+}
+
+// The same of a symbology that is to span s where `spanned` holds: 28 where it leaves bytes over. Where `ready` does not
+// hold, the table counts as short.
+pub fn read_section_rows(
+    s: &[u8],
+    base: usize,
+    width: u16,
+    spanned: bool,
+    ready: bool,
+    table: &mut [u32],
+) -> Listed
+    ensures { λ r. ⌜ Fives ready (sectionOf spanned width base (now (s .entry))) (now (table .entry)) (now (table .exit)) r ⌝ }
+{
+    match section_verdict(s, base, width, spanned) {
         Found::Accepted { rows, next } => {
-            if rows <= table.len() / 5 {
-                symbology(s, 0, width as usize, base, table);
-                Listed::Read { rows, next }
-            } else {
-                Listed::Short(rows)
+            if ready {
+                if rows <= table.len() / 5 {
+                    symbology(s, 0, width as usize, base, table);
+                    return Listed::Read { rows, next };
+                }
             }
+            Listed::Short(rows)
         }
         Found::Refused(why) => Listed::Refused(why),
+    }
+}
+
+// The verdict on a symbology that is to span s where `spanned` holds.
+fn section_verdict(s: &[u8], base: usize, width: u16, spanned: bool) -> Found
+    ensures { λ r. ⌜ r ≡ found (sectionOf spanned width base (now (s .entry))) ⌝ }
+{
+    match symbology_verdict(s, base, width) {
+        Found::Accepted { rows, next } => {
+            if spanned {
+                if next < s.len() {
+                    return Found::Refused(refusal::SYMBOLOGY_NOT_SPANNED);
+                }
+            }
+            Found::Accepted { rows, next }
+        }
+        Found::Refused(why) => Found::Refused(why),
     }
 }
 
