@@ -1,12 +1,13 @@
 -- The rules of one field, numbers 71 to 80 of document 01: 0 where all hold, else the number of the first that does not.
 -- Assumes nothing.
-use Prim.Native.Nat.{ℕ, _+_, _%_}
+use Prim.Native.Nat.{ℕ, _+_, _%_, _≤_, _<_}
+use native.Mathlib.Omega.{arith}
 use mathlib.Core.Path.{_≡_, refl}
 use mathlib.Core.Bool.{Bool, true, false, not, _&&_, cond}
 use mathlib.Core.List.{List}
 use lib.ListN.{length, getD}
 use lib.Dec.{leb, ltb, eqb}
-use borrow.Author.Tests.{eq-eqb, eqb-false}
+use borrow.Author.Tests.{eq-eqb, eqb-false, ltb-false}
 use Rattle.fields.specs.Sheet.{sizeOf, defOf, offOf, endOf, isPadding, isStruct, isSymbol, isDecimal, namesLabel, isExtension, pastBase, alignOf}
 
 -- the number n where the rule is broken, else what the later rules say
@@ -81,3 +82,25 @@ module _ (sheet : List ℕ) (width labels : ℕ) (aligns : List ℕ) (isRecord :
       (peel (breaks73 sheet (length aligns) labels e) 73 _ refl
       (peel (breaks72 sheet isRecord e) 72 _ refl
       (peel (breaks71 sheet seen e) 71 _ refl h)))))
+
+  low : (b : Bool) → refuse (not false && b) 80 0 ≡ 0 → b ≡ false
+  low true h = absurd (eqb-false 80 0 refl h)
+  low false h = refl
+
+  -- a field without fault that is not past the base starts below it
+  pub fault-below : (seen : Bool) (e : List ℕ) → fieldFault seen e ≡ 0 → pastBase isRecord base e ≡ false → offOf e < base
+  unfolding fieldFault breaks80
+  fault-below seen e h p =
+      let sized : sizeOf e ≡ 0 → ⊥ = fault-sized seen e h in
+      let last : refuse (not (pastBase isRecord base e) && ltb base (endOf e)) 80 0 ≡ 0 =
+      peel (breaks79 sheet isRecord base e) 79 _ refl
+      (peel (ltb 65535 (endOf e)) 78 _ refl
+      (peel (breaks77 sheet width e) 77 _ refl
+      (peel (breaks76 sheet e) 76 _ refl
+      (peel (eqb (sizeOf e) 0) 75 _ refl
+      (peel (breaks74 sheet aligns e) 74 _ refl
+      (peel (breaks73 sheet (length aligns) labels e) 73 _ refl
+      (peel (breaks72 sheet isRecord e) 72 _ refl
+      (peel (breaks71 sheet seen e) 71 _ refl h)))))))) in
+      let end : endOf e ≤ base = ltb-false base (endOf e) (low (ltb base (endOf e)) (rw p at last)) in
+      omega arith

@@ -13,13 +13,13 @@ use Rattle.codec.specs.Cases.{by-bool}
 use Rattle.marks.specs.Marks.{marked, withMark, Marks, Only, wiped}
 use Rattle.marks.specs.MarkLaws.{marks-more, only-next, only-end}
 use Rattle.fields.specs.Sheet.{idOf, offOf, sizeOf, endOf, isPadding, pastBase, memberAlign}
-use Rattle.fields.specs.Field.{differs, fieldFault, fault-sized}
+use Rattle.fields.specs.Field.{differs, fieldFault, fault-sized, fault-below}
 use Rattle.rules.specs.declared.Source.{Source}
 use Rattle.rules.specs.declared.Hit.{Hit}
 use Rattle.rules.specs.Tile.{Span}
 use Rattle.rules.specs.Rules.{first, noted, spans, largest, structAlign, baseFault, extFault, fieldsFault, seqFault, plain}
 use Rattle.rules.specs.Entries.{entryOf, entriesOf, restOf, Room, entries-cons, entries-nil, entries-length, room-rest}
-use Rattle.rules.specs.Chase.{Has, here, there, Chase, Proper, find, startsHere, onSide, Within, Sought, Hits}
+use Rattle.rules.specs.Chase.{Has, here, there, None, Chase, stop, Proper, find, startsHere, onSide, Within, Sought, Hits}
 use Rattle.rules.specs.Sequence.{idsOf, notedMarks}
 use Rattle.rules.proofs.Search.{walk-sorted, find-none, find-has}
 
@@ -162,6 +162,22 @@ module _ (isRecord : Bool) (base : ℕ) (es : List (List ℕ)) where
     pub ext-fine : u ≡ k → 0 ≡ extFault isRecord base es
     ext-fine e = sym (by-chase′ ∙ rw (eq-eqb u k e))
 
+  -- no entry on that side
+  pub ext-none : {k : ℕ} → Proper (spans isRecord base true es) → k ≡ length (spans isRecord base true es) → k ≡ 0 → 0 ≡ extFault isRecord base es
+  ext-none p n e = ext-fine p (stop (empty (spans isRecord base true es) base (sym n ∙ e))) n (sym e)
+    where
+      empty : (ss : List Span) (c : ℕ) → length ss ≡ 0 → None ss c
+      empty [] c h = tt
+      empty (s ∷ ss) c h = absurd (let y : ⊥ = omega arith in y)
+
+-- an entry is on one side or on the other
+pub sides : (isRecord : Bool) (base : ℕ) (es : List (List ℕ)) → length (spans isRecord base false es) + length (spans isRecord base true es) ≡ length es
+unfolding spans
+sides isRecord base [] = refl
+sides isRecord base (e ∷ es) =
+    let rest = sides isRecord base es in
+    by-bool (pastBase isRecord base e) (λ d. rw d (let q : length (spans isRecord base false es) + suc (length (spans isRecord base true es)) ≡ suc (length es) = omega (arith, rest) in q)) (λ d. rw d (let q : suc (length (spans isRecord base false es)) + length (spans isRecord base true es) ≡ suc (length es) = omega (arith, rest) in q))
+
 -- ---- verdicts, one after the other
 
 pub first-none : (r b : ℕ) → r ≡ 0 → first r b ≡ b
@@ -226,6 +242,18 @@ module _ (sheet : List ℕ) (width labels : ℕ) (aligns : List ℕ) (isRecord :
     where
       ends : (sizeOf e ≡ 0 → ⊥) → offOf e < offOf e + sizeOf e
       ends n = omega arith
+
+  -- entries that passed and are not past the base start below it
+  pub none-at-base : (ids : List ℕ) (es : List (List ℕ)) → fieldsFault sheet width labels aligns isRecord base ids es ≡ 0 → None (spans isRecord base false es) base
+  unfolding fieldsFault spans
+  none-at-base ids [] h = tt
+  none-at-base ids (e ∷ es) h =
+      let two = halves (fieldFault sheet width labels aligns isRecord base (among (idOf e) ids) e) _ h in
+      let rest : None (spans isRecord base false es) base = none-at-base (noted sheet e ids) es (two .1) in
+      by-bool (pastBase isRecord base e) (λ d. rw d rest) (λ d. rw d (apart (fault-below sheet width labels aligns isRecord base (among (idOf e) ids) e (two .0) d), rest))
+    where
+      apart : offOf e < base → offOf e ≡ base → ⊥
+      apart h q = let y : ⊥ = omega arith in y
 
 module _ (sheet : List ℕ) (width labels : ℕ) (aligns : List ℕ) (isRecord : Bool) (base : ℕ) (l t : List ℕ) where
   abbrev F : List ℕ → Source → ℕ

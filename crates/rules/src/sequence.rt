@@ -111,9 +111,10 @@ pub(crate) fn seq_fault(
         return a;
     }
     wipe_ids(layout, rows, src, marks);
-    let b = tile::base_fault(layout, rows, src, frame);
+    let k = tile::count(layout, rows, src, frame, false);
+    let b = tile::base_fault(layout, rows, src, frame, k);
     if b != 0 {
         return b;
     }
-    tile::ext_fault(layout, rows, src, frame)
+    tile::ext_fault(layout, rows, src, frame, src.count - k)
 }

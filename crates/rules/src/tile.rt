@@ -10,7 +10,10 @@ ghost use Prim.Native.Nat.{_<_, _≤_};
 ghost use lib.ListN.{length};
 ghost use Rattle.rules.specs.Rules.{spans, baseFault, extFault};
 ghost use Rattle.rules.specs.Entries.{entriesOf, Room};
-ghost use Rattle.rules.specs.Chase.{startsHere, onSide, Proper, Chase, Within, Sought, Hits};
+ghost use Rattle.rules.specs.Chase.{startsHere, onSide, None, Proper, Chase, Within, Sought, Hits};
+
+// A place that no entry reaches.
+const NEVER: usize = 131072;
 
 // Whether the entry is of the side and starts at the cursor. The sides are base, and extension where `ext` holds.
 fn starts_here(frame: Frame, ext: bool, cursor: usize, e: [u8; 11]) -> bool
@@ -74,7 +77,7 @@ fn seek_on(
 }
 
 // How many entries the side has.
-fn count(layout: &[u8], rows: &[u32], src: Source, frame: Frame, ext: bool) -> usize
+pub(crate) fn count(layout: &[u8], rows: &[u32], src: Source, frame: Frame, ext: bool) -> usize
     requires { ⌜ Room (now layout) (now rows) src ⌝ }
     ensures { λ r. ⌜ r ≡ length (spans (frame .open) (frame .base) ext (entriesOf (now (layout .entry)) (now (rows .entry)) src)) ⌝ }
 {
@@ -88,17 +91,26 @@ fn count(layout: &[u8], rows: &[u32], src: Source, frame: Frame, ext: bool) -> u
     k
 }
 
-// From end to end, until no entry of the side starts at the cursor.
-fn chase(layout: &[u8], rows: &[u32], src: Source, frame: Frame, ext: bool, start: usize) -> Chased
+// From end to end, until no entry of the side starts at the cursor. None starts at `stop`, where the search is spared.
+fn chase(
+    layout: &[u8],
+    rows: &[u32],
+    src: Source,
+    frame: Frame,
+    ext: bool,
+    start: usize,
+    stop: usize,
+) -> Chased
     requires { ⌜ Room (now layout) (now rows) src ⌝ }
     requires { ⌜ Proper (spans (frame .open) (frame .base) ext (entriesOf (now layout) (now rows) src)) ⌝ }
     requires { ⌜ start < 65536 ⌝ }
+    requires { ⌜ (stop < 131072 → None (spans (frame .open) (frame .base) ext (entriesOf (now layout) (now rows) src)) stop) ⌝ }
     ensures { λ r. ⌜ Chase (spans (frame .open) (frame .base) ext (entriesOf (now (layout .entry)) (now (rows .entry)) src)) start (r .used) (r .cursor) ⌝ }
 {
     let mut used: usize = 0;
     let mut cursor = start;
     let mut from = src;
-    loop {
+    while cursor != stop {
         let hit = seek_on(layout, rows, src, from, frame, ext, cursor);
         if hit.end == 0 {
             return Chased { used, cursor };
@@ -107,16 +119,18 @@ fn chase(layout: &[u8], rows: &[u32], src: Source, frame: Frame, ext: bool, star
         cursor = hit.end;
         from = hit.rest;
     }
+    Chased { used, cursor }
 }
 
-// 81 and 82 of entries that passed 71 to 80, or 0.
-pub(crate) fn base_fault(layout: &[u8], rows: &[u32], src: Source, frame: Frame) -> u32
+// 81 and 82 of entries that passed 71 to 80, k of which are on the side of the base, or 0.
+pub(crate) fn base_fault(layout: &[u8], rows: &[u32], src: Source, frame: Frame, k: usize) -> u32
     requires { ⌜ Room (now layout) (now rows) src ⌝ }
     requires { ⌜ Proper (spans (frame .open) (frame .base) false (entriesOf (now layout) (now rows) src)) ⌝ }
+    requires { ⌜ None (spans (frame .open) (frame .base) false (entriesOf (now layout) (now rows) src)) (frame .base) ⌝ }
+    requires { ⌜ k ≡ length (spans (frame .open) (frame .base) false (entriesOf (now layout) (now rows) src)) ⌝ }
     ensures { λ r. ⌜ r ≡ baseFault (frame .open) (frame .base) (entriesOf (now (layout .entry)) (now (rows .entry)) src) ⌝ }
 {
-    let c = chase(layout, rows, src, frame, false, 0);
-    let k = count(layout, rows, src, frame, false);
+    let c = chase(layout, rows, src, frame, false, 0, frame.base);
     if c.used != k {
         return refusal::BASE_GAP;
     }
@@ -126,15 +140,18 @@ pub(crate) fn base_fault(layout: &[u8], rows: &[u32], src: Source, frame: Frame)
     0
 }
 
-// 83 of the same, or 0.
-pub(crate) fn ext_fault(layout: &[u8], rows: &[u32], src: Source, frame: Frame) -> u32
+// 83 of the same, k of which are past the base, or 0.
+pub(crate) fn ext_fault(layout: &[u8], rows: &[u32], src: Source, frame: Frame, k: usize) -> u32
     requires { ⌜ Room (now layout) (now rows) src ⌝ }
     requires { ⌜ Proper (spans (frame .open) (frame .base) true (entriesOf (now layout) (now rows) src)) ⌝ }
     requires { ⌜ frame .base < 65536 ⌝ }
+    requires { ⌜ k ≡ length (spans (frame .open) (frame .base) true (entriesOf (now layout) (now rows) src)) ⌝ }
     ensures { λ r. ⌜ r ≡ extFault (frame .open) (frame .base) (entriesOf (now (layout .entry)) (now (rows .entry)) src) ⌝ }
 {
-    let c = chase(layout, rows, src, frame, true, frame.base);
-    let k = count(layout, rows, src, frame, true);
+    if k == 0 {
+        return 0;
+    }
+    let c = chase(layout, rows, src, frame, true, frame.base, NEVER);
     if c.used != k {
         return refusal::EXTENSION_GAP;
     }

@@ -2,26 +2,10 @@ use borrow.Author.Needs.{needs}
 use Rattle.fields.specs.Sheet.{defOf}
 use Rattle.fields.proofs.def_of.Statement.{statement}
 use Rattle.fields.proofs.def_of.Tie as tie
-use Rattle.fields.proofs.def_of.Reads as reads
-use Rattle.fields.proofs.def_of.Lts as lts
-use Rattle.fields.proofs.pair.Reads as pair-reads
 
--- src/lib.rt:101:10
-array-read-pair : tie.Need-array-read-pair
-array-read-pair c = search needs
-
--- src/lib.rt:101:16
-array-read-pair-2 : tie.Need-array-read-pair-2
-array-read-pair-2 c = search needs
-
--- src/lib.rt:101:5
-pair-requires : tie.Need-pair-requires
-pair-requires c κs = search needs
-
--- src/lib.rt:98:1
 returns : tie.Need-returns
 unfolding defOf
 returns c = search needs
 
 pub def-of-spec : {M : Type 1} → statement M
-def-of-spec = tie.close (tie.spec array-read-pair array-read-pair-2 pair-requires returns)
+def-of-spec = tie.close (tie.spec (λ c. search needs) (λ c. search needs) (λ c κs. search needs) returns)

@@ -1,16 +1,11 @@
 use lib.Dec.{lit≤}
 use Rattle.rules.specs.Whole.{kind-yes, kind-no}
-use borrow.Author.Needs.{needs}
 use Rattle.rules.proofs.is_kind.Statement.{statement}
 use Rattle.rules.proofs.is_kind.Tie as tie
-use Rattle.rules.proofs.is_kind.Reads as reads
-use Rattle.rules.proofs.is_kind.Lts as lts
 
--- src/lib.rt:120:1
 returns : tie.Need-returns
 returns c = (kind-yes _ _ (c .if1 .taken), lit≤ tt)
 
--- src/lib.rt:120:1
 returns-2 : tie.Need-returns-2
 returns-2 c = (kind-no _ _ (c .if1 .left), lit≤ tt)
 

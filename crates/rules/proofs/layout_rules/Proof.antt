@@ -4,49 +4,31 @@ use mathlib.Core.List.{[]}
 use borrow.Author.Needs.{needs}
 use Rattle.rules.proofs.layout_rules.Statement.{statement}
 use Rattle.rules.proofs.layout_rules.Tie as tie
-use Rattle.rules.proofs.layout_rules.Reads as reads
-use Rattle.rules.proofs.layout_rules.Lts as lts
-use Rattle.rules.proofs.items.rules.Reads as rules-reads
-use Rattle.rules.proofs.skip.Reads as skip-reads
-use Rattle.rules.proofs.walk.half.Reads as half-reads
 
--- src/lib.rt:82:9
 half-requires : tie.Need-half-requires
 half-requires c κs = counts-here _ [] (c .before .pre) .0
 
--- src/lib.rt:83:9
 skip-requires : tie.Need-skip-requires
 skip-requires c κs = rw (c .half .ensures .0) (records-here _ [] (c .before .before .pre) .skips)
 
--- src/lib.rt:84:9
 half-requires-2 : tie.Need-half-requires-2
 half-requires-2 c κs = rw (c .skip .ensures, c .before .half .ensures .0) (counts-here _ [] (c .before .before .before .pre) .1)
 
--- src/lib.rt:85:26
 add-skip : tie.Need-add-skip
 add-skip c = rw (c .before .skip .ensures, c .before .before .half .ensures .0) (let h = counts-here _ [] (c .before .before .before .before .pre) .1 in omega arith)
 
--- src/lib.rt:85:9
 skip-requires-2 : tie.Need-skip-requires-2
 skip-requires-2 c κs = rw (c .half2 .ensures .0, c .before .skip .ensures, c .before .before .half .ensures .0) (structs-here _ [] (c .before .before .before .before .pre) .skips)
 
--- src/lib.rt:86:9
 half-requires-3 : tie.Need-half-requires-3
 half-requires-3 c κs = rw (c .skip2 .ensures, c .before .half2 .ensures .0, c .before .before .skip .ensures, c .before .before .before .half .ensures .0) (counts-here _ [] (c .before .before .before .before .before .pre) .2)
 
--- src/lib.rt:89:13
 add-t12 : tie.Need-add-t12
 add-t12 c = rw (c .before .before .before .skip .ensures, c .before .before .before .before .half .ensures .0) (let h = counts-here _ [] (c .before .before .before .before .before .before .pre) .1 in omega arith)
 
--- src/lib.rt:98:24
-slice-aggregate-rules : tie.Need-slice-aggregate-rules
-slice-aggregate-rules c = search needs
-
--- src/lib.rt:97:5
 rules-requires : tie.Need-rules-requires
 rules-requires c κs = (rw (c .before .before .before .half2 .ensures .0, c .before .before .before .before .skip .ensures, c .before .before .before .before .before .half .ensures .0) (layout-ready _ _ (c .before .before .before .before .before .before .before .pre)), omega (arith, c .before .before .before .half2 .ensures .1))
 
--- src/lib.rt:77:1
 returns : tie.Need-returns
 returns c = layout-is _ _ (c .before .before .before .before .before .before .before .before .pre) _ _ (rw (c .before .before .half3 .ensures .0, c .before .before .before .skip2 .ensures, c .before .before .before .before .half2 .ensures .0, c .before .before .before .before .before .skip .ensures, c .before .before .before .before .before .before .half .ensures .0) at (c .rules .ensures))
 
@@ -61,6 +43,6 @@ layout-rules-spec =
     skip-requires-2
     half-requires-3
     add-t12
-    slice-aggregate-rules
+    (λ c. search needs)
     rules-requires
     returns)

@@ -4,9 +4,6 @@ use native.Mathlib.Omega.{arith}
 use borrow.Author.Needs.{needs}
 use Rattle.rules.proofs.skip.Statement.{statement}
 use Rattle.rules.proofs.skip.Tie as tie
-use Rattle.rules.proofs.skip.Reads as reads
-use Rattle.rules.proofs.skip.Lts as lts
-use Rattle.rules.proofs.walk.half.Reads as half-reads
 
 abbrev Inv-loop : tie.InvT-loop
 Inv-loop layout at n p₀ left₀ p left =
@@ -16,35 +13,22 @@ abbrev μ-loop : tie.MeasureT-loop
 μ-loop layout at n p₀ left₀ p left =
     left
 
--- src/lib.rt:69:5
 loop-holds : tie.Need-loop-holds Inv-loop μ-loop
 loop-holds c = record { skips = c .before .pre; same = refl }
 
--- src/lib.rt:70:14
 half-requires : tie.Need-half-requires Inv-loop μ-loop
 half-requires c κs = skip-one _ (c .before .loop .inv) (c .loop-test .taken) .0
 
--- src/lib.rt:70:9
 add-p : tie.Need-add-p Inv-loop μ-loop
 add-p c = omega (arith, skip-one _ (c .before .before .loop .inv) (c .before .loop-test .taken) .1, c .half .ensures .0)
 
--- src/lib.rt:71:9
-sub-left : tie.Need-sub-left Inv-loop μ-loop
-sub-left c = search needs
-
--- src/lib.rt:69:5
-loop-less : tie.Need-loop-less Inv-loop μ-loop
-loop-less c = search needs
-
--- src/lib.rt:69:5
 loop-again : tie.Need-loop-again Inv-loop μ-loop
 loop-again c = skip-on _ (c .before .before .loop .inv) (c .before .loop-test .taken) (c .half .ensures .0)
 
--- src/lib.rt:63:1
 returns : tie.Need-returns Inv-loop μ-loop
 returns c = skip-end _ (c .before .loop .inv) (c .loop-test .left)
 
 pub skip-spec : {M : Type 1} → statement M
 skip-spec =
     tie.close
-    (tie.spec Inv-loop μ-loop loop-holds half-requires add-p sub-left loop-less loop-again returns)
+    (tie.spec Inv-loop μ-loop loop-holds half-requires add-p (λ c. search needs) (λ c. search needs) loop-again returns)

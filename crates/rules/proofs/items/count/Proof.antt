@@ -6,9 +6,6 @@ use native.Mathlib.Omega.{arith}
 use borrow.Author.Needs.{needs}
 use Rattle.rules.proofs.items.count.Statement.{statement}
 use Rattle.rules.proofs.items.count.Tie as tie
-use Rattle.rules.proofs.items.count.Reads as reads
-use Rattle.rules.proofs.items.count.Lts as lts
-use Rattle.rules.proofs.walk.next_item.Reads as next-item-reads
 
 abbrev Inv-loop : tie.InvT-loop
 Inv-loop layout rows is-record p₀ n₀ p n =
@@ -18,35 +15,21 @@ abbrev μ-loop : tie.MeasureT-loop
 μ-loop layout rows is-record p₀ n₀ p n =
     length (seqsFrom layout rows is-record p)
 
--- src/items.rt:24:5
 loop-holds : tie.Need-loop-holds Inv-loop μ-loop
 loop-holds c = record { good = c .before .before .pre; same = zero-add _ }
 
--- src/items.rt:25:15
 next-item-requires : tie.Need-next-item-requires Inv-loop μ-loop
 next-item-requires c κs = c .loop .inv .good
 
--- src/items.rt:26:28
-enum-known-after : tie.Need-enum-known-after Inv-loop μ-loop
-enum-known-after c = search needs
-
--- src/items.rt:27:17
 add-n : tie.Need-add-n Inv-loop μ-loop
 add-n c = omega (arith, count-room _ _ _ (c .before .before .before .before .loop .inv) (step-found (c .before .before .before .next-item .ensures) (c .before .after .given .1)))
 
--- src/items.rt:24:5
 loop-less : tie.Need-loop-less Inv-loop μ-loop
 loop-less c = step-less (step-found (c .before .before .before .next-item .ensures) (c .before .after .given .1))
 
--- src/items.rt:24:5
 loop-again : tie.Need-loop-again Inv-loop μ-loop
 loop-again c = count-on _ _ _ (c .before .before .before .before .loop .inv) (step-found (c .before .before .before .next-item .ensures) (c .before .after .given .1))
 
--- src/items.rt:30:26
-enum-told : tie.Need-enum-told Inv-loop μ-loop
-enum-told c = search needs
-
--- src/items.rt:30:26
 returns : tie.Need-returns Inv-loop μ-loop
 returns c = count-done _ _ _ (c .before .before .before .loop .inv) (step-end (c .before .before .next-item .ensures) (c .enum-told .given .1))
 
@@ -58,9 +41,9 @@ count-spec =
     μ-loop
     loop-holds
     next-item-requires
-    enum-known-after
+    (λ c. search needs)
     add-n
     loop-less
     loop-again
-    enum-told
+    (λ c. search needs)
     returns)

@@ -3,40 +3,19 @@ use native.Mathlib.Omega.{arith}
 use borrow.Author.Needs.{needs}
 use Rattle.rules.proofs.items.record_fault.Statement.{statement}
 use Rattle.rules.proofs.items.record_fault.Tie as tie
-use Rattle.rules.proofs.items.record_fault.Reads as reads
-use Rattle.rules.proofs.items.record_fault.Lts as lts
-use Rattle.rules.proofs.items.wide.Reads as wide-reads
-use Rattle.rules.proofs.sequence.seq_fault.Reads as seq-fault-reads
 
--- src/items.rt:113:9
 returns : tie.Need-returns
 returns c = (record-61 _ _ _ _ _ _ (c .before .before .before .before .args .item) (c .if1 .taken), λ z. absurd (let y : ⊥ = omega arith in y))
 
--- src/items.rt:116:9
 returns-2 : tie.Need-returns-2
 returns-2 c = (record-62 _ _ _ _ _ _ (c .before .before .before .before .before .before .args .item) (c .before .before .if1 .left) (c .if2 .taken), λ z. absurd (let y : ⊥ = omega arith in y))
 
--- src/items.rt:118:23
-element-copy-out-wide : tie.Need-element-copy-out-wide
-element-copy-out-wide c = search needs
-
--- src/items.rt:118:9
-wide-requires : tie.Need-wide-requires
-wide-requires c κs = search needs
-
--- src/items.rt:120:9
 returns-3 : tie.Need-returns-3
 returns-3 c = (record-63 _ _ _ _ _ _ (c .before .before .before .before .before .before .before .before .before .before .args .item) (c .before .before .before .before .before .before .if1 .left) (c .before .before .before .before .if2 .left) (rw (c .before .before .wide .ensures) at (c .if3 .taken)), λ z. absurd (let y : ⊥ = omega arith in y))
 
--- src/items.rt:123:9
 returns-4 : tie.Need-returns-4
 returns-4 c = (record-64 _ _ _ _ _ _ (c .before .before .before .before .before .before .before .before .before .before .before .before .args .item) (c .before .before .before .before .before .before .before .before .if1 .left) (c .before .before .before .before .before .before .if2 .left) (rw (c .before .before .before .before .wide .ensures) at (c .before .before .if3 .left)) (c .if4 .taken), λ z. absurd (let y : ⊥ = omega arith in y))
 
--- src/items.rt:132:5
-seq-fault-requires : tie.Need-seq-fault-requires
-seq-fault-requires c κs = search needs
-
--- src/items.rt:95:1
 returns-5 : tie.Need-returns-5
 returns-5 c = (record-is _ _ _ _ _ _ (c .before .before .before .before .before .before .before .before .before .before .before .before .before .before .before .args .item) (c .before .before .before .before .before .before .before .before .before .before .before .if1 .left) (c .before .before .before .before .before .before .before .before .before .if2 .left) (rw (c .before .before .before .before .before .before .before .wide .ensures) at (c .before .before .before .before .before .if3 .left)) (c .before .before .before .if4 .left) (c .seq-fault .ensures .0), c .seq-fault .ensures .1)
 
@@ -46,9 +25,9 @@ record-fault-spec =
     (tie.spec
     returns
     returns-2
-    element-copy-out-wide
-    wide-requires
+    (λ c. search needs)
+    (λ c κs. search needs)
     returns-3
     returns-4
-    seq-fault-requires
+    (λ c κs. search needs)
     returns-5)

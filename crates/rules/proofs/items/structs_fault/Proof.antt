@@ -6,10 +6,6 @@ use lib.ListN.{length}
 use borrow.Author.Needs.{needs}
 use Rattle.rules.proofs.items.structs_fault.Statement.{statement}
 use Rattle.rules.proofs.items.structs_fault.Tie as tie
-use Rattle.rules.proofs.items.structs_fault.Reads as reads
-use Rattle.rules.proofs.items.structs_fault.Lts as lts
-use Rattle.rules.proofs.items.struct_fault.Reads as struct-fault-reads
-use Rattle.rules.proofs.walk.next_item.Reads as next-item-reads
 
 abbrev Inv-loop : tie.InvT-loop
 Inv-loop sheet aligns layout rows width labels marks₀ p₀ marks p =
@@ -19,39 +15,24 @@ abbrev μ-loop : tie.MeasureT-loop
 μ-loop sheet aligns layout rows width labels marks₀ p₀ marks p =
     length (seqsFrom layout rows false p)
 
--- src/items.rt:146:5
 loop-holds : tie.Need-loop-holds Inv-loop μ-loop
 loop-holds c = record { good = c .before .before .before .pre .0; marks = c .before .before .before .pre .1; same = refl }
 
--- src/items.rt:147:15
 next-item-requires : tie.Need-next-item-requires Inv-loop μ-loop
 next-item-requires c κs = c .loop .inv .good
 
--- src/items.rt:148:25
-enum-known-item : tie.Need-enum-known-item Inv-loop μ-loop
-enum-known-item c = search needs
-
--- src/items.rt:149:21
 struct-fault-requires : tie.Need-struct-fault-requires Inv-loop μ-loop
 struct-fault-requires c κs = (step-found (c .before .before .before .before .next-item .ensures) (c .before .before .item .given .1) .room, (c .before .before .before .before .before .loop .inv .marks, step-found (c .before .before .before .before .next-item .ensures) (c .before .before .item .given .1) .base))
 
--- src/items.rt:151:21
 returns : tie.Need-returns Inv-loop μ-loop
 returns c = (structs-stop _ _ _ _ _ _ (c .before .before .before .before .before .before .before .loop .inv) (step-found (c .before .before .before .before .before .before .next-item .ensures) (c .before .before .before .before .item .given .1)) (c .before .struct-fault .ensures .0) (c .if1 .taken), λ z. absurd (c .if1 .taken z))
 
--- src/items.rt:146:5
 loop-less : tie.Need-loop-less Inv-loop μ-loop
 loop-less c = step-less (step-found (c .before .before .before .before .before .before .next-item .ensures) (c .before .before .before .before .item .given .1))
 
--- src/items.rt:146:5
 loop-again : tie.Need-loop-again Inv-loop μ-loop
 loop-again c = structs-on _ _ _ _ _ _ (c .before .before .before .before .before .before .before .loop .inv) (step-found (c .before .before .before .before .before .before .next-item .ensures) (c .before .before .before .before .item .given .1)) (c .before .struct-fault .ensures .0) (c .if1 .left) (c .before .struct-fault .ensures .1)
 
--- src/items.rt:155:26
-enum-told : tie.Need-enum-told Inv-loop μ-loop
-enum-told c = search needs
-
--- src/items.rt:155:26
 returns-2 : tie.Need-returns-2 Inv-loop μ-loop
 returns-2 c = (structs-end _ _ _ _ _ _ (c .before .before .before .loop .inv) (step-end (c .before .before .next-item .ensures) (c .enum-told .given .1)), λ _. c .before .before .before .loop .inv .marks)
 
@@ -63,10 +44,10 @@ structs-fault-spec =
     μ-loop
     loop-holds
     next-item-requires
-    enum-known-item
+    (λ c. search needs)
     struct-fault-requires
     returns
     loop-less
     loop-again
-    enum-told
+    (λ c. search needs)
     returns-2)
