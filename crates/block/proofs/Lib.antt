@@ -3,4 +3,3 @@ pub mod HeaderLaws
 pub mod RuledLaws
 pub mod PartLaws
 pub mod BodyLaws
-pub mod NameLaws

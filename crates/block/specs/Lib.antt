@@ -2,7 +2,6 @@ pub mod Block
 pub mod Fields
 pub mod Read
 pub mod Given
-pub mod Names
 pub mod BlockLaws
 pub mod Steps
 pub mod Single

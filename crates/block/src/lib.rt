@@ -1,15 +1,12 @@
 // Blocks of versions 1 to 4: their fields, and their rows in two lent tables.
 mod header;
-mod names;
 mod parts;
 
 ghost use mathlib.Core.Path.{_≡_};
-ghost use lib.ListN.{length};
 ghost use Rattle.codec.specs.Codec.{whole};
 ghost use Rattle.block.specs.Block as Block;
 ghost use Rattle.block.specs.Read.{Promise};
 ghost use Rattle.block.specs.Given.{Ruled};
-ghost use Rattle.block.specs.Names.{symbologySpan, layoutSpan, partIn};
 ghost use Rattle.block.specs.Steps.{Headed, Does};
 
 // What may be absent.
@@ -42,7 +39,7 @@ pub enum BlockAnswer {
 }
 
 // A part of a slice by start and length; or the refusal.
-pub enum Span {
+enum Span {
     Part { start: usize, len: usize },
     Refused(u32),
 }
@@ -115,34 +112,6 @@ pub fn read_layout(
         } => layout::read_layout_rows(layout, table),
         layout::Verdict::Refused(why) => layout::Answer::Refused(why),
     }
-}
-
-// Where the text of a symbology row stands in its block; 90 for an index past the table, a row without a text, or a span outside.
-pub fn symbology_span(block: &[u8], rows: &[u32], index: usize) -> Span
-    ensures { λ r. ⌜ r ≡ symbologySpan (length (now (block .entry))) (now (rows .entry)) index ⌝ }
-{
-    names::symbology_row(block.len(), rows, index)
-}
-
-// The text of a symbology row as a part of the caller's own block; empty where there is none.
-pub fn symbology_name<'a>(block: &'a [u8], rows: &[u32], index: usize) -> &'a [u8]
-    ensures { λ r. ⌜ now r ≡ partIn (now (block .entry)) (symbologySpan (length (now (block .entry))) (now (rows .entry)) index) ⌝ }
-{
-    names::part(block, symbology_span(block, rows, index))
-}
-
-// Where the text of a layout row stands in its layout; 90 as for a symbology row. A field has none.
-pub fn layout_span(layout: &[u8], rows: &[u32], index: usize) -> Span
-    ensures { λ r. ⌜ r ≡ layoutSpan (length (now (layout .entry))) (now (rows .entry)) index ⌝ }
-{
-    names::layout_row(layout.len(), rows, index)
-}
-
-// The text of a layout row as a part of the caller's own layout; empty where there is none.
-pub fn layout_name<'a>(layout: &'a [u8], rows: &[u32], index: usize) -> &'a [u8]
-    ensures { λ r. ⌜ now r ≡ partIn (now (layout .entry)) (layoutSpan (length (now (layout .entry))) (now (rows .entry)) index) ⌝ }
-{
-    names::part(layout, layout_span(layout, rows, index))
 }
 
 // What follows an accepted header: layout and symbology, then 3 for a table that is short, then the rows.

@@ -63,7 +63,7 @@ pub(crate) fn symbology(block: &[u8], rows: &[u32], n: usize) {
         let at = 5 * i;
         let end = at + 5;
         row(&rows[at..end]);
-        line(block::symbology_name(block, rows, i));
+        line(names::symbology_name(block, rows, i));
         i += 1;
     }
 }
@@ -78,7 +78,7 @@ pub(crate) fn layout(layout: &[u8], rows: &[u32], n: usize) {
         let at = 9 * i;
         let end = at + 9;
         row(&rows[at..end]);
-        line(block::layout_name(layout, rows, i));
+        line(names::layout_name(layout, rows, i));
         i += 1;
     }
 }

@@ -199,7 +199,7 @@ fn show(store: &[u8], rows: &[u32], n: usize) {
 
 // A mapping or an interval; rows of the lists are passed over.
 fn show_row(block: &[u8], rows: &[u32], i: usize) {
-    let name = block::symbology_name(block, rows, i);
+    let name = names::symbology_name(block, rows, i);
     match cell(rows, i, 0) {
         3 => {
             text(b"mapping ");

@@ -12,8 +12,8 @@ use Rattle.block.specs.declared.Optional.{Optional}
 use Rattle.block.specs.declared.Optional.the-variants.{Absent, Present}
 use Rattle.block.specs.declared.BlockAnswer.{BlockAnswer}
 use Rattle.block.specs.declared.BlockAnswer.the-variants.{Read}
-use Rattle.block.specs.declared.Span.{Span}
-use Rattle.block.specs.declared.Span.the-variants.{Part}
+use Rattle.names.specs.declared.Span.{Span}
+use Rattle.names.specs.declared.Span.the-variants.{Part}
 use Rattle.layout.specs.Answers.{judge, leave}
 use Rattle.layout.specs.declared.Answer.{Answer as LayoutAnswer}
 use Rattle.layout.specs.declared.Answer.the-variants as Answer'

@@ -2,11 +2,11 @@
 use block::BlockAnswer;
 use block::Fields;
 use block::Optional;
-use block::Span;
 use feed::Answer;
 use feed::Fed;
 use feed::Stage;
 use feed::State;
+use names::Span;
 use writer::Written;
 ghost use mathlib.Core.Path.{_≡_};
 ghost use Prim.Native.Nat.{_≤_};
@@ -14,7 +14,7 @@ ghost use lib.ListN.{length};
 ghost use lib.Seq.{sets};
 ghost use Rattle.text.specs.Utf8.{utf8};
 ghost use Rattle.text.specs.Date.{isDate};
-ghost use Rattle.block.specs.Names.{symbologySpan, layoutSpan};
+ghost use Rattle.names.specs.Names.{symbologySpan, layoutSpan};
 ghost use Rattle.feed.specs.Prelude.{preludeOf};
 ghost use Rattle.feed.specs.Feeding.{stageNumber, answerNumber};
 ghost use Rattle.dbn_c.specs.Numbers.{bit, preludeOut, valueOf, isPresent, presence, fieldsOut, answerOut, spanNumber, spanOut, BlockC, FeedC, LayoutC, WriteC};
@@ -140,7 +140,7 @@ pub extern "C" fn dbn_symbology_name(
 ) -> u32
     ensures { λ r. ⌜ (r ≡ spanNumber (symbologySpan (length (now (block .entry))) (now (rows .entry)) index)) × (now (out .exit) ≡ spanOut (symbologySpan (length (now (block .entry))) (now (rows .entry)) index)) ⌝ }
 {
-    put_span(block::symbology_span(block, rows, index as usize), out)
+    put_span(names::symbology_span(block, rows, index as usize), out)
 }
 
 // The text of a layout row, as a part of the layout: 0 with {start, length}, or 90 with {0, 0}.
@@ -153,7 +153,7 @@ pub extern "C" fn dbn_layout_name(
 ) -> u32
     ensures { λ r. ⌜ (r ≡ spanNumber (layoutSpan (length (now (layout .entry))) (now (rows .entry)) index)) × (now (out .exit) ≡ spanOut (layoutSpan (length (now (layout .entry))) (now (rows .entry)) index)) ⌝ }
 {
-    put_span(block::layout_span(layout, rows, index as usize), out)
+    put_span(names::layout_span(layout, rows, index as usize), out)
 }
 
 // Feeds a piece after `held` bytes of the store. `out` gets the count taken at 16, the new held count at 17 and the count needed at 18;

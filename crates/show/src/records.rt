@@ -20,7 +20,7 @@ pub(crate) fn show(store: &[u8], rows: &[u32], n: usize) {
 
 // Row i, by its kind, after an owner of so many fields; answers how many the owner now has.
 fn row(layout: &[u8], rows: &[u32], i: usize, fields: u32) -> u32 {
-    let name = block::layout_name(layout, rows, i);
+    let name = names::layout_name(layout, rows, i);
     match cell(rows, i, 0) {
         10 => record(name, rows, i),
         11 => {
@@ -85,9 +85,9 @@ fn field(layout: &[u8], rows: &[u32], i: usize, fields: u32) {
 fn name_after<'a>(layout: &'a [u8], rows: &[u32], i: usize, fields: u32) -> &'a [u8] {
     let n = fields as usize;
     if i < rows.len() / 9 {
-        return block::layout_name(layout, rows, i + n);
+        return names::layout_name(layout, rows, i + n);
     }
-    block::layout_name(layout, rows, i)
+    names::layout_name(layout, rows, i)
 }
 
 // A byte as the signed number it stands for.

@@ -16,7 +16,7 @@ pub(crate) fn show(store: &[u8], rows: &[u32], n: usize) {
 
 // Row i, by its kind.
 fn row(block: &[u8], rows: &[u32], i: usize) {
-    let name = block::symbology_name(block, rows, i);
+    let name = names::symbology_name(block, rows, i);
     match cell(rows, i, 0) {
         0 => print::line(b"symbol: ", name),
         1 => print::line(b"partial: ", name),

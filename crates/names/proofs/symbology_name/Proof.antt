@@ -1,8 +1,8 @@
 use mathlib.Core.Path.{_≡_, refl, sym, ap, _∙_}
-use Rattle.block.specs.Names.{partIn}
+use Rattle.names.specs.Names.{partIn}
 use borrow.Author.Needs.{needs}
-use Rattle.block.proofs.symbology_name.Statement.{statement}
-use Rattle.block.proofs.symbology_name.Tie as tie
+use Rattle.names.proofs.symbology_name.Statement.{statement}
+use Rattle.names.proofs.symbology_name.Tie as tie
 
 symbology-span-requires : tie.Need-symbology-span-requires
 symbology-span-requires c κs = search needs

@@ -1,38 +1,57 @@
-// The text of a row, by its kind, start and length.
-use super::Span;
+// The text of a row, by its kind, start and length: a part of the bytes that the row was read from.
 ghost use mathlib.Core.Path.{_≡_};
 ghost use Prim.Native.Nat.{_+_, _≤_, _<_};
 ghost use lib.ListN.{length};
-ghost use Rattle.block.specs.Names.{symbolText, itemText, rowSpan, symbologySpan, layoutSpan, partIn};
+ghost use Rattle.names.specs.Names.{symbolText, itemText, rowSpan, symbologySpan, layoutSpan, partIn};
 
-// The span of row `index` of five, in n bytes.
-pub(crate) fn symbology_row(n: usize, rows: &[u32], index: usize) -> Span
-    ensures { λ r. ⌜ r ≡ symbologySpan n (now (rows .entry)) index ⌝ }
+// A part of a slice by start and length; or the refusal.
+pub enum Span {
+    Part { start: usize, len: usize },
+    Refused(u32),
+}
+
+// Where the text of a symbology row stands in its block; 90 for an index past the table, a row without a text, or a span outside.
+pub fn symbology_span(block: &[u8], rows: &[u32], index: usize) -> Span
+    ensures { λ r. ⌜ r ≡ symbologySpan (length (now (block .entry))) (now (rows .entry)) index ⌝ }
 {
     if index < rows.len() / 5 {
         let at = 5 * index;
         if symbol_text(rows[at]) {
-            return row_span(n, rows, at);
+            return row_span(block.len(), rows, at);
         }
     }
     Span::Refused(refusal::ROWS_MALFORMED)
 }
 
-// The span of row `index` of nine, in n bytes.
-pub(crate) fn layout_row(n: usize, rows: &[u32], index: usize) -> Span
-    ensures { λ r. ⌜ r ≡ layoutSpan n (now (rows .entry)) index ⌝ }
+// The text of a symbology row as a part of the caller's own block; empty where there is none.
+pub fn symbology_name<'a>(block: &'a [u8], rows: &[u32], index: usize) -> &'a [u8]
+    ensures { λ r. ⌜ now r ≡ partIn (now (block .entry)) (symbologySpan (length (now (block .entry))) (now (rows .entry)) index) ⌝ }
+{
+    part(block, symbology_span(block, rows, index))
+}
+
+// Where the text of a layout row stands in its layout; 90 as for a symbology row. A field has none.
+pub fn layout_span(layout: &[u8], rows: &[u32], index: usize) -> Span
+    ensures { λ r. ⌜ r ≡ layoutSpan (length (now (layout .entry))) (now (rows .entry)) index ⌝ }
 {
     if index < rows.len() / 9 {
         let at = 9 * index;
         if item_text(rows[at]) {
-            return row_span(n, rows, at);
+            return row_span(layout.len(), rows, at);
         }
     }
     Span::Refused(refusal::ROWS_MALFORMED)
 }
 
+// The text of a layout row as a part of the caller's own layout; empty where there is none.
+pub fn layout_name<'a>(layout: &'a [u8], rows: &[u32], index: usize) -> &'a [u8]
+    ensures { λ r. ⌜ now r ≡ partIn (now (layout .entry)) (layoutSpan (length (now (layout .entry))) (now (rows .entry)) index) ⌝ }
+{
+    part(layout, layout_span(layout, rows, index))
+}
+
 // The bytes of a span; none for a refusal or a span outside.
-pub(crate) fn part<'a>(s: &'a [u8], span: Span) -> &'a [u8]
+fn part<'a>(s: &'a [u8], span: Span) -> &'a [u8]
     ensures { λ r. ⌜ now r ≡ partIn (now (s .entry)) span ⌝ }
 {
     match span {

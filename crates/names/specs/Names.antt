@@ -1,13 +1,12 @@
 -- The text of a row, as document 01's "Rows" has it: asked for by index, a part of the bytes that the row's start counts from.
 -- Assumes nothing.
 use Prim.Native.Nat.{ℕ, _+_, _*_, _/_}
-use mathlib.Core.Bool.{Bool, true, false, not, _&&_}
+use mathlib.Core.Bool.{Bool, not, _&&_, cond}
 use mathlib.Core.List.{List, []}
 use lib.ListN.{length, getD, take, drop}
 use lib.Dec.{leb, ltb, eqb}
-use Rattle.wire.specs.Pick.{pick}
-use Rattle.block.specs.declared.Span.{Span}
-use Rattle.block.specs.declared.Span.the-variants.{Part, Refused}
+use Rattle.names.specs.declared.Span.{Span}
+use Rattle.names.specs.declared.Span.the-variants.{Part, Refused}
 
 -- every kind of symbology row has a text: lists 0, 1, 2, mapping 3, interval 4; what is no kind has none
 abbrev pub symbolText : ℕ → Bool
@@ -19,16 +18,16 @@ itemText kind = not (eqb kind 11) && (leb 10 kind && leb kind 15)
 
 -- the second and third number of the row at `at`: a start and a length, within n bytes
 unfoldable pub rowSpan : ℕ → List ℕ → ℕ → Span
-rowSpan n rows at = pick (leb (getD rows (at + 1) 0 + getD rows (at + 2) 0) n) (Part (getD rows (at + 1) 0) (getD rows (at + 2) 0)) (Refused 90)
+rowSpan n rows at = cond (leb (getD rows (at + 1) 0 + getD rows (at + 2) 0) n) (Part (getD rows (at + 1) 0) (getD rows (at + 2) 0)) (Refused 90)
 
 -- row `index` of a table of rows of five, or of nine, for n bytes; 90 past the table, without a text, or outside
 unfoldable pub symbologySpan : ℕ → List ℕ → ℕ → Span
-symbologySpan n rows index = pick (ltb index (length rows / 5) && symbolText (getD rows (5 * index) 0)) (rowSpan n rows (5 * index)) (Refused 90)
+symbologySpan n rows index = cond (ltb index (length rows / 5) && symbolText (getD rows (5 * index) 0)) (rowSpan n rows (5 * index)) (Refused 90)
 
 unfoldable pub layoutSpan : ℕ → List ℕ → ℕ → Span
-layoutSpan n rows index = pick (ltb index (length rows / 9) && itemText (getD rows (9 * index) 0)) (rowSpan n rows (9 * index)) (Refused 90)
+layoutSpan n rows index = cond (ltb index (length rows / 9) && itemText (getD rows (9 * index) 0)) (rowSpan n rows (9 * index)) (Refused 90)
 
 -- the bytes of a span, and none for a refusal
 unfoldable pub partIn : List ℕ → Span → List ℕ
-partIn b (Part start len) = pick (leb (start + len) (length b)) (take len (drop start b)) []
+partIn b (Part start len) = cond (leb (start + len) (length b)) (take len (drop start b)) []
 partIn b (Refused k) = []

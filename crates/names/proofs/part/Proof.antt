@@ -1,8 +1,8 @@
 use native.Mathlib.Omega.{arith}
-use Rattle.block.proofs.NameLaws.{part-in, part-out, part-none}
+use Rattle.names.proofs.NameLaws.{part-in, part-out, part-none}
 use borrow.Author.Needs.{needs}
-use Rattle.block.proofs.names.part.Statement.{statement}
-use Rattle.block.proofs.names.part.Tie as tie
+use Rattle.names.proofs.part.Statement.{statement}
+use Rattle.names.proofs.part.Tie as tie
 
 enum-known-span : tie.Need-enum-known-span
 enum-known-span c = search needs

@@ -6,9 +6,9 @@ use mathlib.Core.Bool.{Bool, true, false}
 use mathlib.Core.List.{List, []}
 use lib.ListN.{length, getD, take, drop}
 use borrow.Author.Tests.{le-leb, lt-leb, lt-ltb, le-ltb}
-use Rattle.block.specs.Names.{symbolText, itemText, rowSpan, symbologySpan, layoutSpan, partIn}
-use Rattle.block.specs.declared.Span.{Span}
-use Rattle.block.specs.declared.Span.the-variants.{Part, Refused}
+use Rattle.names.specs.Names.{symbolText, itemText, rowSpan, symbologySpan, layoutSpan, partIn}
+use Rattle.names.specs.declared.Span.{Span}
+use Rattle.names.specs.declared.Span.the-variants.{Part, Refused}
 
 -- the row is not there; it has no text; it has one
 module _ (n : ℕ) (rows : List ℕ) (index : ℕ) where

@@ -1,7 +1,7 @@
 use borrow.Author.Tests.{le-leb, lt-leb, eq-eqb, ne-eqb}
 use borrow.Author.Needs.{needs}
-use Rattle.block.proofs.names.item_text.Statement.{statement}
-use Rattle.block.proofs.names.item_text.Tie as tie
+use Rattle.names.proofs.item_text.Statement.{statement}
+use Rattle.names.proofs.item_text.Tie as tie
 
 returns : tie.Need-returns
 returns c = rw (eq-eqb _ 11 (c .if1 .taken))

@@ -1,8 +1,8 @@
 use native.Mathlib.Omega.{arith}
-use Rattle.block.proofs.NameLaws.{span-in, span-out}
+use Rattle.names.proofs.NameLaws.{span-in, span-out}
 use borrow.Author.Needs.{needs}
-use Rattle.block.proofs.names.row_span.Statement.{statement}
-use Rattle.block.proofs.names.row_span.Tie as tie
+use Rattle.names.proofs.row_span.Statement.{statement}
+use Rattle.names.proofs.row_span.Tie as tie
 
 add-wide : tie.Need-add-wide
 add-wide c = search needs
