@@ -7,15 +7,23 @@ use mathlib.Core.List.{List, _++_}
 use lib.ListN.{length, length-append, take, drop}
 use lib.Dec.{eqb, leb}
 use borrow.Author.Tests.{leb-true, leb-false, le-leb, lt-leb, ne-eqb}
+use Rattle.text.specs.Plain.{plain, plain-utf8}
 use Rattle.wire.specs.Pick.{pick}
+use Rattle.wire.specs.NameLaws.{plain-nul}
 use Rattle.layout.specs.Given.{D}
 use Rattle.rows_check.specs.Tree.{cell, rowCount, after, countOf, namesFrom, nextSec, countKind, kinds, structsFrom, labelsFrom}
-use Rattle.rows_check.specs.Check.{both, every, passes, secOk, walk, wellFormed, countsFit, secAt, fitsAll, sectionsFit, size, risesAt, fault}
+use Rattle.rows_check.specs.Check.{both, every, clean, passes, secOk, walk, wellFormed, countsFit, secAt, fitsAll, sectionsFit, size, risesAt, fault}
 use Rattle.rows_check.specs.Tests.{every-none, every-next, sec-place}
 use Rattle.rows_check.specs.Secs.{SecRows}
 use Rattle.rows_check.specs.Bodies.{many, many-none, many-next, nameAt, recordBody, structBody, labelBody, bodyAt, section-is, group, layout-is, record-length, struct-length, label-length}
 use Rattle.rows_check.specs.Rows.{headSize, clip, sizeOf, sizedOf}
 use Rattle.rows_check.specs.declared.Sized.the-variants.{Length, Refused}
+
+-- ---- a plain name
+
+pub clean-plain : (t : List ℕ) → true ≡ plain t → true ≡ clean t
+unfolding clean both
+clean-plain t e = sym (rw (plain-nul t (sym e), plain-utf8 t (sym e)))
 
 -- ---- the numbers of a row
 

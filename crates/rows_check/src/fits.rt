@@ -259,6 +259,9 @@ fn name_clean(rows: &[u32], text: &[u8], q: usize) -> bool
 fn is_clean(s: &[u8]) -> bool
     ensures { λ r. ⌜ r ≡ clean (now (s .entry)) ⌝ }
 {
+    if text::is_plain(s) {
+        return true;
+    }
     if wire::has_nul(s) {
         return false;
     }

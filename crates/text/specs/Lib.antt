@@ -1,4 +1,5 @@
 pub mod Utf8
+pub mod Plain
 pub mod Rows
 pub mod Trim
 pub mod Date

@@ -5,6 +5,7 @@ use mathlib.Core.Bool.{Bool}
 use mathlib.Core.List.{List}
 use Prim.Native.Nat.{ℕ}
 use Rattle.text.specs.Utf8.{utf8}
+use Rattle.text.specs.Plain.{plain}
 use Rattle.text.specs.Trim.{trimmedLen}
 use Rattle.text.specs.Date.{isDate}
 
@@ -14,6 +15,9 @@ one p q = p ∙ sym q
 
 pub is-utf8-one : (s : List ℕ) (a b : Bool) → a ≡ utf8 s → b ≡ utf8 s → a ≡ b
 is-utf8-one s a b = one
+
+pub is-plain-one : (s : List ℕ) (a b : Bool) → a ≡ plain s → b ≡ plain s → a ≡ b
+is-plain-one s a b = one
 
 pub trimmed-len-one : (s : List ℕ) (a b : ℕ) → a ≡ trimmedLen s → b ≡ trimmedLen s → a ≡ b
 trimmed-len-one s a b = one

@@ -11,6 +11,8 @@ use lib.Dec.{eqb}
 use borrow.Author.Tests.{le-leb, lt-leb, eq-eqb, ne-eqb}
 use Rattle.codec.specs.Codec.{among}
 use Rattle.text.specs.Utf8.{utf8}
+use Rattle.text.specs.Plain.{plain, plain-utf8}
+use Rattle.wire.specs.NameLaws.{plain-nul}
 use Rattle.wire.specs.Wire.{closeAt, textAt, part}
 use Rattle.wire.specs.declared.Got.the-variants.{Value, Refused}
 
@@ -61,3 +63,6 @@ module _ (s : List ℕ) (b len : ℕ) (h : len ≤ length s - b) where
   pub text-ok : false ≡ among 0 (part s b (b + len)) → true ≡ utf8 (part s b (b + len)) → closeAt s (b + len) len ≡ textAt s b len
   unfolding textAt
   text-ok n u = rw (le-leb len (length s - b) h, ← n, ← u)
+
+  pub text-plain : true ≡ plain (part s b (b + len)) → closeAt s (b + len) len ≡ textAt s b len
+  text-plain e = text-ok (sym (plain-nul (part s b (b + len)) (sym e))) (sym (plain-utf8 (part s b (b + len)) (sym e)))

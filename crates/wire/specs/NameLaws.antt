@@ -3,7 +3,7 @@ use Prim.Native.Nat.{ℕ, _+_, _-_, _≤_, _<_}
 use native.Mathlib.Omega.{arith}
 use mathlib.Core.Path.{_≡_, refl, sym, ap, _∙_}
 use mathlib.Core.Bool.{Bool, true, false}
-use mathlib.Core.List.{List}
+use mathlib.Core.List.{List, [], _∷_}
 use lib.ListN.{length, getD, take, drop, length-take, length-drop}
 use lib.Dec.{leb, eqb}
 use borrow.Author.Tests.{le-leb, lt-leb, ne-eqb}
@@ -11,12 +11,21 @@ use Rattle.codec.specs.Codec.{Res, ok, refuse, raw, num, byte, _then_, named, c
 use Rattle.codec.specs.Steps.{raw-got, raw-bad, byte-got, byte-bad}
 use Rattle.codec.specs.Cases.{by-bool, by-le, by-eqb}
 use Rattle.text.specs.Utf8.{utf8}
+use Rattle.text.specs.Plain.{plain, plain-next}
 use Rattle.wire.specs.Pick.{pick}
 use Rattle.wire.specs.Formats
 use Rattle.wire.specs.Formats.{Name, noNul, text}
 use Rattle.wire.specs.Wire.{gotOf, name, nameAt, textAt, closeAt, part}
 use Rattle.wire.specs.declared.Got.{Got}
 use Rattle.wire.specs.declared.Got.the-variants.{Value, Refused}
+
+-- a plain text holds no NUL
+pub plain-nul : (t : List ℕ) → plain t ≡ true → among 0 t ≡ false
+plain-nul [] e = refl
+plain-nul (b ∷ t) e =
+    let next = plain-next b t e in
+    let some : 0 ≡ b → ⊥ = λ q. let y : ⊥ = omega (arith, next .0) in y in
+    rw (ne-eqb 0 b some) (plain-nul t (next .2))
 
 -- a name, exit by exit: n is its length byte, t its text
 module _ (base : ℕ) (s : List ℕ) (i : ℕ) where

@@ -1,7 +1,7 @@
 // Reading at a place of a slice: numbers, bytes, names and sections; and rows of any width in a lent table.
 ghost use mathlib.Core.Path.{_≡_};
 ghost use Prim.Native.Nat.{_+_, _-_, _*_, _≤_, _<_, _^_};
-ghost use lib.ListN.{length, take, drop};
+ghost use lib.ListN.{length};
 ghost use Rattle.codec.specs.Codec.{among};
 ghost use Rattle.wire.specs.Wire.{takeAt, numAt, nameAt, textAt, closeAt, bodyAt, sectionAt, le16, le32, Past, Lies};
 ghost use Rattle.wire.specs.Out.{Put};
@@ -127,37 +127,8 @@ fn half(s: &[u8], at: usize) -> usize
     wide(s[at]) + 256 * wide(s[at + 1])
 }
 
-// A byte 0 stands in `s`. Eight bytes are looked at together, the last eight once more.
+// A byte 0 stands in `s`.
 pub fn has_nul(s: &[u8]) -> bool
-    ensures { λ r. ⌜ r ≡ among 0 (now (s .entry)) ⌝ }
-{
-    if s.len() < 8 {
-        return nul_by_one(s);
-    }
-    let mut i = 0;
-    while i + 8 <= s.len() {
-        if nul_in(s, i) {
-            return true;
-        }
-        i += 8;
-    }
-    nul_in(s, s.len() - 8)
-}
-
-// A byte 0 stands among the eight from a on.
-fn nul_in(s: &[u8], a: usize) -> bool
-    requires { ⌜ a + 8 ≤ length (now s) ⌝ }
-    ensures { λ r. ⌜ r ≡ among 0 (take 8 (drop a (now (s .entry)))) ⌝ }
-{
-    let mut any = false;
-    for j in 0..8 {
-        any = any | (s[a + j] == 0);
-    }
-    any
-}
-
-// The same as has_nul, byte by byte.
-fn nul_by_one(s: &[u8]) -> bool
     ensures { λ r. ⌜ r ≡ among 0 (now (s .entry)) ⌝ }
 {
     let mut i = 0;
@@ -197,6 +168,9 @@ fn text_at(s: &[u8], b: usize, len: usize) -> Got
     if len <= left(s, b) {
         let e = b + len;
         let t = &s[b..e];
+        if text::is_plain(t) {
+            return close_at(s, e, len);
+        }
         if has_nul(t) {
             return Got::Refused(refusal::NAME_HOLDS_NUL);
         }

@@ -1,10 +1,8 @@
 use Prim.Native.Nat.{_-_}
-use mathlib.Core.Path.{refl, sym, _∙_}
 use native.Mathlib.Omega.{arith}
+use mathlib.Core.Path.{refl, sym}
 use lib.ListN.{length}
-use Rattle.wire.proofs.Scan.{Scan}
-use Rattle.wire.proofs.Nul.{eight-hit, eight-next, last-eight}
-use borrow.Author.Needs.{needs}
+use Rattle.wire.proofs.Scan.{Scan, scan-hit, scan-next, scan-end}
 use Rattle.wire.proofs.has_nul.Statement.{statement}
 use Rattle.wire.proofs.has_nul.Tie as tie
 
@@ -17,14 +15,14 @@ abbrev μ-loop : tie.MeasureT-loop
 loop-holds : tie.Need-loop-holds Inv-loop μ-loop
 loop-holds c = record { bound = omega arith; same = refl }
 
-returns-2 : tie.Need-returns-2 Inv-loop μ-loop
-returns-2 c = eight-hit (c .before .before .before .loop .inv) (sym (c .if2 .taken) ∙ c .before .nul-in .ensures)
+returns : tie.Need-returns Inv-loop μ-loop
+returns c = sym (scan-hit (c .before .before .before .loop .inv) (omega arith) (c .if1 .taken))
 
 loop-again : tie.Need-loop-again Inv-loop μ-loop
-loop-again c = eight-next (c .before .before .before .loop .inv) (sym (c .if2 .left) ∙ c .before .nul-in .ensures) (search needs)
+loop-again c = scan-next (c .before .before .before .loop .inv) (omega arith) (c .if1 .left)
 
-returns-3 : tie.Need-returns-3 Inv-loop μ-loop
-returns-3 c = c .nul-in2 .ensures ∙ last-eight (c .before .before .loop .inv) (search needs) (search needs)
+returns-2 : tie.Need-returns-2 Inv-loop μ-loop
+returns-2 c = sym (scan-end (c .before .loop .inv) (omega arith))
 
 pub has-nul-spec : {M : Type 1} → statement M
 has-nul-spec =
@@ -32,15 +30,10 @@ has-nul-spec =
     (tie.spec
     Inv-loop
     μ-loop
-    (λ c κs. search needs)
-    (λ c. search needs)
     loop-holds
-    (λ c. search needs)
-    (λ c κs. search needs)
-    returns-2
-    (λ c. search needs)
-    (λ c. search needs)
+    (λ c. omega arith)
+    returns
+    (λ c. omega arith)
+    (λ c. omega arith)
     loop-again
-    (λ c. search needs)
-    (λ c κs. search needs)
-    returns-3)
+    returns-2)
