@@ -1,6 +1,6 @@
 // The layout of a block: records, structs and label defs, read into rows of nine.
-mod fields;
 mod labels;
+mod members;
 mod rows;
 mod sections;
 
@@ -76,7 +76,7 @@ pub fn entry_bytes(s: &[u8], at: usize) -> [u8; 11]
     ensures { λ r. ⌜ r ≡ entryBytes (now (s .entry)) at ⌝ }
 {
     if 11 <= wire::left(s, at) {
-        return fields::eleven(s, at);
+        return members::eleven(s, at);
     }
     [
         byte(s, at, 0),

@@ -1,6 +1,6 @@
 // Sections: each body is read as its own part of the layout.
-use super::fields;
 use super::labels;
+use super::members;
 use super::rows;
 use wire::Got;
 ghost use mathlib.Core.Path.{_≡_};
@@ -119,7 +119,7 @@ fn record_body(s: &[u8], base: usize, table: &mut [u32], n: usize) -> Got
                 } => {
                     let row = rows::record_row(s, base + (p + 1), len, count);
                     wire::put_row(table, n, &row);
-                    fields::fields(s, q, base, table, n + 1)
+                    members::fields(s, q, base, table, n + 1)
                 }
                 Got::Refused(why) => Got::Refused(why),
             },
@@ -149,7 +149,7 @@ fn struct_body(s: &[u8], base: usize, table: &mut [u32], n: usize) -> Got
                 } => {
                     let row = rows::struct_row(base + (p + 1), len, size, count);
                     wire::put_row(table, n, &row);
-                    fields::fields(s, q, base, table, n + 1)
+                    members::fields(s, q, base, table, n + 1)
                 }
                 Got::Refused(why) => Got::Refused(why),
             },

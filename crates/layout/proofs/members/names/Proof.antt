@@ -5,8 +5,8 @@ use Rattle.layout.specs.Reader.{namesAt}
 use Rattle.wire.specs.WireLaws.{past-at}
 use Rattle.layout.proofs.Laws.{names-row, names-no, names-end}
 use Rattle.wire.specs.OutLaws.{put-as, Going, going, going-row, going-no, going-end}
-use Rattle.layout.proofs.fields.names.Statement.{statement}
-use Rattle.layout.proofs.fields.names.Tie as tie
+use Rattle.layout.proofs.members.names.Statement.{statement}
+use Rattle.layout.proofs.members.names.Tie as tie
 
 abbrev Inv-loop : tie.InvT-loop
 Inv-loop s at count base table₀ n todo₀ p₀ k₀ table todo p k = Going 9 base s (namesAt base count s at) n table₀ (namesAt base todo s p) p k table

@@ -9,8 +9,8 @@ use Rattle.layout.specs.Reader.{entriesAt}
 use Rattle.wire.specs.WireLaws.{past-at}
 use Rattle.layout.proofs.Laws.{entries-row, entries-no, entries-end}
 use Rattle.wire.specs.OutLaws.{put-as, Going, going, going-row, going-no, going-end}
-use Rattle.layout.proofs.fields.entries.Statement.{statement}
-use Rattle.layout.proofs.fields.entries.Tie as tie
+use Rattle.layout.proofs.members.entries.Statement.{statement}
+use Rattle.layout.proofs.members.entries.Tie as tie
 
 abbrev Inv-loop : tie.InvT-loop
 Inv-loop s at count base table₀ n todo₀ p₀ k₀ table todo p k = Going 9 base s (entriesAt base count s at) n table₀ (entriesAt base todo s p) p k table

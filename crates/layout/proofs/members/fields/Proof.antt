@@ -4,8 +4,8 @@ use Rattle.wire.specs.WireLaws.{past-at}
 use Rattle.layout.proofs.Laws.{fields-ok, fields-no}
 use Rattle.wire.specs.OutLaws.{ran-seq, ran-stop, ran-is, ran-no, ran-at}
 use borrow.Author.Needs.{needs}
-use Rattle.layout.proofs.fields.fields.Statement.{statement}
-use Rattle.layout.proofs.fields.fields.Tie as tie
+use Rattle.layout.proofs.members.fields.Statement.{statement}
+use Rattle.layout.proofs.members.fields.Tie as tie
 
 entries-requires : tie.Need-entries-requires
 entries-requires c κs = record { small = c .before .before .before .before .before .before .before .pre .small; few = omega (arith, past-at (c .before .before .before .before .u16-at .ensures .1) (c .before .before .value .given .1)); inside = past-at (c .before .before .before .before .u16-at .ensures .1) (c .before .before .value .given .1) .1 }
