@@ -1,4 +1,4 @@
-// An input for each of 90 to 96.
+// An input for each of 90 to 96, and some that the rules refuse.
 use super::sheet;
 use writer::Written;
 ghost use Prim.Native.Nat.{_≤_};
@@ -9,6 +9,7 @@ pub(crate) fn all() {
     names();
     long();
     labels();
+    rules();
     short();
 }
 
@@ -150,6 +151,34 @@ fn labels() {
         b"95",
         number(&rows, b"S", &mut out) == refusal::LABELS_NOT_RISING,
     );
+}
+
+// Records without fields: of a reserved rtype, of a base below the header, of one not of 8, of one that nothing fills. The rules
+// come before 96.
+fn rules() {
+    let mut out = [7u8; 64];
+    let reserved = [10u32, 0, 1, 78, 0, 24, 0, 0, 0];
+    say(
+        b"62",
+        number(&reserved, b"R", &mut out) == refusal::RTYPE_RESERVED,
+    );
+    let small = [10u32, 0, 1, 1, 0, 16, 0, 0, 0];
+    say(
+        b"63",
+        number(&small, b"R", &mut out) == refusal::BASE_BELOW_HEADER,
+    );
+    let odd = [10u32, 0, 1, 1, 0, 28, 0, 0, 0];
+    say(
+        b"64",
+        number(&odd, b"R", &mut out) == refusal::BASE_NOT_OF_8,
+    );
+    let unfilled = [10u32, 0, 1, 1, 0, 24, 0, 0, 0];
+    let mut none = [0u8; 1];
+    say(
+        b"82, before 96",
+        number(&unfilled, b"R", &mut none) == refusal::BASE_UNFILLED,
+    );
+    say(b"no byte written", out[0] == 7);
 }
 
 // P7's rows, and an output that lacks one byte: it stays as it was.
