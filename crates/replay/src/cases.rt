@@ -43,9 +43,7 @@ pub(crate) fn case(
                 differ(b"written", c.written);
             }
         }
-        _ => {
-            c.differences = more(c.differences);
-        }
+        _ => c.differences = more(c.differences),
     }
     c
 }
