@@ -7,7 +7,7 @@ mod paper;
 mod sample;
 mod walk;
 
-#[path = "../../relay/bench/mod.rs"]
+#[path = "../../relay/measure/mod.rs"]
 mod bench_shapes;
 #[path = "../../relay/fuzz/calls.rs"]
 mod calls;

@@ -1,9 +1,9 @@
 //! bench: the speed of the C functions. Each figure is a median of the thread's own CPU time, all in one run.
 //!
 //! First texts beside the standard library, then what a relay meets every day, then what a hostile sender would make, at
-//! three sizes each: a cost that grows with the bytes doubles from one size to the next. `oracle/bench` has the same days
+//! three sizes each: a cost that grows with the bytes doubles from one size to the next. `relay/bench` prints the same days
 //! beside the crate dbn.
-#[path = "../../bench/mod.rs"]
+#[path = "../../measure/mod.rs"]
 mod bench;
 
 use bench::{alone, beside, shapes};
