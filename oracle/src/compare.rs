@@ -237,22 +237,7 @@ fn some_stream(r: &mut Rng, sheet: &Sheet) -> Vec<u8> {
 }
 
 fn some_layout(r: &mut Rng, sheet: &Sheet) -> (Vec<u8>, u16) {
-    let width = r.pick(&[0u16, 3, 8, 22, 71]);
-    let (records, fields) = (r.below(4), r.below(9));
-    let mut tree = gen::layout(r, sheet, width as usize, records, fields);
-    for _ in 0..r.pick(&[0, 0, 1, 1, 2]) {
-        gen::bend(r, sheet, &mut tree);
-    }
-    let mut bytes = tree.bytes(r);
-    match r.below(8) {
-        0 => {
-            let i = r.below(bytes.len());
-            bytes[i] = r.byte();
-        }
-        1 => bytes.truncate(r.below(bytes.len())),
-        _ => {}
-    }
-    (bytes, width)
+    gen::some_layout(r, sheet, &[0, 0, 1, 1, 2])
 }
 
 fn layout(r: &mut Rng, made: &Made, tally: &mut Tally) {

@@ -665,6 +665,26 @@ pub struct Head {
     pub fill: bool,
 }
 
+/// A layout and its symbol width, bent as often as one of `bends` says; of eight one has a byte changed, and one is cut.
+pub fn some_layout(r: &mut Rng, sheet: &Sheet, bends: &[usize]) -> (Vec<u8>, u16) {
+    let width = r.pick(&[0u16, 3, 8, 22, 71]);
+    let (records, fields) = (r.below(4), r.below(9));
+    let mut tree = layout(r, sheet, width as usize, records, fields);
+    for _ in 0..r.pick(bends) {
+        bend(r, sheet, &mut tree);
+    }
+    let mut bytes = tree.bytes(r);
+    match r.below(8) {
+        0 => {
+            let i = r.below(bytes.len());
+            bytes[i] = r.byte();
+        }
+        1 => bytes.truncate(r.below(bytes.len())),
+        _ => {}
+    }
+    (bytes, width)
+}
+
 pub fn head(r: &mut Rng, version: u8, width: u16) -> Head {
     Head {
         version,
