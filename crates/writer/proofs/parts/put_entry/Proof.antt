@@ -22,8 +22,7 @@ put-zeros-requires c κs = record { fits = omega (arith, c .before .before .befo
 
 returns : tie.Need-returns
 returns c =
-    let d : 5 ≡ D - 11 = omega (arith, D-is) in
-    wrote-is (wrote-then (c .before .before .before .before .before .before .put-bytes .ensures) (c .before .before .put-zeros .ensures)) (ap (λ (n : ℕ). c .before .before .before .before .before .before .before .before .before .before .args .t3 ++ replicate n 0) d ∙ sym (entry-print utf8 D (plainEntry (c .before .before .before .before .before .before .before .before .before .before .args .t3))))
+    wrote-is (wrote-then (c .before .before .before .before .before .before .put-bytes .ensures) (c .before .before .put-zeros .ensures)) (ap (λ (d : ℕ). c .before .before .before .before .before .before .before .before .before .before .args .t3 ++ replicate (d - 11) 0) (sym D-is) ∙ sym (entry-print utf8 D (plainEntry (c .before .before .before .before .before .before .before .before .before .before .args .t3))))
 
 pub put-entry-spec : {M : Type 1} → statement M
 put-entry-spec =
