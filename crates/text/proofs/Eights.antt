@@ -7,19 +7,8 @@ use native.Mathlib.Numerals.{add-one}
 use native.Mathlib.Omega.{arith}
 use lib.ListN.{length, getD, take, drop, length-drop, drop-of-length-le}
 use lib.Seq.{drop-cons, drop-drop, take-all}
+use Rattle.text.specs.And.{and-true, and-false, and-join}
 use Rattle.text.specs.Plain.{plainByte, plain}
-
-and-true : (x : Bool) → (x && true) ≡ x
-and-true true = refl
-and-true false = refl
-
-and-false : (x : Bool) → (x && false) ≡ false
-and-false true = refl
-and-false false = refl
-
-and-join : (x y z : Bool) → (x && (y && z)) ≡ ((x && y) && z)
-and-join true y z = refl
-and-join false y z = refl
 
 -- one byte more of the eight from a on
 pub eight-one : (s : List ℕ) (a j : ℕ) (x : Bool) → a + 8 ≤ length s → j < 8

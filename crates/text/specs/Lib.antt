@@ -1,5 +1,7 @@
 pub mod Utf8
+pub mod And
 pub mod Plain
+pub mod Ascii
 pub mod Rows
 pub mod Trim
 pub mod Date

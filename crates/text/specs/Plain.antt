@@ -1,12 +1,13 @@
 -- Texts of bytes from 1 to 127. Assumes nothing.
 use Prim.Native.Nat.{ℕ, _<_, _≤_, zero-le}
 use native.Mathlib.Omega.{arith}
-use mathlib.Core.Path.{_≡_, refl, ap, _∙_}
-use mathlib.Core.Bool.{Bool, true, false, _&&_}
+use mathlib.Core.Path.{_≡_, refl}
+use mathlib.Core.Bool.{Bool, true, _&&_}
 use mathlib.Core.List.{List, [], _∷_}
-use lib.Dec.{leb, ltb}
+use lib.Dec.{ltb}
 use borrow.Author.Tests.{ltb-true, le-leb}
 use Rattle.text.specs.Utf8.{utf8}
+use Rattle.text.specs.And.{and-left, and-right}
 
 -- a byte from 1 to 127
 abbrev pub plainByte : ℕ → Bool
@@ -16,14 +17,6 @@ plainByte b = ltb 0 b && ltb b 128
 abbrev pub plain : List ℕ → Bool
 plain [] = true
 plain (b ∷ s) = plainByte b && plain s
-
-and-left : (x y : Bool) → (x && y) ≡ true → x ≡ true
-and-left true y e = refl
-and-left false y e = e
-
-and-right : (x y : Bool) → (x && y) ≡ true → y ≡ true
-and-right true y e = e
-and-right false y e = let z : _≡_ {A = ℕ} 0 1 = cc in absurd (omega arith)
 
 -- the first byte of a plain text, and the rest
 pub plain-next : (b : ℕ) (s : List ℕ) → plain (b ∷ s) ≡ true → (0 < b) × (b < 128) × (plain s ≡ true)
