@@ -1,6 +1,6 @@
 -- The rules of one field, numbers 71 to 80 of document 01: 0 where all hold, else the number of the first that does not.
 -- Assumes nothing.
-use Prim.Native.Nat.{ℕ, _+_, _%_, _≤_, _<_}
+use Prim.Native.Nat.{ℕ, _%_, _≤_, _<_}
 use native.Mathlib.Omega.{arith}
 use mathlib.Core.Path.{_≡_, refl}
 use mathlib.Core.Bool.{Bool, true, false, not, _&&_, cond}
@@ -87,20 +87,36 @@ module _ (sheet : List ℕ) (width labels : ℕ) (aligns : List ℕ) (isRecord :
   low true h = absurd (eqb-false 80 0 refl h)
   low false h = refl
 
-  -- a field without fault that is not past the base starts below it
-  pub fault-below : (seen : Bool) (e : List ℕ) → fieldFault seen e ≡ 0 → pastBase isRecord base e ≡ false → offOf e < base
-  unfolding fieldFault breaks80
-  fault-below seen e h p =
-      let sized : sizeOf e ≡ 0 → ⊥ = fault-sized seen e h in
-      let last : refuse (not (pastBase isRecord base e) && ltb base (endOf e)) 80 0 ≡ 0 =
-      peel (breaks79 sheet isRecord base e) 79 _ refl
-      (peel (ltb 65535 (endOf e)) 78 _ refl
-      (peel (breaks77 sheet width e) 77 _ refl
+  -- 78, 79 and 80 hold
+  last : (seen : Bool) (e : List ℕ) → fieldFault seen e ≡ 0 → refuse (ltb 65535 (endOf e)) 78 (refuse (breaks79 sheet isRecord base e) 79 (refuse (breaks80 isRecord base e) 80 0)) ≡ 0
+  unfolding fieldFault
+  last seen e h =
+      peel (breaks77 sheet width e) 77 _ refl
       (peel (breaks76 sheet e) 76 _ refl
       (peel (eqb (sizeOf e) 0) 75 _ refl
       (peel (breaks74 sheet aligns e) 74 _ refl
       (peel (breaks73 sheet (length aligns) labels e) 73 _ refl
       (peel (breaks72 sheet isRecord e) 72 _ refl
-      (peel (breaks71 sheet seen e) 71 _ refl h)))))))) in
-      let end : endOf e ≤ base = ltb-false base (endOf e) (low (ltb base (endOf e)) (rw p at last)) in
+      (peel (breaks71 sheet seen e) 71 _ refl h))))))
+
+  holds : (b : Bool) (n x : ℕ) → eqb n 0 ≡ false → cond b n x ≡ 0 → b ≡ false
+  holds true n x m h = absurd (eqb-false n 0 m h)
+  holds false n x m h = refl
+
+  -- a field without fault ends at 65535 at the latest
+  pub fault-small : (seen : Bool) (e : List ℕ) → fieldFault seen e ≡ 0 → endOf e ≤ 65535
+  fault-small seen e h = ltb-false 65535 (endOf e) (holds (ltb 65535 (endOf e)) 78 _ refl (last seen e h))
+
+  -- and where it is not past the base, at the base at the latest
+  pub fault-within : (seen : Bool) (e : List ℕ) → fieldFault seen e ≡ 0 → pastBase isRecord base e ≡ false → endOf e ≤ base
+  unfolding breaks80
+  fault-within seen e h p =
+      ltb-false base (endOf e) (low (ltb base (endOf e)) (rw p at
+      (peel (breaks79 sheet isRecord base e) 79 _ refl (peel (ltb 65535 (endOf e)) 78 _ refl (last seen e h)))))
+
+  -- a field without fault that is not past the base starts below it
+  pub fault-below : (seen : Bool) (e : List ℕ) → fieldFault seen e ≡ 0 → pastBase isRecord base e ≡ false → offOf e < base
+  fault-below seen e h p =
+      let sized : sizeOf e ≡ 0 → ⊥ = fault-sized seen e h in
+      let end : endOf e ≤ base = fault-within seen e h p in
       omega arith

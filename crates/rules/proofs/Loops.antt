@@ -1,26 +1,28 @@
 -- What one turn of each loop over the entries does, over plain lists. Assumes nothing.
-use Prim.Native.Nat.{ℕ, zero, suc, _+_, _-_, _*_, _≤_, _<_, max}
+use Prim.Native.Nat.{ℕ, suc, _+_, _≤_, _<_, max}
 use mathlib.Core.Path.{_≡_, refl, sym, ap, _∙_, subst}
-use mathlib.Core.Bool.{Bool, true, false, not, _&&_, _||_, cond}
-use mathlib.Core.List.{List, [], _∷_, map}
+use mathlib.Core.Bool.{Bool, true, false, _||_, cond}
+use mathlib.Core.List.{List, [], _∷_}
 use native.Mathlib.Omega.{arith}
 use native.Mathlib.Nat.{add-zero, zero-add}
-use lib.ListN.{length, getD}
+use lib.ListN.{length}
 use lib.Dec.{eqb, lit<}
-use borrow.Author.Tests.{eq-eqb, ne-eqb, eqb-true, eqb-false}
+use borrow.Author.Tests.{eq-eqb, ne-eqb}
 use Rattle.codec.specs.Codec.{among}
 use Rattle.codec.specs.Cases.{by-bool}
 use Rattle.marks.specs.Marks.{marked, withMark, Marks, Only, wiped}
 use Rattle.marks.specs.MarkLaws.{marks-more, only-next, only-end}
-use Rattle.fields.specs.Sheet.{idOf, offOf, sizeOf, endOf, isPadding, pastBase, memberAlign}
-use Rattle.fields.specs.Field.{differs, fieldFault, fault-sized, fault-below}
+use Rattle.fields.specs.Sheet.{idOf, offOf, endOf, isPadding, pastBase, memberAlign}
+use Rattle.fields.specs.Field.{differs, fieldFault}
 use Rattle.rules.specs.declared.Source.{Source}
 use Rattle.rules.specs.declared.Hit.{Hit}
-use Rattle.rules.specs.Tile.{Span}
+use Rattle.plain_tiling.specs.Tile.{Span}
 use Rattle.rules.specs.Rules.{first, noted, spans, largest, structAlign, baseFault, extFault, fieldsFault, seqFault, plain}
 use Rattle.rules.specs.Entries.{entryOf, entriesOf, restOf, Room, entries-cons, entries-nil, entries-length, room-rest}
-use Rattle.rules.specs.Chase.{Has, here, there, None, Chase, stop, Proper, find, startsHere, onSide, Within, Sought, Hits}
+use Rattle.rules.specs.Chase.{Has, there, None, Chase, stop, Proper, find, startsHere, onSide, Within, Sought, Hits}
 use Rattle.rules.specs.Sequence.{idsOf, notedMarks}
+use Rattle.plain_tiling.specs.Owners.{Placed}
+use Rattle.rules.specs.Engines.{Passed}
 use Rattle.rules.proofs.Search.{walk-sorted, find-none, find-has}
 
 no-true : true ≡ false → ⊥
@@ -186,8 +188,12 @@ first-none r b h = rw (eq-eqb r 0 h)
 pub first-some : (r b : ℕ) → (r ≡ 0 → ⊥) → first r b ≡ r
 first-some r b h = rw (ne-eqb r 0 h)
 
-pub halves : (a b : ℕ) → first a b ≡ 0 → (a ≡ 0) × (b ≡ 0)
-halves a b h = by-bool (eqb a 0) (λ t. (eqb-true a 0 t, rw t at h)) (λ t. absurd (eqb-false a 0 t (rw t at h)))
+-- 81 or 82, else 83
+pub tiling-base : {b a : ℕ} (x : ℕ) → b ≡ a → (b ≡ 0 → ⊥) → b ≡ first a x
+tiling-base {b} x e n = sym (rw (← e) (first-some b x n))
+
+pub tiling-ext : {b a x y : ℕ} → b ≡ a → b ≡ 0 → y ≡ x → y ≡ first a x
+tiling-ext {b} {a} {x} {y} e z f = sym (rw (← e, ← f) (first-none b y z))
 
 -- ---- the largest alignment
 
@@ -230,30 +236,27 @@ or-wide false b c h = h
 or-nil : (a : Bool) → a ≡ true → (a || false) ≡ true
 or-nil a h = rw h
 
-module _ (sheet : List ℕ) (width labels : ℕ) (aligns : List ℕ) (isRecord : Bool) (base : ℕ) where
-  -- entries that passed have proper spans
-  pub proper : (ext : Bool) (ids : List ℕ) (es : List (List ℕ)) → fieldsFault sheet width labels aligns isRecord base ids es ≡ 0 → Proper (spans isRecord base ext es)
-  unfolding fieldsFault spans
-  proper ext ids [] h = tt
-  proper ext ids (e ∷ es) h =
-      let two = halves (fieldFault sheet width labels aligns isRecord base (among (idOf e) ids) e) _ h in
-      let rest : Proper (spans isRecord base ext es) = proper ext (noted sheet e ids) es (two .1) in
-      by-bool (differs ext (pastBase isRecord base e)) (λ d. rw d rest) (λ d. rw d (ends (fault-sized sheet width labels aligns isRecord base (among (idOf e) ids) e (two .0)), rest))
-    where
-      ends : (sizeOf e ≡ 0 → ⊥) → offOf e < offOf e + sizeOf e
-      ends n = omega arith
+-- entries that passed have proper spans, and none of the base starts at the base
+placed-proper : (a b : ℕ) (ss : List Span) → Placed a b ss → Proper ss
+placed-proper a b [] i = tt
+placed-proper a b (s ∷ ss) i = (i .0 .some, placed-proper a b ss (i .1))
 
-  -- entries that passed and are not past the base start below it
-  pub none-at-base : (ids : List ℕ) (es : List (List ℕ)) → fieldsFault sheet width labels aligns isRecord base ids es ≡ 0 → None (spans isRecord base false es) base
-  unfolding fieldsFault spans
-  none-at-base ids [] h = tt
-  none-at-base ids (e ∷ es) h =
-      let two = halves (fieldFault sheet width labels aligns isRecord base (among (idOf e) ids) e) _ h in
-      let rest : None (spans isRecord base false es) base = none-at-base (noted sheet e ids) es (two .1) in
-      by-bool (pastBase isRecord base e) (λ d. rw d rest) (λ d. rw d (apart (fault-below sheet width labels aligns isRecord base (among (idOf e) ids) e (two .0) d), rest))
-    where
-      apart : offOf e < base → offOf e ≡ base → ⊥
-      apart h q = let y : ⊥ = omega arith in y
+placed-none : (a b : ℕ) (ss : List Span) → Placed a b ss → None ss b
+placed-none a b [] i = tt
+placed-none a b (s ∷ ss) i = (λ e. apart (i .0 .some) (i .0 .to) e, placed-none a b ss (i .1))
+  where
+    apart : s .0 < s .1 → s .1 ≤ b → s .0 ≡ b → ⊥
+    apart h k e = omega arith
+
+module _ {isRecord : Bool} {base : ℕ} {es : List (List ℕ)} (i : Passed isRecord base es) where
+  pub low-proper : Proper (spans isRecord base false es)
+  low-proper = placed-proper 0 base (spans isRecord base false es) (i .low)
+
+  pub low-none : None (spans isRecord base false es) base
+  low-none = placed-none 0 base (spans isRecord base false es) (i .low)
+
+  pub high-proper : Proper (spans isRecord base true es)
+  high-proper = placed-proper base 65535 (spans isRecord base true es) (i .high)
 
 module _ (sheet : List ℕ) (width labels : ℕ) (aligns : List ℕ) (isRecord : Bool) (base : ℕ) (l t : List ℕ) where
   abbrev F : List ℕ → Source → ℕ
@@ -327,11 +330,8 @@ module _ (sheet : List ℕ) (width labels : ℕ) (aligns : List ℕ) (isRecord :
       pub seq-fields : (f ≡ 0 → ⊥) → f ≡ Q
       seq-fields n = sym (parts ∙ first-some f _ n)
 
-      pub seq-base : f ≡ 0 → {b : ℕ} → b ≡ baseFault isRecord base (entriesOf l t src) → (b ≡ 0 → ⊥) → b ≡ Q
-      seq-base z {b} q n = sym (parts ∙ first-none f _ z ∙ rw (← q) (first-some b _ n))
-
-      pub seq-ext : f ≡ 0 → {b x : ℕ} → b ≡ baseFault isRecord base (entriesOf l t src) → b ≡ 0 → x ≡ extFault isRecord base (entriesOf l t src) → x ≡ Q
-      seq-ext z {b} {x} q y r = sym (parts ∙ first-none f _ z ∙ rw (← q, ← r) (first-none b x y))
+      pub seq-tiling : f ≡ 0 → {x : ℕ} → x ≡ first (baseFault isRecord base (entriesOf l t src)) (extFault isRecord base (entriesOf l t src)) → x ≡ Q
+      seq-tiling z r = sym (parts ∙ first-none f _ z ∙ sym r)
 
 -- ---- clearing
 

@@ -10,7 +10,7 @@ use lib.ListN.{length}
 use lib.Dec.{leb, eqb, eqb·suc-suc, eqb·zero-suc}
 use borrow.Author.Tests.{eq-eqb, ne-eqb, leb-true, leb-false}
 use Rattle.codec.specs.Cases.{by-bool, by-eqb, by-order}
-use Rattle.rules.specs.Tile.{Span, insert, sorted, walk}
+use Rattle.plain_tiling.specs.Tile.{Span, insert, sorted, walk}
 use Rattle.rules.specs.Chase.{Has, here, there, None, Proper, Chase, stop, step, Reached, begun, on, find}
 
 by-leb {ℓ} : {P : Type ℓ} (a b : ℕ) → (leb a b ≡ true → a ≤ b → P) → (leb a b ≡ false → b < a → P) → P

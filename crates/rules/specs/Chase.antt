@@ -9,7 +9,7 @@ use Rattle.fields.specs.Sheet.{offOf, pastBase}
 use Rattle.fields.specs.Field.{differs}
 use Rattle.rules.specs.declared.Source.{Source}
 use Rattle.rules.specs.declared.Hit.{Hit}
-use Rattle.rules.specs.Tile.{Span}
+use Rattle.plain_tiling.specs.Tile.{Span}
 use Rattle.rules.specs.Rules.{spans}
 use Rattle.rules.specs.Entries.{entriesOf, Room}
 

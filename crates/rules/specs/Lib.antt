@@ -1,4 +1,3 @@
-pub mod Tile
 pub mod Rules
 pub mod RowRules
 pub mod Entries
@@ -8,3 +7,5 @@ pub mod Walk
 pub mod Whole
 pub mod RowLaws
 pub mod Single
+pub mod Marking
+pub mod Engines

@@ -14,7 +14,7 @@ use Rattle.layout.specs.Standing.{structs-bare, records-bare, labels-bare}
 use Rattle.layout.specs.Given.{D, layoutOf}
 use Rattle.fields.specs.Sheet.{idOf, offOf, endOf, isPadding, pastBase, memberAlign}
 use Rattle.fields.specs.Field.{refuse, differs, fieldFault}
-use Rattle.rules.specs.Tile.{Span, sorted, walk}
+use Rattle.plain_tiling.specs.Tile.{Span, sorted, walk}
 
 -- the first of two verdicts that is a refusal
 abbrev pub first : ℕ → ℕ → ℕ

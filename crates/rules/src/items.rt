@@ -71,6 +71,7 @@ fn struct_fault(
     item: Item,
     width: usize,
     labels: usize,
+    marked: bool,
     marks: &mut [u64; 1024],
 ) -> u32
     requires { ⌜ Room (now layout) (now rows) (item .entries) ⌝ }
@@ -90,7 +91,17 @@ fn struct_fault(
         width,
         labels,
     };
-    sequence::seq_fault(sheet, aligns, layout, rows, src, item.names, frame, marks)
+    sequence::seq_fault(
+        sheet,
+        aligns,
+        layout,
+        rows,
+        src,
+        item.names,
+        frame,
+        marked,
+        marks,
+    )
 }
 
 // The first of numbers 61 to 64 and 70 to 83 that a record gives, or 0; `twice` says that its rtype came before.
@@ -103,6 +114,7 @@ fn record_fault(
     twice: bool,
     width: usize,
     labels: usize,
+    marked: bool,
     marks: &mut [u64; 1024],
 ) -> u32
     requires { ⌜ Room (now layout) (now rows) (item .entries) ⌝ }
@@ -131,7 +143,17 @@ fn record_fault(
         width,
         labels,
     };
-    sequence::seq_fault(sheet, aligns, layout, rows, src, item.names, frame, marks)
+    sequence::seq_fault(
+        sheet,
+        aligns,
+        layout,
+        rows,
+        src,
+        item.names,
+        frame,
+        marked,
+        marks,
+    )
 }
 
 // The first number that a struct gives, in table order, or 0.
@@ -143,6 +165,7 @@ fn structs_fault(
     place: Place,
     width: usize,
     labels: usize,
+    marked: bool,
     marks: &mut [u64; 1024],
 ) -> u32
     requires { ⌜ Good (now layout) (now rows) false place ⌝ }
@@ -154,7 +177,17 @@ fn structs_fault(
     loop {
         match walk::next_item(layout, rows, false, p) {
             Next::Found(item, after) => {
-                let v = struct_fault(sheet, aligns, layout, rows, item, width, labels, marks);
+                let v = struct_fault(
+                    sheet,
+                    aligns,
+                    layout,
+                    rows,
+                    item,
+                    width,
+                    labels,
+                    marked,
+                    marks,
+                );
                 if v != 0 {
                     return v;
                 }
@@ -174,6 +207,7 @@ fn records_fault(
     place: Place,
     width: usize,
     labels: usize,
+    marked: bool,
     marks: &mut [u64; 1024],
 ) -> u32
     requires { ⌜ Good (now layout) (now rows) true place ⌝ }
@@ -196,6 +230,7 @@ fn records_fault(
                     twice,
                     width,
                     labels,
+                    marked,
                     marks,
                 );
                 if v != 0 {
@@ -218,6 +253,7 @@ fn rules_in(
     records: Place,
     width: usize,
     labels: usize,
+    marked: bool,
     aligns: &mut [u16],
 ) -> u32
     requires { ⌜ Good (now layout) (now rows) false structs ⌝ }
@@ -235,6 +271,7 @@ fn rules_in(
         structs,
         width,
         labels,
+        marked,
         &mut marks,
     );
     if v != 0 {
@@ -248,6 +285,7 @@ fn rules_in(
         records,
         width,
         labels,
+        marked,
         &mut marks,
     )
 }
@@ -262,6 +300,7 @@ fn rules_by(
     records: Place,
     width: usize,
     labels: usize,
+    marked: bool,
     table: &mut [u16],
 ) -> u32
     requires { ⌜ Ready (now layout) (now rows) structs n records ⌝ }
@@ -276,6 +315,7 @@ fn rules_by(
         records,
         width,
         labels,
+        marked,
         &mut table[..n],
     )
 }
@@ -289,6 +329,7 @@ fn rules_64(
     records: Place,
     width: usize,
     labels: usize,
+    marked: bool,
 ) -> u32
     requires { ⌜ Ready (now layout) (now rows) structs n records ⌝ }
     requires { ⌜ n ≤ 64 ⌝ }
@@ -304,6 +345,7 @@ fn rules_64(
         records,
         width,
         labels,
+        marked,
         &mut table,
     )
 }
@@ -317,6 +359,7 @@ fn rules_4096(
     records: Place,
     width: usize,
     labels: usize,
+    marked: bool,
 ) -> u32
     requires { ⌜ Ready (now layout) (now rows) structs n records ⌝ }
     requires { ⌜ n ≤ 4096 ⌝ }
@@ -332,6 +375,7 @@ fn rules_4096(
         records,
         width,
         labels,
+        marked,
         &mut table,
     )
 }
@@ -345,6 +389,7 @@ fn rules_65535(
     records: Place,
     width: usize,
     labels: usize,
+    marked: bool,
 ) -> u32
     requires { ⌜ Ready (now layout) (now rows) structs n records ⌝ }
     requires { ⌜ n ≤ 65535 ⌝ }
@@ -360,12 +405,13 @@ fn rules_65535(
         records,
         width,
         labels,
+        marked,
         &mut table,
     )
 }
 
-// The rules of n structs and of the records; the table for the alignments is no larger than it must be, since it is
-// cleared first.
+// The rules of n structs and of the records, with all of 81 to 83 found by marking places where `marked` holds.
+// The table for the alignments is no larger than it must be, since it is cleared first.
 pub(crate) fn rules(
     sheet: &[u16; 520],
     layout: &[u8],
@@ -375,16 +421,47 @@ pub(crate) fn rules(
     records: Place,
     width: usize,
     labels: usize,
+    marked: bool,
 ) -> u32
     requires { ⌜ Ready (now layout) (now rows) structs n records ⌝ }
     requires { ⌜ n ≤ 65535 ⌝ }
     ensures { λ r. ⌜ r ≡ seqsFault (now (sheet .entry)) width (seqsFrom (now (layout .entry)) (now (rows .entry)) false structs) (seqsFrom (now (layout .entry)) (now (rows .entry)) true records) labels ⌝ }
 {
     if n <= 64 {
-        return rules_64(sheet, layout, rows, structs, n, records, width, labels);
+        return rules_64(
+            sheet,
+            layout,
+            rows,
+            structs,
+            n,
+            records,
+            width,
+            labels,
+            marked,
+        );
     }
     if n <= 4096 {
-        return rules_4096(sheet, layout, rows, structs, n, records, width, labels);
+        return rules_4096(
+            sheet,
+            layout,
+            rows,
+            structs,
+            n,
+            records,
+            width,
+            labels,
+            marked,
+        );
     }
-    rules_65535(sheet, layout, rows, structs, n, records, width, labels)
+    rules_65535(
+        sheet,
+        layout,
+        rows,
+        structs,
+        n,
+        records,
+        width,
+        labels,
+        marked,
+    )
 }

@@ -12,6 +12,7 @@ ghost use Rattle.rules.specs.Whole.{Accepted, Skips, rulesIn, isKind};
 
 mod entries;
 mod items;
+mod plain;
 mod sequence;
 mod tile;
 mod walk;
@@ -35,6 +36,12 @@ pub struct Hit {
 pub struct Chased {
     pub used: usize,
     pub cursor: usize,
+}
+
+// What marking entries came to: whether two of them overlap, and where the furthest of those marked ends.
+pub struct Painted {
+    pub clash: bool,
+    pub top: usize,
 }
 
 // Records or structs yet to come: in the rows, from row `at` on, as many rows as are left; or in the layout's bytes, as
@@ -94,7 +101,17 @@ fn layout_rules(layout: &[u8], sheet: &[u16; 520], width: usize) -> u32
         at: 4,
         left: m,
     };
-    items::rules(sheet, layout, &none, structs, n, records, width, labels)
+    items::rules(
+        sheet,
+        layout,
+        &none,
+        structs,
+        n,
+        records,
+        width,
+        labels,
+        false,
+    )
 }
 
 // The verdict on a layout given with a symbol width: 13, then the layout, then its rules. Its version and how many rows
@@ -137,8 +154,8 @@ fn label_rows(rows: &[u32]) -> usize
 }
 
 // The rules of the records and structs in a table of rows: the first number that they give, or 0; 91 where there are more
-// than 65,535 structs.
-pub fn check_rows(rows: &[u32], width: u16, sheet: &[u16; 520]) -> u32
+// than 65,535 structs. Where `marked` holds all of 81 to 83 are found by marking places.
+fn rows_fault(rows: &[u32], width: u16, sheet: &[u16; 520], marked: bool) -> u32
     ensures { λ r. ⌜ r ≡ rowsRules (now (sheet .entry)) width (now (rows .entry)) ⌝ }
 {
     let none = [0u8; 1];
@@ -152,5 +169,30 @@ pub fn check_rows(rows: &[u32], width: u16, sheet: &[u16; 520]) -> u32
         return refusal::COUNT_LARGE;
     }
     let labels = label_rows(rows);
-    items::rules(sheet, &none, rows, all, n, all, width as usize, labels)
+    items::rules(
+        sheet,
+        &none,
+        rows,
+        all,
+        n,
+        all,
+        width as usize,
+        labels,
+        marked,
+    )
+}
+
+// The rules of the records and structs in a table of rows: the first number that they give, or 0; 91 where there are more
+// than 65,535 structs.
+pub fn check_rows(rows: &[u32], width: u16, sheet: &[u16; 520]) -> u32
+    ensures { λ r. ⌜ r ≡ rowsRules (now (sheet .entry)) width (now (rows .entry)) ⌝ }
+{
+    rows_fault(rows, width, sheet, false)
+}
+
+// The same, with all of 81 to 83 found by marking places.
+pub fn check_rows_plain(rows: &[u32], width: u16, sheet: &[u16; 520]) -> u32
+    ensures { λ r. ⌜ r ≡ rowsRules (now (sheet .entry)) width (now (rows .entry)) ⌝ }
+{
+    rows_fault(rows, width, sheet, true)
 }

@@ -1,6 +1,7 @@
 // One record or struct: its alignment, and numbers 70 to 83.
 use crate::Source;
 use crate::entries;
+use crate::plain;
 use crate::tile;
 use fields::Frame;
 ghost use mathlib.Core.Path.{_≡_};
@@ -8,9 +9,13 @@ ghost use mathlib.Core.Bool.{true, false};
 ghost use mathlib.Core.List.{[]};
 ghost use Prim.Native.Nat.{_<_, _≤_, max};
 ghost use Rattle.marks.specs.Marks.{Marks, Only};
-ghost use Rattle.rules.specs.Rules.{structAlign, fieldsFault, seqFault, plain};
+ghost use Rattle.rules.specs.Rules.{first, structAlign, fieldsFault, baseFault, extFault, seqFault, plain};
+ghost use Rattle.rules.specs.Engines.{Passed};
 ghost use Rattle.rules.specs.Entries.{entriesOf, Room};
 ghost use Rattle.rules.specs.Sequence.{idsOf, notedMarks, Marking, Clean};
+
+// Fewer entries than these are searched through in any order.
+const FEW: usize = 48;
 
 fn larger(a: u16, b: u16) -> u16
     ensures { λ r. ⌜ r ≡ max a b ⌝ }
@@ -86,7 +91,45 @@ fn wipe_ids(layout: &[u8], rows: &[u32], src: Source, marks: &mut [u64; 1024])
     }
 }
 
-// The first of numbers 70 to 83 that a record or a struct gives, or 0. The marks are clear before, and after 0.
+// Whether the entries start in rising order. Each search then finds its entry at once.
+fn in_order(layout: &[u8], rows: &[u32], src: Source) -> bool
+    requires { ⌜ Room (now layout) (now rows) src ⌝ }
+{
+    let mut left = src;
+    let mut last: usize = 0;
+    while 0 < left.count {
+        let e = entries::entry_at(layout, rows, left);
+        let start = fields::off_of(e);
+        if start < last {
+            return false;
+        }
+        last = start;
+        left = entries::rest(left);
+    }
+    true
+}
+
+// The first of numbers 81 to 83 that entries give which passed 71 to 80, or 0: by search where they are few or in order, by
+// marks where they are not, or `marked` holds.
+fn tiling(layout: &[u8], rows: &[u32], src: Source, frame: Frame, marked: bool) -> u32
+    requires { ⌜ Room (now layout) (now rows) src ⌝ }
+    requires { ⌜ Passed (frame .open) (frame .base) (entriesOf (now layout) (now rows) src) ⌝ }
+    ensures { λ r. ⌜ r ≡ first (baseFault (frame .open) (frame .base) (entriesOf (now (layout .entry)) (now (rows .entry)) src)) (extFault (frame .open) (frame .base) (entriesOf (now (layout .entry)) (now (rows .entry)) src)) ⌝ }
+{
+    if marked {
+        return plain::plain_tiling(layout, rows, src, frame);
+    }
+    if src.count < FEW {
+        return tile::tiling_by_search(layout, rows, src, frame);
+    }
+    if in_order(layout, rows, src) {
+        return tile::tiling_by_search(layout, rows, src, frame);
+    }
+    plain::plain_tiling(layout, rows, src, frame)
+}
+
+// The first of numbers 70 to 83 that a record or a struct gives, or 0, with 81 to 83 by marks where `marked`
+// holds. The marks of ids are clear before, and after 0.
 pub(crate) fn seq_fault(
     sheet: &[u16; 520],
     aligns: &[u16],
@@ -95,6 +138,7 @@ pub(crate) fn seq_fault(
     src: Source,
     names: usize,
     frame: Frame,
+    marked: bool,
     marks: &mut [u64; 1024],
 ) -> u32
     requires { ⌜ Room (now layout) (now rows) src ⌝ }
@@ -111,10 +155,5 @@ pub(crate) fn seq_fault(
         return a;
     }
     wipe_ids(layout, rows, src, marks);
-    let k = tile::count(layout, rows, src, frame, false);
-    let b = tile::base_fault(layout, rows, src, frame, k);
-    if b != 0 {
-        return b;
-    }
-    tile::ext_fault(layout, rows, src, frame, src.count - k)
+    tiling(layout, rows, src, frame, marked)
 }

@@ -8,8 +8,9 @@ ghost use mathlib.Core.Path.{_≡_};
 ghost use mathlib.Core.Bool.{true, false};
 ghost use Prim.Native.Nat.{_<_, _≤_};
 ghost use lib.ListN.{length};
-ghost use Rattle.rules.specs.Rules.{spans, baseFault, extFault};
+ghost use Rattle.rules.specs.Rules.{first, spans, baseFault, extFault};
 ghost use Rattle.rules.specs.Entries.{entriesOf, Room};
+ghost use Rattle.rules.specs.Engines.{Passed};
 ghost use Rattle.rules.specs.Chase.{startsHere, onSide, None, Proper, Chase, Within, Sought, Hits};
 
 // A place that no entry reaches.
@@ -77,7 +78,7 @@ fn seek_on(
 }
 
 // How many entries the side has.
-pub(crate) fn count(layout: &[u8], rows: &[u32], src: Source, frame: Frame, ext: bool) -> usize
+fn count(layout: &[u8], rows: &[u32], src: Source, frame: Frame, ext: bool) -> usize
     requires { ⌜ Room (now layout) (now rows) src ⌝ }
     ensures { λ r. ⌜ r ≡ length (spans (frame .open) (frame .base) ext (entriesOf (now (layout .entry)) (now (rows .entry)) src)) ⌝ }
 {
@@ -123,7 +124,7 @@ fn chase(
 }
 
 // 81 and 82 of entries that passed 71 to 80, k of which are on the side of the base, or 0.
-pub(crate) fn base_fault(layout: &[u8], rows: &[u32], src: Source, frame: Frame, k: usize) -> u32
+fn base_fault(layout: &[u8], rows: &[u32], src: Source, frame: Frame, k: usize) -> u32
     requires { ⌜ Room (now layout) (now rows) src ⌝ }
     requires { ⌜ Proper (spans (frame .open) (frame .base) false (entriesOf (now layout) (now rows) src)) ⌝ }
     requires { ⌜ None (spans (frame .open) (frame .base) false (entriesOf (now layout) (now rows) src)) (frame .base) ⌝ }
@@ -141,7 +142,7 @@ pub(crate) fn base_fault(layout: &[u8], rows: &[u32], src: Source, frame: Frame,
 }
 
 // 83 of the same, k of which are past the base, or 0.
-pub(crate) fn ext_fault(layout: &[u8], rows: &[u32], src: Source, frame: Frame, k: usize) -> u32
+fn ext_fault(layout: &[u8], rows: &[u32], src: Source, frame: Frame, k: usize) -> u32
     requires { ⌜ Room (now layout) (now rows) src ⌝ }
     requires { ⌜ Proper (spans (frame .open) (frame .base) true (entriesOf (now layout) (now rows) src)) ⌝ }
     requires { ⌜ frame .base < 65536 ⌝ }
@@ -156,4 +157,18 @@ pub(crate) fn ext_fault(layout: &[u8], rows: &[u32], src: Source, frame: Frame, 
         return refusal::EXTENSION_GAP;
     }
     0
+}
+
+// The first of numbers 81 to 83 that entries give which passed 71 to 80, or 0.
+pub(crate) fn tiling_by_search(layout: &[u8], rows: &[u32], src: Source, frame: Frame) -> u32
+    requires { ⌜ Room (now layout) (now rows) src ⌝ }
+    requires { ⌜ Passed (frame .open) (frame .base) (entriesOf (now layout) (now rows) src) ⌝ }
+    ensures { λ r. ⌜ r ≡ first (baseFault (frame .open) (frame .base) (entriesOf (now (layout .entry)) (now (rows .entry)) src)) (extFault (frame .open) (frame .base) (entriesOf (now (layout .entry)) (now (rows .entry)) src)) ⌝ }
+{
+    let k = count(layout, rows, src, frame, false);
+    let b = base_fault(layout, rows, src, frame, k);
+    if b != 0 {
+        return b;
+    }
+    ext_fault(layout, rows, src, frame, src.count - k)
 }

@@ -58,7 +58,7 @@ fn number(v: Verdict) -> u32 {
     }
 }
 
-// What is said of the bytes, and of the rows that they give.
+// What is said of the bytes, and of the rows that they give, by either engine.
 fn show(a: Change, b: Change, c: Change) {
     let sheet = sheet();
     let mut bytes = plain();
@@ -73,6 +73,8 @@ fn show(a: Change, b: Change, c: Change) {
     write(number(rules::check_layout(&bytes, 8, &sheet)));
     io::write_all(1, b" ");
     write(rules::check_rows(&rows, 8, &sheet));
+    io::write_all(1, b" ");
+    write(rules::check_rows_plain(&rows, 8, &sheet));
     io::write_all(1, b"\n");
 }
 

@@ -10,11 +10,11 @@ use Rattle.rules.proofs.items.records_fault.Statement.{statement}
 use Rattle.rules.proofs.items.records_fault.Tie as tie
 
 abbrev Inv-loop : tie.InvT-loop
-Inv-loop sheet aligns layout rows width labels marks₀ rtypes₀ p₀ marks rtypes p =
+Inv-loop sheet aligns layout rows width labels marked marks₀ rtypes₀ p₀ marks rtypes p =
     Recording sheet width labels aligns layout rows p₀ p marks rtypes
 
 abbrev μ-loop : tie.MeasureT-loop
-μ-loop sheet aligns layout rows width labels marks₀ rtypes₀ p₀ marks rtypes p =
+μ-loop sheet aligns layout rows width labels marked marks₀ rtypes₀ p₀ marks rtypes p =
     length (seqsFrom layout rows true p)
 
 loop-holds : tie.Need-loop-holds Inv-loop μ-loop

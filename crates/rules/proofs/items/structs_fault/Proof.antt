@@ -8,11 +8,11 @@ use Rattle.rules.proofs.items.structs_fault.Statement.{statement}
 use Rattle.rules.proofs.items.structs_fault.Tie as tie
 
 abbrev Inv-loop : tie.InvT-loop
-Inv-loop sheet aligns layout rows width labels marks₀ p₀ marks p =
+Inv-loop sheet aligns layout rows width labels marked marks₀ p₀ marks p =
     Structing sheet width labels aligns layout rows p₀ p marks
 
 abbrev μ-loop : tie.MeasureT-loop
-μ-loop sheet aligns layout rows width labels marks₀ p₀ marks p =
+μ-loop sheet aligns layout rows width labels marked marks₀ p₀ marks p =
     length (seqsFrom layout rows false p)
 
 loop-holds : tie.Need-loop-holds Inv-loop μ-loop

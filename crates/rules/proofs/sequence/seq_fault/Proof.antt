@@ -1,8 +1,8 @@
 -- The numbers one after the other. Assumes nothing.
 use native.Mathlib.Omega.{arith}
 use mathlib.Core.Path.{sym, _∙_}
-use Rattle.rules.specs.Entries.{entriesOf, entries-length}
-use Rattle.rules.proofs.Loops.{seq-70, seq-fields, seq-base, seq-ext, proper, none-at-base, sides}
+use Rattle.rules.specs.Engines.{passed}
+use Rattle.rules.proofs.Loops.{seq-70, seq-fields, seq-tiling}
 use borrow.Author.Needs.{needs}
 use Rattle.rules.proofs.sequence.seq_fault.Statement.{statement}
 use Rattle.rules.proofs.sequence.seq_fault.Tie as tie
@@ -16,24 +16,11 @@ returns-2 c = (seq-fields _ _ _ _ _ _ _ _ _ _ (c .before .before .before .if1 .l
 wipe-ids-requires : tie.Need-wipe-ids-requires
 wipe-ids-requires c κs = (c .before .before .before .before .before .before .before .before .before .pre .0, (c .before .before .fields-fault .ensures .1) (c .before .if2 .left))
 
-base-fault-requires : tie.Need-base-fault-requires
-base-fault-requires c κs = (c .before .before .before .before .before .before .before .before .before .before .before .pre .0, (proper _ _ _ _ _ _ _ _ _ (sym (c .before .before .before .before .fields-fault .ensures .0) ∙ (c .before .before .before .if2 .left)), (none-at-base _ _ _ _ _ _ _ _ (sym (c .before .before .before .before .fields-fault .ensures .0) ∙ (c .before .before .before .if2 .left)), (c .count .ensures))))
+tiling-requires : tie.Need-tiling-requires
+tiling-requires c κs = ((c .before .before .before .before .before .before .before .before .before .before .pre .0), passed _ _ _ _ _ _ _ _ (c .before .before .before .before .before .before .before .before .before .before .pre .1 .1) (sym (c .before .before .before .fields-fault .ensures .0) ∙ (c .before .before .if2 .left)))
 
 returns-3 : tie.Need-returns-3
-returns-3 c = (seq-base _ _ _ _ _ _ _ _ _ _ (c .before .before .before .before .before .before .before .before .if1 .left) (c .before .before .before .before .before .before .fields-fault .ensures .0) (c .before .before .before .before .before .if2 .left) (c .before .base-fault .ensures) (c .if3 .taken), λ z. absurd (c .if3 .taken z))
-
-sub-ext-fault : tie.Need-sub-ext-fault
-sub-ext-fault c =
-    let args = (c .before .before .before .before .before .before .before .before .before .before .before .before .before .before .args) in
-    omega (arith, sides (args .frame .open) (args .frame .base) (entriesOf (args .layout .now) (args .rows .now) (args .src)), entries-length (args .layout .now) (args .rows .now) (args .src), (c .before .before .before .count .ensures))
-
-ext-fault-requires : tie.Need-ext-fault-requires
-ext-fault-requires c κs =
-    let args = (c .before .before .before .before .before .before .before .before .before .before .before .before .before .before .args) in
-    (c .before .before .before .before .before .before .before .before .before .before .before .before .before .before .pre .0, (proper _ _ _ _ _ _ _ _ _ (sym (c .before .before .before .before .before .before .before .fields-fault .ensures .0) ∙ (c .before .before .before .before .before .before .if2 .left)), (c .before .before .before .before .before .before .before .before .before .before .before .before .before .before .pre .1 .1, omega (arith, sides (args .frame .open) (args .frame .base) (entriesOf (args .layout .now) (args .rows .now) (args .src)), entries-length (args .layout .now) (args .rows .now) (args .src), (c .before .before .before .count .ensures)))))
-
-returns-4 : tie.Need-returns-4
-returns-4 c = (seq-ext _ _ _ _ _ _ _ _ _ _ (c .before .before .before .before .before .before .before .before .before .before .if1 .left) (c .before .before .before .before .before .before .before .before .fields-fault .ensures .0) (c .before .before .before .before .before .before .before .if2 .left) (c .before .before .before .base-fault .ensures) (c .before .before .if3 .left) (c .ext-fault .ensures), λ _. (c .before .before .before .before .before .wipe-ids .ensures))
+returns-3 c = (seq-tiling _ _ _ _ _ _ _ _ _ _ (c .before .before .before .before .before .before .if1 .left) (c .before .before .before .before .fields-fault .ensures .0) (c .before .before .before .if2 .left) (c .tiling .ensures), λ _. (c .before .wipe-ids .ensures))
 
 pub seq-fault-spec : {M : Type 1} → statement M
 seq-fault-spec =
@@ -43,9 +30,5 @@ seq-fault-spec =
     (λ c κs. search needs)
     returns-2
     wipe-ids-requires
-    (λ c κs. search needs)
-    base-fault-requires
-    returns-3
-    sub-ext-fault
-    ext-fault-requires
-    returns-4)
+    tiling-requires
+    returns-3)
