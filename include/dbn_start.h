@@ -6,6 +6,9 @@
  * layout. `sheet` is the type sheet, 520 numbers: 0 to 255 the natural sizes of the type ids (0: none), 256 to 511 nonzero for label
  * users, 512 the struct id, 513 the symbol id, 514 the decimal id, 515 the padding id, 516 the weight of the extension bit in the
  * flags, 517 the def index that means no label def, 518 the header size, 519 unused.
+ *
+ * Stack: a call needs less than 32 KiB. A call that meets a layout of more than 4,096 structs, or a record or struct whose fields stand
+ * far from the order of their offsets, needs less than 320 KiB, and so does dbn_layout_plain always.
  */
 #ifndef DBN_START_H
 #define DBN_START_H
@@ -42,6 +45,10 @@ uint32_t dbn_feed(uint64_t held, uint8_t *store, size_t storelen, const uint8_t 
 /* Reads a layout given with a symbol width, its rows into the table of rn numbers. 0: out[9] is the layout version, out[11] the rows.
  * 3: out[11] is the rows needed. */
 uint32_t dbn_layout(const uint8_t *layout, size_t n, uint16_t width, const uint16_t sheet[520], uint32_t *rows, size_t rn, uint64_t out[16]);
+
+/* The verdict on a layout given with a symbol width, without a table: the answer of dbn_layout, 3 apart, with 81 to 83 found by the plain
+ * engine, which marks each byte of a record with the field that owns it. 0: out[9] is the layout version, out[11] the rows. */
+uint32_t dbn_layout_plain(const uint8_t *layout, size_t n, uint16_t width, const uint16_t sheet[520], uint64_t out[16]);
 
 /* Writes layout rows, whose names are parts of the text, as a layout of a version, for a symbol width. 0: out[0] is the length written. */
 uint32_t dbn_write_layout(const uint32_t *rows, size_t rn, const uint8_t *text, size_t tn, uint16_t version, uint16_t width,

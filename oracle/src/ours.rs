@@ -158,6 +158,9 @@ pub fn layout(r: &mut Rng, bytes: &[u8], width: u16, sheet: &Sheet) -> Answer {
     let length = rows * 9 + r.below(20);
     let (before, out) = (table(r, length), marks(r));
     let a = calls::layout(bytes, width, &sheet.0, &before, &out);
+    if calls::layout_plain(bytes, width, &sheet.0, &out) != (a.number, a.out) {
+        return Answer::Odd("the two engines differ".into());
+    }
     let named: &[usize] = if a.number == 0 { &[9, 11] } else { &[] };
     if (0..16).any(|i| !named.contains(&i) && a.out[i] != out[i]) {
         return Answer::Odd("out of a layout".into());

@@ -183,6 +183,18 @@ pub fn layout(layout: &[u8], width: u16, sheet: &[u16; 520], rows: &[u32], out: 
     }
 }
 
+/// The number and `out` of a layout by the plain engine.
+pub fn layout_plain(layout: &[u8], width: u16, sheet: &[u16; 520], out: &[u64; 16]) -> (u32, [u64; 16]) {
+    let (bytes, lent_sheet, mut values) = (Lent::new(layout), Lent::new(sheet), Lent::new(out));
+    // SAFETY: every pointer is to a buffer of the given length, and no two overlap.
+    let number = unsafe {
+        ffi::dbn_layout_plain(bytes.at(), layout.len(), width, lent_sheet.at().cast(), values.at_mut().cast())
+    };
+    bytes.unchanged("the layout", layout);
+    lent_sheet.unchanged("the sheet", sheet);
+    (number, values.content("out").try_into().unwrap())
+}
+
 /// What the writer left.
 #[derive(Debug, Clone, PartialEq)]
 pub struct WriteAnswer {

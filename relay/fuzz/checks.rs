@@ -299,6 +299,8 @@ pub fn layout(r: &mut Rng, sheet: &Sheet, count: &mut Count) {
     let a = calls::layout(&bytes, width, &sheet.0, &table, &out);
     tell(count, a.number, 0);
     assert_eq!(a.number, if bare.number == 3 { 0 } else { bare.number }, "tables matter for 3 alone");
+    let plain = calls::layout_plain(&bytes, width, &sheet.0, &out);
+    assert_eq!(plain, (a.number, a.out), "either engine gives one answer");
     let named: &[usize] = match a.number {
         0 => &[9, 11],
         _ => &[],

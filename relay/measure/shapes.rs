@@ -250,19 +250,53 @@ pub fn label_defs(n: usize) -> Vec<u8> {
     layout(&[], &[], &vec![out; n])
 }
 
-/// A record of `n` fields of one byte, in reverse order of their places or in a shuffled one.
-pub fn reverse(n: usize, shuffled: bool) -> Vec<u8> {
-    let base = (HEADER as usize + n).div_ceil(8) * 8;
-    let mut entries: Vec<Entry> = vec![(0, 0, HEADER, TEXT, 0, 0)];
-    entries.extend((HEADER..base as u16).map(|at| (at, at, 1, U8, 0, 0)));
-    if shuffled {
-        let mut state = 12345usize;
-        for i in (1..entries.len()).rev() {
-            state = state.wrapping_mul(6364136223846793005).wrapping_add(1442695040888963407);
-            entries.swap(i, (state >> 33) % (i + 1));
+/// The order of a record's fields.
+#[derive(Debug, Clone, Copy)]
+pub enum Order {
+    Rising,
+    Reverse,
+    Shuffled,
+}
+
+impl Order {
+    pub fn put<T>(self, items: &mut [T]) {
+        match self {
+            Self::Rising => {}
+            Self::Reverse => items.reverse(),
+            Self::Shuffled => {
+                let mut state = 12345usize;
+                for i in (1..items.len()).rev() {
+                    state = state.wrapping_mul(6364136223846793005).wrapping_add(1442695040888963407);
+                    items.swap(i, (state >> 33) % (i + 1));
+                }
+            }
         }
-    } else {
-        entries.reverse();
     }
-    layout(&[record(1, base as u16, b"", &entries, no_name)], &[], &[])
+}
+
+/// As many records as there are lists, each of fields at these offsets with these sizes; those from the base on are extensions.
+pub fn spanned(base: u16, records: &[Vec<(u16, u16)>]) -> Vec<u8> {
+    let rtypes = (0..=u16::MAX).filter(|rtype| rtype % 256 != 0x4E);
+    let bodies: Vec<Vec<u8>> = rtypes
+        .zip(records)
+        .map(|(rtype, spans)| {
+            let entry = |(id, &(at, size)): (usize, &(u16, u16))| {
+                (id as u16, at, size, TEXT, if at < base { 0 } else { 64 }, 0)
+            };
+            let entries: Vec<Entry> = spans.iter().enumerate().map(entry).collect();
+            record(rtype, base, b"", &entries, no_name)
+        })
+        .collect();
+    layout(&bodies, &[], &[])
+}
+
+/// Records of `n` fields of `size` bytes after the header, which tile the base, in that order.
+pub fn tiled(n: usize, size: u16, records: usize, order: Order) -> Vec<u8> {
+    let mut spans: Vec<(u16, u16)> = (0..n as u16 - 1).map(|i| (HEADER + size * i, size)).collect();
+    let end = HEADER + size * (n as u16 - 1);
+    let base = end.next_multiple_of(8);
+    spans.insert(0, (0, HEADER));
+    spans.last_mut().expect("a field").1 += base - end;
+    order.put(&mut spans);
+    spanned(base, &vec![spans; records])
 }

@@ -58,6 +58,15 @@ extern "C" {
         out: *mut [u64; 16],
     ) -> u32;
 
+    /// The answer of [`dbn_layout`] without a table, 81 to 83 by the plain engine. 0: `out[9]` layout version, `out[11]` rows.
+    pub fn dbn_layout_plain(
+        layout: *const u8,
+        n: usize,
+        width: u16,
+        sheet: *const [u16; SHEET],
+        out: *mut [u64; 16],
+    ) -> u32;
+
     /// 0: `out[0]` the written length.
     pub fn dbn_write_layout(
         rows: *const u32,

@@ -203,6 +203,16 @@ impl<'a> LabelDef<'a> {
     }
 }
 
+/// The verdict on a layout for a stream of that symbol width, by the plain engine: its version and how many rows it has. The
+/// answer is that of [`Layout::read`], which searches; this one marks every byte of every record with its owner.
+pub fn check_layout_plain(bytes: &[u8], width: u16, sheet: &Sheet) -> Result<(u16, usize), Refusal> {
+    let mut out = [0; 16];
+    // SAFETY: the pointer and length are those of a slice, and `out` is ours.
+    let number = unsafe { ffi::dbn_layout_plain(bytes.as_ptr(), bytes.len(), width, sheet, &mut out) };
+    Refusal::unless_accepted(number)?;
+    Ok((out[9] as u16, out[11] as usize))
+}
+
 /// Writes the layout that `rows` tell of, with names from `text`, to the start of `output`. Gives the written length.
 /// Bytes past that length, and the whole output where the rows are refused, keep what they held.
 pub fn write_layout(

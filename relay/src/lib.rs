@@ -17,7 +17,7 @@ mod refusal;
 
 pub use block::{Block, Fields, Interval, Mapping, Tables};
 pub use feed::{Fed, Feed, Step};
-pub use layout::{write_layout, Field, Label, LabelDef, Layout, RecordLayout, StructLayout};
+pub use layout::{check_layout_plain, write_layout, Field, Label, LabelDef, Layout, RecordLayout, StructLayout};
 pub use refusal::Refusal;
 
 /// The type sheet: 0 to 255 natural sizes (0: none), 256 to 511 nonzero for users of label defs, then the ids of struct,

@@ -105,7 +105,7 @@ pub fn read_layout(
 ) -> layout::Answer
     ensures { λ r. ⌜ Ruled (now (layout .entry)) width (now (sheet .entry)) (now (table .entry)) (now (table .exit)) r ⌝ }
 {
-    match rules::check_layout(layout, width, sheet) {
+    match engines::check_layout(layout, width, sheet) {
         layout::Verdict::Accepted {
             version: _,
             rows: _,

@@ -21,7 +21,7 @@ pub(crate) fn layout_part(block: &[u8], has_layout: bool, width: u16, sheet: &[u
                     return Laid::Refused(refusal::NO_LAYOUT);
                 }
                 let part = &block[start..end];
-                match rules::check_layout(part, width, sheet) {
+                match engines::check_layout(part, width, sheet) {
                     layout::Verdict::Accepted { version, rows } => {
                         Laid::Accepted { version, rows, end }
                     }

@@ -14,9 +14,11 @@ use Rattle.block.specs.declared.BlockAnswer.{BlockAnswer}
 use Rattle.block.specs.declared.BlockAnswer.the-variants.{Read}
 use Rattle.names.specs.declared.Span.{Span}
 use Rattle.names.specs.declared.Span.the-variants.{Part}
-use Rattle.layout.specs.Answers.{judge, leave}
+use Rattle.layout.specs.Answers.{verdict, judge, leave}
 use Rattle.layout.specs.declared.Answer.{Answer as LayoutAnswer}
 use Rattle.layout.specs.declared.Answer.the-variants as Answer'
+use Rattle.layout.specs.declared.Verdict.{Verdict}
+use Rattle.layout.specs.declared.Verdict.the-variants as Verdict'
 use Rattle.rules.specs.Rules.{ruledOf}
 use Rattle.rows_check.specs.Check.{printed}
 use Rattle.writer.specs.Write.{writeLayout, outAfter}
@@ -101,6 +103,21 @@ pub record LayoutC (s : List ℕ) (w : ℕ) (sheet t o : List ℕ) (r : ℕ) (t�
   pub number : r ≡ layoutNumber (judge (length t / 9) (ruledOf sheet w s))
   pub out : o′ ≡ layoutOut (judge (length t / 9) (ruledOf sheet w s)) o
   pub rows : t′ ≡ leave t (ruledOf sheet w s)
+
+-- 0 for an accepted layout
+abbrev pub verdictNumber : Verdict → ℕ
+verdictNumber (Verdict'.Accepted v n) = 0
+verdictNumber (Verdict'.Refused e) = e
+
+-- version at 9 and rows at 11
+abbrev pub verdictOut : Verdict → List ℕ → List ℕ
+verdictOut (Verdict'.Accepted v n) o = set (set o 9 v) 11 n
+verdictOut (Verdict'.Refused e) o = o
+
+-- THE PROMISE of dbn_layout_plain: the layout s, ruled on with the width w and the sheet, and no table
+pub record LayoutPlainC (s : List ℕ) (w : ℕ) (sheet o : List ℕ) (r : ℕ) (o′ : List ℕ) : Type 0 where
+  pub number : r ≡ verdictNumber (verdict (ruledOf sheet w s))
+  pub out : o′ ≡ verdictOut (verdict (ruledOf sheet w s)) o
 
 -- ---- a layout written
 

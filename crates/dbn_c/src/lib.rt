@@ -17,7 +17,7 @@ ghost use Rattle.text.specs.Date.{isDate};
 ghost use Rattle.names.specs.Names.{symbologySpan, layoutSpan};
 ghost use Rattle.feed.specs.Prelude.{preludeOf};
 ghost use Rattle.feed.specs.Feeding.{stageNumber, answerNumber};
-ghost use Rattle.dbn_c.specs.Numbers.{bit, preludeOut, valueOf, isPresent, presence, fieldsOut, answerOut, spanNumber, spanOut, BlockC, FeedC, LayoutC, WriteC};
+ghost use Rattle.dbn_c.specs.Numbers.{bit, preludeOut, valueOf, isPresent, presence, fieldsOut, answerOut, spanNumber, spanOut, BlockC, FeedC, LayoutC, LayoutPlainC, WriteC};
 
 // 1 where the bytes are UTF-8, else 0.
 #[no_mangle]
@@ -105,6 +105,27 @@ pub extern "C" fn dbn_layout(
             refusal::TABLE_SHORT
         }
         layout::Answer::Refused(e) => e,
+    }
+}
+
+// The verdict on a layout given with a symbol width, with 81 to 83 by the plain engine: the answer of dbn_layout, without a table.
+// `out` gets the version at 9 and the rows at 11.
+#[no_mangle]
+pub extern "C" fn dbn_layout_plain(
+    layout: &[u8],
+    width: u16,
+    sheet: &[u16; 520],
+    out: &mut [u64; 16],
+) -> u32
+    ensures { λ r. ⌜ LayoutPlainC (now (layout .entry)) width (now (sheet .entry)) (now (out .entry)) r (now (out .exit)) ⌝ }
+{
+    match engines::check_layout_plain(layout, width, sheet) {
+        layout::Verdict::Accepted { version, rows } => {
+            out[9] = version as u64;
+            out[11] = rows as u64;
+            0
+        }
+        layout::Verdict::Refused(e) => e,
     }
 }
 

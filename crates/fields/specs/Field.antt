@@ -2,12 +2,12 @@
 -- Assumes nothing.
 use Prim.Native.Nat.{ℕ, _%_, _≤_, _<_}
 use native.Mathlib.Omega.{arith}
-use mathlib.Core.Path.{_≡_, refl}
+use mathlib.Core.Path.{_≡_, refl, sym, subst}
 use mathlib.Core.Bool.{Bool, true, false, not, _&&_, cond}
 use mathlib.Core.List.{List}
 use lib.ListN.{length, getD}
-use lib.Dec.{leb, ltb, eqb}
-use borrow.Author.Tests.{eq-eqb, eqb-false, ltb-false}
+use lib.Dec.{T, leb, ltb, eqb}
+use borrow.Author.Tests.{eq-eqb, eqb-false, ltb-false, leb-true}
 use Rattle.fields.specs.Sheet.{sizeOf, defOf, offOf, endOf, isPadding, isStruct, isSymbol, isDecimal, namesLabel, isExtension, pastBase, alignOf}
 
 -- the number n where the rule is broken, else what the later rules say
@@ -120,3 +120,9 @@ module _ (sheet : List ℕ) (width labels : ℕ) (aligns : List ℕ) (isRecord :
       let sized : sizeOf e ≡ 0 → ⊥ = fault-sized seen e h in
       let end : endOf e ≤ base = fault-within seen e h p in
       omega arith
+
+-- an entry past the base starts at the base or after it
+pub past-from : (isRecord : Bool) (base : ℕ) (e : List ℕ) → pastBase isRecord base e ≡ true → base ≤ offOf e
+unfolding pastBase
+past-from true base e h = leb-true base (offOf e) h
+past-from false base e h = absurd (subst T (sym h) tt)

@@ -1,4 +1,4 @@
--- What one turn of each loop over the entries does, over plain lists. Assumes nothing.
+-- What one turn of each loop over the entries does, over judged lists. Assumes nothing.
 use Prim.Native.Nat.{ℕ, suc, _+_, _≤_, _<_, max}
 use mathlib.Core.Path.{_≡_, refl, sym, ap, _∙_, subst}
 use mathlib.Core.Bool.{Bool, true, false, _||_, cond}
@@ -17,7 +17,7 @@ use Rattle.fields.specs.Field.{differs, fieldFault}
 use Rattle.rules.specs.declared.Source.{Source}
 use Rattle.rules.specs.declared.Hit.{Hit}
 use Rattle.plain_tiling.specs.Tile.{Span}
-use Rattle.rules.specs.Rules.{first, noted, spans, largest, structAlign, baseFault, extFault, fieldsFault, seqFault, plain}
+use Rattle.rules.specs.Rules.{first, noted, spans, largest, structAlign, baseFault, extFault, tilingFault, fieldsFault, seqFault, judged}
 use Rattle.rules.specs.Entries.{entryOf, entriesOf, restOf, Room, entries-cons, entries-nil, entries-length, room-rest}
 use Rattle.rules.specs.Chase.{Has, there, None, Chase, stop, Proper, find, startsHere, onSide, Within, Sought, Hits}
 use Rattle.rules.specs.Sequence.{idsOf, notedMarks}
@@ -189,11 +189,14 @@ pub first-some : (r b : ℕ) → (r ≡ 0 → ⊥) → first r b ≡ r
 first-some r b h = rw (ne-eqb r 0 h)
 
 -- 81 or 82, else 83
-pub tiling-base : {b a : ℕ} (x : ℕ) → b ≡ a → (b ≡ 0 → ⊥) → b ≡ first a x
-tiling-base {b} x e n = sym (rw (← e) (first-some b x n))
+module _ (isRecord : Bool) (base : ℕ) (es : List (List ℕ)) {b : ℕ} (e : b ≡ baseFault isRecord base es) where
+  pub tiling-base : (b ≡ 0 → ⊥) → b ≡ tilingFault isRecord base es
+  unfolding tilingFault
+  tiling-base n = sym (rw (← e) (first-some b _ n))
 
-pub tiling-ext : {b a x y : ℕ} → b ≡ a → b ≡ 0 → y ≡ x → y ≡ first a x
-tiling-ext {b} {a} {x} {y} e z f = sym (rw (← e, ← f) (first-none b y z))
+  pub tiling-ext : b ≡ 0 → {x : ℕ} → x ≡ extFault isRecord base es → x ≡ tilingFault isRecord base es
+  unfolding tilingFault
+  tiling-ext z f = sym (rw (← e, ← f) (first-none b _ z))
 
 -- ---- the largest alignment
 
@@ -316,21 +319,21 @@ module _ (sheet : List ℕ) (width labels : ℕ) (aligns : List ℕ) (isRecord :
   -- ---- the whole sequence
   module _ (names : ℕ) (src : Source) where
     abbrev Q : ℕ
-    Q = seqFault sheet width labels aligns isRecord (plain base names (entriesOf l t src))
+    Q = seqFault sheet width labels aligns isRecord (judged base names (entriesOf l t src))
 
     pub seq-70 : (names ≡ src .count → ⊥) → 70 ≡ Q
     unfolding seqFault
     seq-70 n = rw (entries-length l t src, ne-eqb names (src .count) n)
 
     module _ (even : names ≡ src .count) {f : ℕ} (said : f ≡ F [] src) where
-      parts : Q ≡ first f (first (baseFault isRecord base (entriesOf l t src)) (extFault isRecord base (entriesOf l t src)))
+      parts : Q ≡ first f (tilingFault isRecord base (entriesOf l t src))
       unfolding seqFault
       parts = rw (entries-length l t src, eq-eqb names (src .count) even, ← said)
 
       pub seq-fields : (f ≡ 0 → ⊥) → f ≡ Q
       seq-fields n = sym (parts ∙ first-some f _ n)
 
-      pub seq-tiling : f ≡ 0 → {x : ℕ} → x ≡ first (baseFault isRecord base (entriesOf l t src)) (extFault isRecord base (entriesOf l t src)) → x ≡ Q
+      pub seq-tiling : f ≡ 0 → {x : ℕ} → x ≡ tilingFault isRecord base (entriesOf l t src) → x ≡ Q
       seq-tiling z r = sym (parts ∙ first-none f _ z ∙ sym r)
 
 -- ---- clearing

@@ -1,4 +1,4 @@
--- What one turn of each loop over the records or structs does, over plain lists. Assumes nothing.
+-- What one turn of each loop over the records or structs does, over judged lists. Assumes nothing.
 use Prim.Native.Nat.{ℕ, zero, suc, _+_, _-_, _*_, _%_, _≤_, _<_}
 use mathlib.Core.Path.{_≡_, refl, sym, ap, ap₂, _∙_, subst}
 use mathlib.Core.Bool.{Bool, true, false, not, cond}
@@ -19,7 +19,7 @@ use Rattle.rules.specs.declared.Place.{Place}
 use Rattle.rules.specs.declared.Item.{Item}
 use Rattle.rules.specs.declared.Next.{Next}
 use Rattle.rules.specs.declared.Next.the-variants.{Found, End}
-use Rattle.rules.specs.Rules.{Seq, plain, first, structAlign, seqFault, structFault, recordFault, structsFault, recordsFault, alignsOf, seqsFault}
+use Rattle.rules.specs.Rules.{Seq, judged, first, structAlign, seqFault, structFault, recordFault, structsFault, recordsFault, alignsOf, seqsFault}
 use Rattle.rules.specs.RowRules.{column, rowsOf, rowSeq, seqsIn}
 use Rattle.rules.specs.Entries.{entriesOf, Room}
 use Rattle.rules.specs.Sequence.{Clean}
@@ -130,7 +130,7 @@ module _ (sheet l t : List ℕ) where
 -- ---- one struct, one record
 
 module _ (sheet : List ℕ) (width labels : ℕ) (aligns l t : List ℕ) where
-  seq-plain : (isRecord : Bool) (q : Seq) → seqFault sheet width labels aligns isRecord (plain (q .base) (q .names) (q .entries)) ≡ seqFault sheet width labels aligns isRecord q
+  seq-plain : (isRecord : Bool) (q : Seq) → seqFault sheet width labels aligns isRecord (judged (q .base) (q .names) (q .entries)) ≡ seqFault sheet width labels aligns isRecord q
   unfolding seqFault
   seq-plain isRecord q = refl
 
@@ -139,7 +139,7 @@ module _ (sheet : List ℕ) (width labels : ℕ) (aligns l t : List ℕ) where
     unfolding structFault
     struct-60 n = rw (← al, ne-eqb (i .base % a) 0 n)
 
-    pub struct-is : i .base % a ≡ 0 → {r : ℕ} → r ≡ seqFault sheet width labels aligns false (plain (i .base) (i .names) (entriesOf l t (i .entries))) → r ≡ structFault sheet width labels aligns (itemSeq l t i)
+    pub struct-is : i .base % a ≡ 0 → {r : ℕ} → r ≡ seqFault sheet width labels aligns false (judged (i .base) (i .names) (entriesOf l t (i .entries))) → r ≡ structFault sheet width labels aligns (itemSeq l t i)
     unfolding structFault
     struct-is z e = rw (← al, eq-eqb (i .base % a) 0 z) (e ∙ seq-plain false (itemSeq l t i))
 
@@ -163,7 +163,7 @@ module _ (sheet : List ℕ) (width labels : ℕ) (aligns l t : List ℕ) where
           unfolding recordFault
           record-64 h = rw (h1, ne-eqb (i .rtype % 256) 78 h2, le-ltb (i .base) (getD sheet 518 0) h3, ne-eqb (i .base % 8) 0 h)
 
-          pub record-is : i .base % 8 ≡ 0 → {r : ℕ} → r ≡ seqFault sheet width labels aligns true (plain (i .base) (i .names) (entriesOf l t (i .entries))) → r ≡ recordFault sheet width labels aligns twice (itemSeq l t i)
+          pub record-is : i .base % 8 ≡ 0 → {r : ℕ} → r ≡ seqFault sheet width labels aligns true (judged (i .base) (i .names) (entriesOf l t (i .entries))) → r ≡ recordFault sheet width labels aligns twice (itemSeq l t i)
           unfolding recordFault
           record-is h e = rw (h1, ne-eqb (i .rtype % 256) 78 h2, le-ltb (i .base) (getD sheet 518 0) h3, eq-eqb (i .base % 8) 0 h) (e ∙ seq-plain true (itemSeq l t i))
 

@@ -2,21 +2,21 @@
 -- Assumes nothing.
 use Prim.Native.Nat.{ℕ, _≤_, _<_, zero-le}
 use native.Mathlib.Omega.{arith}
-use mathlib.Core.Path.{_≡_, sym}
+use mathlib.Core.Path.{_≡_}
 use mathlib.Core.Bool.{Bool, true, false, not}
 use mathlib.Core.Logic.{_↔_}
 use mathlib.Core.List.{List, [], _∷_}
 use lib.ListN.{length}
 use lib.Dec.{eqb}
-use borrow.Author.Tests.{eqb-true, eqb-false, leb-true}
+use borrow.Author.Tests.{eq-eqb, eqb-true, eqb-false}
 use Rattle.codec.specs.Codec.{among}
 use Rattle.codec.specs.Cases.{by-bool, by-eqb}
 use Rattle.fields.specs.Sheet.{idOf, offOf, sizeOf, endOf, pastBase}
-use Rattle.fields.specs.Field.{refuse, fieldFault, fault-sized, fault-small, fault-within}
+use Rattle.fields.specs.Field.{refuse, fieldFault, fault-sized, fault-small, fault-within, past-from}
 use Rattle.plain_tiling.specs.Plain.{baseByMarks, extByMarks}
 use Rattle.plain_tiling.specs.Owners.{owners, Tiled, Placed}
 use Rattle.plain_tiling.specs.PlainLaws.{base-walk, ext-walk, base-means, ext-means}
-use Rattle.rules.specs.Rules.{Seq, first, noted, spans, baseFault, extFault, fieldsFault, seqFault}
+use Rattle.rules.specs.Rules.{Seq, first, noted, spans, baseFault, extFault, tilingFault, fieldsFault, seqFault}
 
 -- of entries that passed 71 to 80, those of the base lie in 0 to base and the extensions in base to 65535
 pub record Passed (isRecord : Bool) (base : ℕ) (es : List (List ℕ)) : Type 0 where
@@ -26,11 +26,6 @@ pub record Passed (isRecord : Bool) (base : ℕ) (es : List (List ℕ)) : Type 0
 
 halves : (a b : ℕ) → first a b ≡ 0 → (a ≡ 0) × (b ≡ 0)
 halves a b h = by-bool (eqb a 0) (λ t. (eqb-true a 0 t, rw t at h)) (λ t. absurd (eqb-false a 0 t (rw t at h)))
-
-past-start : (isRecord : Bool) (base : ℕ) (e : List ℕ) → pastBase isRecord base e ≡ true → base ≤ offOf e
-unfolding pastBase
-past-start true base e h = leb-true base (offOf e) h
-past-start false base e h = absurd (mathlib.Core.Path.subst lib.Dec.T (sym h) tt)
 
 module _ (sheet : List ℕ) (width labels : ℕ) (aligns : List ℕ) (isRecord : Bool) (base : ℕ) where
   some-end : (seen : Bool) (e : List ℕ) → fieldFault sheet width labels aligns isRecord base seen e ≡ 0 → offOf e < endOf e
@@ -52,7 +47,7 @@ module _ (sheet : List ℕ) (width labels : ℕ) (aligns : List ℕ) (isRecord :
       let two = halves (fieldFault sheet width labels aligns isRecord base (among (idOf e) ids) e) _ h in
       let rest : Placed base 65535 (spans isRecord base true es) = placed-high (noted sheet e ids) es (two .1) in
       by-bool (pastBase isRecord base e)
-      (λ d. rw d (record { from = past-start isRecord base e d; some = some-end (among (idOf e) ids) e (two .0); to = fault-small sheet width labels aligns isRecord base (among (idOf e) ids) e (two .0) }, rest))
+      (λ d. rw d (record { from = past-from isRecord base e d; some = some-end (among (idOf e) ids) e (two .0); to = fault-small sheet width labels aligns isRecord base (among (idOf e) ids) e (two .0) }, rest))
       (λ d. rw d rest)
 
   pub passed : (ids : List ℕ) (es : List (List ℕ)) → base < 65536 → fieldsFault sheet width labels aligns isRecord base ids es ≡ 0 → Passed isRecord base es
@@ -76,6 +71,13 @@ module _ {isRecord : Bool} {base : ℕ} {es : List (List ℕ)} (i : Passed isRec
   pub ext-exactly : (extFault isRecord base es ≡ 0) ↔ ((l : ℕ) × Tiled base l (spans isRecord base true es))
   ext-exactly = rw (← ext-engines) (ext-means base (spans isRecord base true es) (i .high))
 
+-- what it is for the entries of a record or a struct to tile: every place below the base is in exactly one base entry, and the
+-- extensions go on from the base to some place without gap or overlap
+pub record Tiles (isRecord : Bool) (base : ℕ) (es : List (List ℕ)) : Type 0 where
+  pub low : (p : ℕ) → p < base → owners (spans isRecord base false es) p ≡ 1
+  pub end : ℕ
+  pub high : Tiled base end (spans isRecord base true es)
+
 -- 70 to 83 with the marks for 81 to 83
 module _ (sheet : List ℕ) (width labels : ℕ) (aligns : List ℕ) where
   unfoldable pub seqByMarks : Bool → Seq → ℕ
@@ -86,8 +88,27 @@ module _ (sheet : List ℕ) (width labels : ℕ) (aligns : List ℕ) where
 
   -- the same number for every record and every struct
   pub seq-engines : (isRecord : Bool) (q : Seq) → q .base < 65536 → seqByMarks isRecord q ≡ seqFault sheet width labels aligns isRecord q
-  unfolding seqByMarks seqFault
+  unfolding seqByMarks seqFault tilingFault
   seq-engines isRecord q small =
       by-eqb (fieldsFault sheet width labels aligns isRecord (q .base) [] (q .entries)) 0
       (λ t e. let i = passed sheet width labels aligns isRecord (q .base) [] (q .entries) small e in rw (base-engines i, ext-engines i))
       (λ t _. rw t)
+
+  -- THE MEANING of 81 to 83: a record or a struct that passed 70 to 80 has none of them exactly where its entries tile
+  pub seq-exactly : (isRecord : Bool) (q : Seq) → q .base < 65536 → q .names ≡ length (q .entries) → fieldsFault sheet width labels aligns isRecord (q .base) [] (q .entries) ≡ 0
+      → (seqFault sheet width labels aligns isRecord q ≡ 0) ↔ Tiles isRecord (q .base) (q .entries)
+  unfolding seqFault tilingFault
+  seq-exactly isRecord q small even fine =
+      rw (eq-eqb (q .names) (length (q .entries)) even, eq-eqb (fieldsFault sheet width labels aligns isRecord (q .base) [] (q .entries)) 0 fine) (there, back)
+    where
+      i : Passed isRecord (q .base) (q .entries)
+      i = passed sheet width labels aligns isRecord (q .base) [] (q .entries) small fine
+
+      there : first (baseFault isRecord (q .base) (q .entries)) (extFault isRecord (q .base) (q .entries)) ≡ 0 → Tiles isRecord (q .base) (q .entries)
+      there e =
+          let two = halves (baseFault isRecord (q .base) (q .entries)) _ e in
+          let past = ext-exactly i .0 (two .1) in
+          record { low = base-exactly i .0 (two .0); end = past .0; high = past .1 }
+
+      back : Tiles isRecord (q .base) (q .entries) → first (baseFault isRecord (q .base) (q .entries)) (extFault isRecord (q .base) (q .entries)) ≡ 0
+      back t = rw (base-exactly i .1 (t .low)) (ext-exactly i .1 (t .end, t .high))

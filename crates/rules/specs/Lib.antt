@@ -7,5 +7,5 @@ pub mod Walk
 pub mod Whole
 pub mod RowLaws
 pub mod Single
-pub mod Marking
+pub mod Told
 pub mod Engines

@@ -31,8 +31,8 @@ pub record Seq : Type 0 where
   pub entries : List (List ℕ)
 
 -- a struct, or a record whose rtype is judged
-abbrev pub plain : ℕ → ℕ → List (List ℕ) → Seq
-plain base names es = record { rtype = 0; base = base; names = names; entries = es }
+abbrev pub judged : ℕ → ℕ → List (List ℕ) → Seq
+judged base names es = record { rtype = 0; base = base; names = names; entries = es }
 
 -- the ids seen so far, with this entry's unless it is padding
 abbrev pub noted : List ℕ → List ℕ → List ℕ → List ℕ
@@ -52,6 +52,10 @@ baseFault isRecord base es = walk 81 (λ c. cond (eqb c base) 0 82) 0 (sorted (s
 unfoldable pub extFault : Bool → ℕ → List (List ℕ) → ℕ
 extFault isRecord base es = walk 83 (λ c. 0) base (sorted (spans isRecord base true es))
 
+-- 81, 82, then 83
+unfoldable pub tilingFault : Bool → ℕ → List (List ℕ) → ℕ
+tilingFault isRecord base es = first (baseFault isRecord base es) (extFault isRecord base es)
+
 -- the largest alignment in a struct, at least 1
 unfoldable pub largest : List ℕ → ℕ → List (List ℕ) → ℕ
 largest sheet a [] = a
@@ -68,12 +72,11 @@ module _ (sheet : List ℕ) (width labels : ℕ) (aligns : List ℕ) where
   fieldsFault isRecord base ids (e ∷ es) =
       first (fieldFault sheet width labels aligns isRecord base (among (idOf e) ids) e) (fieldsFault isRecord base (noted sheet e ids) es)
 
-  -- 70, then the fields one by one, then 81, 82, 83
+  -- 70, then the fields one by one, then 81 to 83
   unfoldable pub seqFault : Bool → Seq → ℕ
   seqFault isRecord q =
       refuse (not (eqb (q .names) (length (q .entries)))) 70
-      (first (fieldsFault isRecord (q .base) [] (q .entries))
-      (first (baseFault isRecord (q .base) (q .entries)) (extFault isRecord (q .base) (q .entries))))
+      (first (fieldsFault isRecord (q .base) [] (q .entries)) (tilingFault isRecord (q .base) (q .entries)))
 
   -- 60: the size is no multiple of the alignment
   unfoldable pub structFault : Seq → ℕ

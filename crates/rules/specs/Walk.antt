@@ -9,10 +9,11 @@ use Rattle.wire.specs.Wire.{le16}
 use Rattle.layout.specs.Given.{D}
 use Rattle.rules.specs.declared.Source.{Source}
 use Rattle.rules.specs.declared.Place.{Place}
+use Rattle.rules.specs.declared.Task.{Task}
 use Rattle.rules.specs.declared.Item.{Item}
 use Rattle.rules.specs.declared.Next.{Next}
 use Rattle.rules.specs.declared.Next.the-variants.{Found, End}
-use Rattle.rules.specs.Rules.{Seq}
+use Rattle.rules.specs.Rules.{Seq, seqsFault}
 use Rattle.rules.specs.RowRules.{column, rowsOf, seqsIn}
 use Rattle.rules.specs.Entries.{entriesOf, Room}
 use Rattle.layout.specs.Standing.{countAt, headsAt}
@@ -102,3 +103,7 @@ pub record Ready (l t : List ℕ) (structs : Place) (n : ℕ) (records : Place) 
   pub structs-good : Good l t false structs
   pub records-good : Good l t true records
   pub count : n ≡ length (seqsFrom l t false structs)
+
+-- the number that a task gives: structs first, then records
+abbrev pub taskFault : List ℕ → List ℕ → List ℕ → Task → ℕ
+taskFault sheet l t k = seqsFault sheet (k .width) (seqsFrom l t false (k .structs)) (seqsFrom l t true (k .records)) (k .labels)

@@ -1,7 +1,9 @@
 // All records and structs of a layout, or of rows: numbers 60 to 83.
+use crate::GAVE_UP;
 use crate::Item;
 use crate::Next;
 use crate::Place;
+use crate::Task;
 use crate::sequence;
 use crate::walk;
 use fields::Frame;
@@ -11,10 +13,11 @@ ghost use mathlib.Core.List.{[]};
 ghost use Prim.Native.Nat.{_<_, _≤_};
 ghost use lib.ListN.{length};
 ghost use Rattle.marks.specs.Marks.{Marks};
-ghost use Rattle.rules.specs.Rules.{structFault, recordFault, structsFault, recordsFault, alignsOf, seqsFault};
+ghost use Rattle.rules.specs.Rules.{structFault, recordFault, structsFault, recordsFault, alignsOf};
+ghost use Rattle.rules.specs.Told.{Told, Unowned};
 ghost use Rattle.rules.specs.Entries.{Room};
 ghost use Rattle.rules.specs.Sequence.{Clean};
-ghost use Rattle.rules.specs.Walk.{itemSeq, seqsFrom, Good, Ready};
+ghost use Rattle.rules.specs.Walk.{itemSeq, seqsFrom, Good, Ready, taskFault};
 
 fn wide(x: u16) -> usize
     ensures { λ r. ⌜ r ≡ x ⌝ }
@@ -69,16 +72,17 @@ fn struct_fault(
     layout: &[u8],
     rows: &[u32],
     item: Item,
-    width: usize,
-    labels: usize,
-    marked: bool,
+    task: Task,
     marks: &mut [u64; 1024],
+    owners: &mut [u16],
 ) -> u32
     requires { ⌜ Room (now layout) (now rows) (item .entries) ⌝ }
     requires { ⌜ Marks (now marks) [] ⌝ }
     requires { ⌜ item .base < 65536 ⌝ }
-    ensures { λ r. ⌜ r ≡ structFault (now (sheet .entry)) width labels (now (aligns .entry)) (itemSeq (now (layout .entry)) (now (rows .entry)) item) ⌝ }
+    requires { ⌜ Unowned (now owners) ⌝ }
+    ensures { λ r. ⌜ Told (now (owners .entry)) (structFault (now (sheet .entry)) (task .width) (task .labels) (now (aligns .entry)) (itemSeq (now (layout .entry)) (now (rows .entry)) item)) r ⌝ }
     ensures { λ r. ⌜ Clean r (now (marks .exit)) ⌝ }
+    ensures { λ _. ⌜ now (owners .exit) ≡ now (owners .entry) ⌝ }
 {
     let src = item.entries;
     let a = sequence::struct_align(sheet, layout, rows, src) as usize;
@@ -88,19 +92,19 @@ fn struct_fault(
     let frame = Frame {
         open: false,
         base: item.base,
-        width,
-        labels,
+        width: task.width,
+        labels: task.labels,
     };
     sequence::seq_fault(
         sheet,
         aligns,
         layout,
         rows,
-        src,
-        item.names,
+        item,
         frame,
-        marked,
         marks,
+        task.plain,
+        owners,
     )
 }
 
@@ -112,16 +116,17 @@ fn record_fault(
     rows: &[u32],
     item: Item,
     twice: bool,
-    width: usize,
-    labels: usize,
-    marked: bool,
+    task: Task,
     marks: &mut [u64; 1024],
+    owners: &mut [u16],
 ) -> u32
     requires { ⌜ Room (now layout) (now rows) (item .entries) ⌝ }
     requires { ⌜ Marks (now marks) [] ⌝ }
     requires { ⌜ item .base < 65536 ⌝ }
-    ensures { λ r. ⌜ r ≡ recordFault (now (sheet .entry)) width labels (now (aligns .entry)) twice (itemSeq (now (layout .entry)) (now (rows .entry)) item) ⌝ }
+    requires { ⌜ Unowned (now owners) ⌝ }
+    ensures { λ r. ⌜ Told (now (owners .entry)) (recordFault (now (sheet .entry)) (task .width) (task .labels) (now (aligns .entry)) twice (itemSeq (now (layout .entry)) (now (rows .entry)) item)) r ⌝ }
     ensures { λ r. ⌜ Clean r (now (marks .exit)) ⌝ }
+    ensures { λ _. ⌜ now (owners .exit) ≡ now (owners .entry) ⌝ }
 {
     if twice {
         return refusal::RTYPE_TWICE;
@@ -136,23 +141,22 @@ fn record_fault(
     if item.base % 8 != 0 {
         return refusal::BASE_NOT_OF_8;
     }
-    let src = item.entries;
     let frame = Frame {
         open: true,
         base: item.base,
-        width,
-        labels,
+        width: task.width,
+        labels: task.labels,
     };
     sequence::seq_fault(
         sheet,
         aligns,
         layout,
         rows,
-        src,
-        item.names,
+        item,
         frame,
-        marked,
         marks,
+        task.plain,
+        owners,
     )
 }
 
@@ -162,32 +166,22 @@ fn structs_fault(
     aligns: &[u16],
     layout: &[u8],
     rows: &[u32],
-    place: Place,
-    width: usize,
-    labels: usize,
-    marked: bool,
+    task: Task,
     marks: &mut [u64; 1024],
+    owners: &mut [u16],
 ) -> u32
-    requires { ⌜ Good (now layout) (now rows) false place ⌝ }
+    requires { ⌜ Good (now layout) (now rows) false (task .structs) ⌝ }
     requires { ⌜ Marks (now marks) [] ⌝ }
-    ensures { λ r. ⌜ r ≡ structsFault (now (sheet .entry)) width labels (now (aligns .entry)) (seqsFrom (now (layout .entry)) (now (rows .entry)) false place) ⌝ }
+    requires { ⌜ Unowned (now owners) ⌝ }
+    ensures { λ r. ⌜ Told (now (owners .entry)) (structsFault (now (sheet .entry)) (task .width) (task .labels) (now (aligns .entry)) (seqsFrom (now (layout .entry)) (now (rows .entry)) false (task .structs))) r ⌝ }
     ensures { λ r. ⌜ Clean r (now (marks .exit)) ⌝ }
+    ensures { λ _. ⌜ now (owners .exit) ≡ now (owners .entry) ⌝ }
 {
-    let mut p = place;
+    let mut p = task.structs;
     loop {
         match walk::next_item(layout, rows, false, p) {
             Next::Found(item, after) => {
-                let v = struct_fault(
-                    sheet,
-                    aligns,
-                    layout,
-                    rows,
-                    item,
-                    width,
-                    labels,
-                    marked,
-                    marks,
-                );
+                let v = struct_fault(sheet, aligns, layout, rows, item, task, marks, owners);
                 if v != 0 {
                     return v;
                 }
@@ -204,18 +198,17 @@ fn records_fault(
     aligns: &[u16],
     layout: &[u8],
     rows: &[u32],
-    place: Place,
-    width: usize,
-    labels: usize,
-    marked: bool,
+    task: Task,
     marks: &mut [u64; 1024],
+    owners: &mut [u16],
 ) -> u32
-    requires { ⌜ Good (now layout) (now rows) true place ⌝ }
+    requires { ⌜ Good (now layout) (now rows) true (task .records) ⌝ }
     requires { ⌜ Marks (now marks) [] ⌝ }
-    ensures { λ r. ⌜ r ≡ recordsFault (now (sheet .entry)) width labels (now (aligns .entry)) [] (seqsFrom (now (layout .entry)) (now (rows .entry)) true place) ⌝ }
+    requires { ⌜ Unowned (now owners) ⌝ }
+    ensures { λ r. ⌜ Told (now (owners .entry)) (recordsFault (now (sheet .entry)) (task .width) (task .labels) (now (aligns .entry)) [] (seqsFrom (now (layout .entry)) (now (rows .entry)) true (task .records))) r ⌝ }
 {
     let mut rtypes = [0u64; 1024];
-    let mut p = place;
+    let mut p = task.records;
     loop {
         match walk::next_item(layout, rows, true, p) {
             Next::Found(item, after) => {
@@ -228,10 +221,9 @@ fn records_fault(
                     rows,
                     item,
                     twice,
-                    width,
-                    labels,
-                    marked,
+                    task,
                     marks,
+                    owners,
                 );
                 if v != 0 {
                     return v;
@@ -249,219 +241,134 @@ fn rules_in(
     sheet: &[u16; 520],
     layout: &[u8],
     rows: &[u32],
-    structs: Place,
-    records: Place,
-    width: usize,
-    labels: usize,
-    marked: bool,
+    task: Task,
     aligns: &mut [u16],
+    owners: &mut [u16],
 ) -> u32
-    requires { ⌜ Good (now layout) (now rows) false structs ⌝ }
-    requires { ⌜ Good (now layout) (now rows) true records ⌝ }
-    requires { ⌜ length (now aligns) ≡ length (seqsFrom (now layout) (now rows) false structs) ⌝ }
-    ensures { λ r. ⌜ r ≡ seqsFault (now (sheet .entry)) width (seqsFrom (now (layout .entry)) (now (rows .entry)) false structs) (seqsFrom (now (layout .entry)) (now (rows .entry)) true records) labels ⌝ }
+    requires { ⌜ Good (now layout) (now rows) false (task .structs) ⌝ }
+    requires { ⌜ Good (now layout) (now rows) true (task .records) ⌝ }
+    requires { ⌜ length (now aligns) ≡ length (seqsFrom (now layout) (now rows) false (task .structs)) ⌝ }
+    requires { ⌜ Unowned (now owners) ⌝ }
+    ensures { λ r. ⌜ Told (now (owners .entry)) (taskFault (now (sheet .entry)) (now (layout .entry)) (now (rows .entry)) task) r ⌝ }
 {
-    fill_aligns(sheet, layout, rows, structs, aligns);
+    fill_aligns(sheet, layout, rows, task.structs, aligns);
     let mut marks = [0u64; 1024];
-    let v = structs_fault(
-        sheet,
-        aligns,
-        layout,
-        rows,
-        structs,
-        width,
-        labels,
-        marked,
-        &mut marks,
-    );
+    let v = structs_fault(sheet, aligns, layout, rows, task, &mut marks, owners);
     if v != 0 {
         return v;
     }
-    records_fault(
-        sheet,
-        aligns,
-        layout,
-        rows,
-        records,
-        width,
-        labels,
-        marked,
-        &mut marks,
-    )
+    records_fault(sheet, aligns, layout, rows, task, &mut marks, owners)
 }
 
-// The rules, with the first n numbers of a table for the alignments of n structs.
+// The rules, with the first numbers of a table for the alignments, as many as there are structs.
 fn rules_by(
     sheet: &[u16; 520],
     layout: &[u8],
     rows: &[u32],
-    structs: Place,
-    n: usize,
-    records: Place,
-    width: usize,
-    labels: usize,
-    marked: bool,
+    task: Task,
     table: &mut [u16],
+    owners: &mut [u16],
 ) -> u32
-    requires { ⌜ Ready (now layout) (now rows) structs n records ⌝ }
-    requires { ⌜ n ≤ length (now table) ⌝ }
-    ensures { λ r. ⌜ r ≡ seqsFault (now (sheet .entry)) width (seqsFrom (now (layout .entry)) (now (rows .entry)) false structs) (seqsFrom (now (layout .entry)) (now (rows .entry)) true records) labels ⌝ }
+    requires { ⌜ Ready (now layout) (now rows) (task .structs) (task .n) (task .records) ⌝ }
+    requires { ⌜ task .n ≤ length (now table) ⌝ }
+    requires { ⌜ Unowned (now owners) ⌝ }
+    ensures { λ r. ⌜ Told (now (owners .entry)) (taskFault (now (sheet .entry)) (now (layout .entry)) (now (rows .entry)) task) r ⌝ }
 {
-    rules_in(
-        sheet,
-        layout,
-        rows,
-        structs,
-        records,
-        width,
-        labels,
-        marked,
-        &mut table[..n],
-    )
+    let n = task.n;
+    rules_in(sheet, layout, rows, task, &mut table[..n], owners)
 }
 
-fn rules_64(
-    sheet: &[u16; 520],
-    layout: &[u8],
-    rows: &[u32],
-    structs: Place,
-    n: usize,
-    records: Place,
-    width: usize,
-    labels: usize,
-    marked: bool,
-) -> u32
-    requires { ⌜ Ready (now layout) (now rows) structs n records ⌝ }
-    requires { ⌜ n ≤ 64 ⌝ }
-    ensures { λ r. ⌜ r ≡ seqsFault (now (sheet .entry)) width (seqsFrom (now (layout .entry)) (now (rows .entry)) false structs) (seqsFrom (now (layout .entry)) (now (rows .entry)) true records) labels ⌝ }
+fn rules_64(sheet: &[u16; 520], layout: &[u8], rows: &[u32], task: Task, owners: &mut [u16]) -> u32
+    requires { ⌜ Ready (now layout) (now rows) (task .structs) (task .n) (task .records) ⌝ }
+    requires { ⌜ task .n ≤ 64 ⌝ }
+    requires { ⌜ Unowned (now owners) ⌝ }
+    ensures { λ r. ⌜ Told (now (owners .entry)) (taskFault (now (sheet .entry)) (now (layout .entry)) (now (rows .entry)) task) r ⌝ }
 {
     let mut table = [0u16; 64];
-    rules_by(
-        sheet,
-        layout,
-        rows,
-        structs,
-        n,
-        records,
-        width,
-        labels,
-        marked,
-        &mut table,
-    )
+    rules_by(sheet, layout, rows, task, &mut table, owners)
 }
 
+// The rules of at most 4,096 structs.
 fn rules_4096(
     sheet: &[u16; 520],
     layout: &[u8],
     rows: &[u32],
-    structs: Place,
-    n: usize,
-    records: Place,
-    width: usize,
-    labels: usize,
-    marked: bool,
+    task: Task,
+    owners: &mut [u16],
 ) -> u32
-    requires { ⌜ Ready (now layout) (now rows) structs n records ⌝ }
-    requires { ⌜ n ≤ 4096 ⌝ }
-    ensures { λ r. ⌜ r ≡ seqsFault (now (sheet .entry)) width (seqsFrom (now (layout .entry)) (now (rows .entry)) false structs) (seqsFrom (now (layout .entry)) (now (rows .entry)) true records) labels ⌝ }
+    requires { ⌜ Ready (now layout) (now rows) (task .structs) (task .n) (task .records) ⌝ }
+    requires { ⌜ task .n ≤ 4096 ⌝ }
+    requires { ⌜ Unowned (now owners) ⌝ }
+    ensures { λ r. ⌜ Told (now (owners .entry)) (taskFault (now (sheet .entry)) (now (layout .entry)) (now (rows .entry)) task) r ⌝ }
 {
     let mut table = [0u16; 4096];
-    rules_by(
-        sheet,
-        layout,
-        rows,
-        structs,
-        n,
-        records,
-        width,
-        labels,
-        marked,
-        &mut table,
-    )
+    rules_by(sheet, layout, rows, task, &mut table, owners)
 }
 
+// The rules of at most 65,535 structs.
 fn rules_65535(
     sheet: &[u16; 520],
     layout: &[u8],
     rows: &[u32],
-    structs: Place,
-    n: usize,
-    records: Place,
-    width: usize,
-    labels: usize,
-    marked: bool,
+    task: Task,
+    owners: &mut [u16],
 ) -> u32
-    requires { ⌜ Ready (now layout) (now rows) structs n records ⌝ }
-    requires { ⌜ n ≤ 65535 ⌝ }
-    ensures { λ r. ⌜ r ≡ seqsFault (now (sheet .entry)) width (seqsFrom (now (layout .entry)) (now (rows .entry)) false structs) (seqsFrom (now (layout .entry)) (now (rows .entry)) true records) labels ⌝ }
+    requires { ⌜ Ready (now layout) (now rows) (task .structs) (task .n) (task .records) ⌝ }
+    requires { ⌜ task .n ≤ 65535 ⌝ }
+    requires { ⌜ Unowned (now owners) ⌝ }
+    ensures { λ r. ⌜ Told (now (owners .entry)) (taskFault (now (sheet .entry)) (now (layout .entry)) (now (rows .entry)) task) r ⌝ }
 {
     let mut table = [0u16; 65535];
-    rules_by(
-        sheet,
-        layout,
-        rows,
-        structs,
-        n,
-        records,
-        width,
-        labels,
-        marked,
-        &mut table,
-    )
+    rules_by(sheet, layout, rows, task, &mut table, owners)
 }
 
-// The rules of n structs and of the records, with all of 81 to 83 found by marking places where `marked` holds.
-// The table for the alignments is no larger than it must be, since it is cleared first.
-pub(crate) fn rules(
-    sheet: &[u16; 520],
-    layout: &[u8],
-    rows: &[u32],
-    structs: Place,
-    n: usize,
-    records: Place,
-    width: usize,
-    labels: usize,
-    marked: bool,
-) -> u32
-    requires { ⌜ Ready (now layout) (now rows) structs n records ⌝ }
-    requires { ⌜ n ≤ 65535 ⌝ }
-    ensures { λ r. ⌜ r ≡ seqsFault (now (sheet .entry)) width (seqsFrom (now (layout .entry)) (now (rows .entry)) false structs) (seqsFrom (now (layout .entry)) (now (rows .entry)) true records) labels ⌝ }
+// The rules by search alone, or that it gave up. The table for the alignments is no larger than it must be, since it is cleared
+// first: here and below.
+fn rules_searched(sheet: &[u16; 520], layout: &[u8], rows: &[u32], task: Task) -> u32
+    requires { ⌜ Ready (now layout) (now rows) (task .structs) (task .n) (task .records) ⌝ }
+    requires { ⌜ task .n ≤ 4096 ⌝ }
+    ensures { λ r. ⌜ Told [] (taskFault (now (sheet .entry)) (now (layout .entry)) (now (rows .entry)) task) r ⌝ }
 {
-    if n <= 64 {
-        return rules_64(
-            sheet,
-            layout,
-            rows,
-            structs,
-            n,
-            records,
-            width,
-            labels,
-            marked,
-        );
+    let mut none = [0u16; 0];
+    if task.n <= 64 {
+        return rules_64(sheet, layout, rows, task, &mut none);
     }
-    if n <= 4096 {
-        return rules_4096(
-            sheet,
-            layout,
-            rows,
-            structs,
-            n,
-            records,
-            width,
-            labels,
-            marked,
-        );
+    rules_4096(sheet, layout, rows, task, &mut none)
+}
+
+// The rules with an owner for each place, which a record or a struct is marked with where the task is plain or its search gives
+// up. This is the only frame that holds the owners, and a table for 65,535 structs: about 264 KiB.
+fn rules_marked(sheet: &[u16; 520], layout: &[u8], rows: &[u32], task: Task) -> u32
+    requires { ⌜ Ready (now layout) (now rows) (task .structs) (task .n) (task .records) ⌝ }
+    requires { ⌜ task .n ≤ 65535 ⌝ }
+    ensures { λ r. ⌜ r ≡ (taskFault (now (sheet .entry)) (now (layout .entry)) (now (rows .entry)) task) ⌝ }
+{
+    let mut owners = [0u16; 65536];
+    if task.n <= 64 {
+        return rules_64(sheet, layout, rows, task, &mut owners);
     }
-    rules_65535(
-        sheet,
-        layout,
-        rows,
-        structs,
-        n,
-        records,
-        width,
-        labels,
-        marked,
-    )
+    if task.n <= 4096 {
+        return rules_4096(sheet, layout, rows, task, &mut owners);
+    }
+    rules_65535(sheet, layout, rows, task, &mut owners)
+}
+
+// The rules of the structs and of the records. Where the task is plain all of 81 to 83 are found by marks; else by search, and
+// by marks only for a record or a struct whose search gives up. Other layouts pay nothing for the marks, nor for a table of
+// more than 4,096 structs.
+pub(crate) fn rules(sheet: &[u16; 520], layout: &[u8], rows: &[u32], task: Task) -> u32
+    requires { ⌜ Ready (now layout) (now rows) (task .structs) (task .n) (task .records) ⌝ }
+    requires { ⌜ task .n ≤ 65535 ⌝ }
+    ensures { λ r. ⌜ r ≡ (taskFault (now (sheet .entry)) (now (layout .entry)) (now (rows .entry)) task) ⌝ }
+{
+    if task.plain {
+        return rules_marked(sheet, layout, rows, task);
+    }
+    if task.n <= 4096 {
+        let v = rules_searched(sheet, layout, rows, task);
+        if v != GAVE_UP {
+            return v;
+        }
+    }
+    rules_marked(sheet, layout, rows, task)
 }

@@ -32,8 +32,16 @@ pub struct Hit {
     pub rest: Source,
 }
 
-// How far a chase went: the entries used, and where the last ends.
+// A search that may go back to the front: whether it gave up before it did, what it found, and how many looks it left over.
+pub struct Turn {
+    pub quit: bool,
+    pub hit: Hit,
+    pub spare: usize,
+}
+
+// How far a chase went: whether it gave up, the entries used, and where the last ends.
 pub struct Chased {
+    pub quit: bool,
     pub used: usize,
     pub cursor: usize,
 }
@@ -60,11 +68,25 @@ pub struct Item {
     pub entries: Source,
 }
 
+// What is ruled on: the structs and how many they are, the records, the symbol width, how many label defs there are, and
+// whether all of 81 to 83 are found by marks.
+pub struct Task {
+    pub structs: Place,
+    pub n: usize,
+    pub records: Place,
+    pub width: usize,
+    pub labels: usize,
+    pub plain: bool,
+}
+
 // The next record or struct, and what comes after it.
 pub enum Next {
     Found(Item, Place),
     End,
 }
+
+// The answer where a search has looked too often and there are no owners to go on with: no number of document 01.
+pub(crate) const GAVE_UP: u32 = 65536;
 
 // The place after n sections from `at` on.
 fn skip(layout: &[u8], at: usize, n: usize) -> usize
@@ -81,7 +103,7 @@ fn skip(layout: &[u8], at: usize, n: usize) -> usize
 }
 
 // The rules of an accepted layout: the first number that they give, or 0.
-fn layout_rules(layout: &[u8], sheet: &[u16; 520], width: usize) -> u32
+fn layout_rules(layout: &[u8], sheet: &[u16; 520], width: usize, plain: bool) -> u32
     requires { ⌜ Accepted (now layout) ⌝ }
     ensures { λ r. ⌜ r ≡ rulesIn (now (sheet .entry)) width (layoutOf (now (layout .entry))) ⌝ }
 {
@@ -101,27 +123,25 @@ fn layout_rules(layout: &[u8], sheet: &[u16; 520], width: usize) -> u32
         at: 4,
         left: m,
     };
-    items::rules(
-        sheet,
-        layout,
-        &none,
+    let task = Task {
         structs,
         n,
         records,
         width,
         labels,
-        false,
-    )
+        plain,
+    };
+    items::rules(sheet, layout, &none, task)
 }
 
 // The verdict on a layout given with a symbol width: 13, then the layout, then its rules. Its version and how many rows
-// it has, or the refusal.
-pub fn check_layout(layout: &[u8], width: u16, sheet: &[u16; 520]) -> Verdict
+// it has, or the refusal. The answer is the same by either engine: where `plain` holds all of 81 to 83 are found by marks.
+pub fn check_layout(layout: &[u8], width: u16, sheet: &[u16; 520], plain: bool) -> Verdict
     ensures { λ r. ⌜ r ≡ verdict (ruledOf (now (sheet .entry)) width (now (layout .entry))) ⌝ }
 {
     match layout::layout_verdict(layout) {
         Verdict::Accepted { version, rows } => {
-            let why = layout_rules(layout, sheet, width as usize);
+            let why = layout_rules(layout, sheet, width as usize, plain);
             if why == 0 {
                 return Verdict::Accepted { version, rows };
             }
@@ -154,8 +174,8 @@ fn label_rows(rows: &[u32]) -> usize
 }
 
 // The rules of the records and structs in a table of rows: the first number that they give, or 0; 91 where there are more
-// than 65,535 structs. Where `marked` holds all of 81 to 83 are found by marking places.
-fn rows_fault(rows: &[u32], width: u16, sheet: &[u16; 520], marked: bool) -> u32
+// than 65,535 structs. The answer is the same by either engine: where `plain` holds all of 81 to 83 are found by marks.
+pub fn check_rows(rows: &[u32], width: u16, sheet: &[u16; 520], plain: bool) -> u32
     ensures { λ r. ⌜ r ≡ rowsRules (now (sheet .entry)) width (now (rows .entry)) ⌝ }
 {
     let none = [0u8; 1];
@@ -169,30 +189,13 @@ fn rows_fault(rows: &[u32], width: u16, sheet: &[u16; 520], marked: bool) -> u32
         return refusal::COUNT_LARGE;
     }
     let labels = label_rows(rows);
-    items::rules(
-        sheet,
-        &none,
-        rows,
-        all,
+    let task = Task {
+        structs: all,
         n,
-        all,
-        width as usize,
+        records: all,
+        width: width as usize,
         labels,
-        marked,
-    )
-}
-
-// The rules of the records and structs in a table of rows: the first number that they give, or 0; 91 where there are more
-// than 65,535 structs.
-pub fn check_rows(rows: &[u32], width: u16, sheet: &[u16; 520]) -> u32
-    ensures { λ r. ⌜ r ≡ rowsRules (now (sheet .entry)) width (now (rows .entry)) ⌝ }
-{
-    rows_fault(rows, width, sheet, false)
-}
-
-// The same, with all of 81 to 83 found by marking places.
-pub fn check_rows_plain(rows: &[u32], width: u16, sheet: &[u16; 520]) -> u32
-    ensures { λ r. ⌜ r ≡ rowsRules (now (sheet .entry)) width (now (rows .entry)) ⌝ }
-{
-    rows_fault(rows, width, sheet, true)
+        plain,
+    };
+    items::rules(sheet, &none, rows, task)
 }

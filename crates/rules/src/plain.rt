@@ -6,12 +6,12 @@ use fields::Frame;
 ghost use mathlib.Core.Path.{_≡_};
 ghost use mathlib.Core.Bool.{true, false};
 ghost use Prim.Native.Nat.{_<_, _≤_, max};
-ghost use Rattle.plain_tiling.specs.Plain.{blank, byMarks, baseByMarks, extByMarks};
+ghost use Rattle.plain_tiling.specs.Plain.{blank, baseByMarks, extByMarks};
 ghost use Rattle.plain_tiling.specs.Owners.{Placed};
-ghost use Rattle.rules.specs.Rules.{first, spans, baseFault, extFault};
+ghost use Rattle.plain_tiling.specs.Marking.{Marked, endByMarks};
+ghost use Rattle.rules.specs.Rules.{spans, tilingFault};
 ghost use Rattle.rules.specs.Entries.{entriesOf, Room};
 ghost use Rattle.rules.specs.Engines.{Passed};
-ghost use Rattle.rules.specs.Marking.{Marked};
 
 // A place that no field reaches.
 const NOWHERE: usize = 65536;
@@ -31,13 +31,13 @@ fn mark_side(
     frame: Frame,
     ext: bool,
     start: usize,
-    marks: &mut [u16; 65536],
+    owners: &mut [u16],
 ) -> Painted
     requires { ⌜ Room (now layout) (now rows) src ⌝ }
     requires { ⌜ Placed start 65535 (spans (frame .open) (frame .base) ext (entriesOf (now layout) (now rows) src)) ⌝ }
     requires { ⌜ start ≤ 65535 ⌝ }
-    requires { ⌜ now marks ≡ blank ⌝ }
-    ensures { λ r. ⌜ Marked start (spans (frame .open) (frame .base) ext (entriesOf (now (layout .entry)) (now (rows .entry)) src)) (now (marks .exit)) r ⌝ }
+    requires { ⌜ now owners ≡ blank ⌝ }
+    ensures { λ r. ⌜ Marked start (spans (frame .open) (frame .base) ext (entriesOf (now (layout .entry)) (now (rows .entry)) src)) (now (owners .exit)) (r .clash) (r .top) ⌝ }
 {
     let mut left = src;
     let mut owner: u16 = 0;
@@ -50,17 +50,17 @@ fn mark_side(
         }
         let a = fields::off_of(e);
         let z = fields::end_of(e);
-        if plain_tiling::is_taken(marks, a, z) {
+        if plain_tiling::is_taken(owners, a, z) {
             return Painted { clash: true, top };
         }
         owner += 1;
-        plain_tiling::give(marks, a, z, owner);
+        plain_tiling::give(owners, a, z, owner);
         top = larger(top, z);
     }
     Painted { clash: false, top }
 }
 
-// Where the entries of one side end, if they lie end to end from `start` on, or NOWHERE. The marks are clear before and after.
+// Where the entries of one side end, if they lie end to end from `start` on, or NOWHERE. Nobody owns a place before, nor after.
 fn side_end(
     layout: &[u8],
     rows: &[u32],
@@ -68,19 +68,19 @@ fn side_end(
     frame: Frame,
     ext: bool,
     start: usize,
-    marks: &mut [u16; 65536],
+    owners: &mut [u16],
 ) -> usize
     requires { ⌜ Room (now layout) (now rows) src ⌝ }
     requires { ⌜ Placed start 65535 (spans (frame .open) (frame .base) ext (entriesOf (now layout) (now rows) src)) ⌝ }
     requires { ⌜ start ≤ 65535 ⌝ }
-    requires { ⌜ now marks ≡ blank ⌝ }
-    ensures { λ r. ⌜ r ≡ byMarks 65536 (λ c. c) start (spans (frame .open) (frame .base) ext (entriesOf (now (layout .entry)) (now (rows .entry)) src)) ⌝ }
-    ensures { λ _. ⌜ now (marks .exit) ≡ blank ⌝ }
+    requires { ⌜ now owners ≡ blank ⌝ }
+    ensures { λ r. ⌜ r ≡ endByMarks start (spans (frame .open) (frame .base) ext (entriesOf (now (layout .entry)) (now (rows .entry)) src)) ⌝ }
+    ensures { λ _. ⌜ now (owners .exit) ≡ blank ⌝ }
 {
-    let m = mark_side(layout, rows, src, frame, ext, start, marks);
+    let m = mark_side(layout, rows, src, frame, ext, start, owners);
     let top = m.top;
-    let end = plain_tiling::walk_from(marks, start, top);
-    plain_tiling::clear(marks, start, top);
+    let end = plain_tiling::walk(owners, start, top);
+    plain_tiling::give(owners, start, top, 0);
     if m.clash {
         return NOWHERE;
     }
@@ -90,21 +90,15 @@ fn side_end(
     top
 }
 
-// 81 and 82 of entries that passed 71 to 80, or 0. The marks are clear before and after.
-pub(crate) fn base_by_marks(
-    layout: &[u8],
-    rows: &[u32],
-    src: Source,
-    frame: Frame,
-    marks: &mut [u16; 65536],
-) -> u32
+// 81 and 82 of entries that passed 71 to 80, or 0. Nobody owns a place before, nor after.
+fn base_by_marks(layout: &[u8], rows: &[u32], src: Source, frame: Frame, owners: &mut [u16]) -> u32
     requires { ⌜ Room (now layout) (now rows) src ⌝ }
     requires { ⌜ Passed (frame .open) (frame .base) (entriesOf (now layout) (now rows) src) ⌝ }
-    requires { ⌜ now marks ≡ blank ⌝ }
+    requires { ⌜ now owners ≡ blank ⌝ }
     ensures { λ r. ⌜ r ≡ baseByMarks (frame .base) (spans (frame .open) (frame .base) false (entriesOf (now (layout .entry)) (now (rows .entry)) src)) ⌝ }
-    ensures { λ _. ⌜ now (marks .exit) ≡ blank ⌝ }
+    ensures { λ _. ⌜ now (owners .exit) ≡ blank ⌝ }
 {
-    let end = side_end(layout, rows, src, frame, false, 0, marks);
+    let end = side_end(layout, rows, src, frame, false, 0, owners);
     if end == NOWHERE {
         return refusal::BASE_GAP;
     }
@@ -115,36 +109,37 @@ pub(crate) fn base_by_marks(
 }
 
 // 83 of the same, or 0.
-pub(crate) fn ext_by_marks(
-    layout: &[u8],
-    rows: &[u32],
-    src: Source,
-    frame: Frame,
-    marks: &mut [u16; 65536],
-) -> u32
+fn ext_by_marks(layout: &[u8], rows: &[u32], src: Source, frame: Frame, owners: &mut [u16]) -> u32
     requires { ⌜ Room (now layout) (now rows) src ⌝ }
     requires { ⌜ Passed (frame .open) (frame .base) (entriesOf (now layout) (now rows) src) ⌝ }
-    requires { ⌜ now marks ≡ blank ⌝ }
+    requires { ⌜ now owners ≡ blank ⌝ }
     ensures { λ r. ⌜ r ≡ extByMarks (frame .base) (spans (frame .open) (frame .base) true (entriesOf (now (layout .entry)) (now (rows .entry)) src)) ⌝ }
-    ensures { λ _. ⌜ now (marks .exit) ≡ blank ⌝ }
+    ensures { λ _. ⌜ now (owners .exit) ≡ blank ⌝ }
 {
-    let end = side_end(layout, rows, src, frame, true, frame.base, marks);
+    let end = side_end(layout, rows, src, frame, true, frame.base, owners);
     if end == NOWHERE {
         return refusal::EXTENSION_GAP;
     }
     0
 }
 
-// The first of numbers 81 to 83 that entries give which passed 71 to 80, or 0.
-pub(crate) fn plain_tiling(layout: &[u8], rows: &[u32], src: Source, frame: Frame) -> u32
+// The first of numbers 81 to 83 that entries give which passed 71 to 80, or 0. Nobody owns a place before, nor after.
+pub(crate) fn tiling_by_marks(
+    layout: &[u8],
+    rows: &[u32],
+    src: Source,
+    frame: Frame,
+    owners: &mut [u16],
+) -> u32
     requires { ⌜ Room (now layout) (now rows) src ⌝ }
     requires { ⌜ Passed (frame .open) (frame .base) (entriesOf (now layout) (now rows) src) ⌝ }
-    ensures { λ r. ⌜ r ≡ first (baseFault (frame .open) (frame .base) (entriesOf (now (layout .entry)) (now (rows .entry)) src)) (extFault (frame .open) (frame .base) (entriesOf (now (layout .entry)) (now (rows .entry)) src)) ⌝ }
+    requires { ⌜ now owners ≡ blank ⌝ }
+    ensures { λ r. ⌜ r ≡ tilingFault (frame .open) (frame .base) (entriesOf (now (layout .entry)) (now (rows .entry)) src) ⌝ }
+    ensures { λ _. ⌜ now (owners .exit) ≡ blank ⌝ }
 {
-    let mut marks = [0u16; 65536];
-    let b = base_by_marks(layout, rows, src, frame, &mut marks);
+    let b = base_by_marks(layout, rows, src, frame, owners);
     if b != 0 {
         return b;
     }
-    ext_by_marks(layout, rows, src, frame, &mut marks)
+    ext_by_marks(layout, rows, src, frame, owners)
 }

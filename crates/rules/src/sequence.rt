@@ -1,4 +1,6 @@
 // One record or struct: its alignment, and numbers 70 to 83.
+use crate::GAVE_UP;
+use crate::Item;
 use crate::Source;
 use crate::entries;
 use crate::plain;
@@ -7,15 +9,13 @@ use fields::Frame;
 ghost use mathlib.Core.Path.{_≡_};
 ghost use mathlib.Core.Bool.{true, false};
 ghost use mathlib.Core.List.{[]};
-ghost use Prim.Native.Nat.{_<_, _≤_, max};
+ghost use Prim.Native.Nat.{_<_, _≤_, max, min};
 ghost use Rattle.marks.specs.Marks.{Marks, Only};
-ghost use Rattle.rules.specs.Rules.{first, structAlign, fieldsFault, baseFault, extFault, seqFault, plain};
+ghost use Rattle.rules.specs.Rules.{structAlign, fieldsFault, tilingFault, seqFault, judged};
 ghost use Rattle.rules.specs.Engines.{Passed};
+ghost use Rattle.rules.specs.Told.{Told, Unowned};
 ghost use Rattle.rules.specs.Entries.{entriesOf, Room};
 ghost use Rattle.rules.specs.Sequence.{idsOf, notedMarks, Marking, Clean};
-
-// Fewer entries than these are searched through in any order.
-const FEW: usize = 48;
 
 fn larger(a: u16, b: u16) -> u16
     ensures { λ r. ⌜ r ≡ max a b ⌝ }
@@ -91,63 +91,75 @@ fn wipe_ids(layout: &[u8], rows: &[u32], src: Source, marks: &mut [u64; 1024])
     }
 }
 
-// Whether the entries start in rising order. Each search then finds its entry at once.
-fn in_order(layout: &[u8], rows: &[u32], src: Source) -> bool
-    requires { ⌜ Room (now layout) (now rows) src ⌝ }
+fn smaller(a: usize, b: usize) -> usize
+    ensures { λ r. ⌜ r ≡ min a b ⌝ }
 {
-    let mut left = src;
-    let mut last: usize = 0;
-    while 0 < left.count {
-        let e = entries::entry_at(layout, rows, left);
-        let start = fields::off_of(e);
-        if start < last {
-            return false;
-        }
-        last = start;
-        left = entries::rest(left);
-    }
-    true
+    if a < b { a } else { b }
 }
 
-// The first of numbers 81 to 83 that entries give which passed 71 to 80, or 0: by search where they are few or in order, by
-// marks where they are not, or `marked` holds.
-fn tiling(layout: &[u8], rows: &[u32], src: Source, frame: Frame, marked: bool) -> u32
+// How many looks a search may take from the front again before marks cost less: one for each entry and one for 16 places. Where
+// no owners are lent one more for each entry and 1,024 more, since all the rules are then gone through once more.
+fn looks(count: usize, base: usize, lent: usize) -> usize {
+    let entries = smaller(count, 65536);
+    let places = smaller(base, 65536) / 16;
+    if lent == 65536 {
+        return entries + places;
+    }
+    2 * entries + places + 1024
+}
+
+// The first of numbers 81 to 83 that entries give which passed 71 to 80, or 0: by search, unless `plain` holds; by marks where
+// no search is made or it gives up. The owners come back as they were lent.
+fn tiling(
+    layout: &[u8],
+    rows: &[u32],
+    src: Source,
+    frame: Frame,
+    plain: bool,
+    owners: &mut [u16],
+) -> u32
     requires { ⌜ Room (now layout) (now rows) src ⌝ }
     requires { ⌜ Passed (frame .open) (frame .base) (entriesOf (now layout) (now rows) src) ⌝ }
-    ensures { λ r. ⌜ r ≡ first (baseFault (frame .open) (frame .base) (entriesOf (now (layout .entry)) (now (rows .entry)) src)) (extFault (frame .open) (frame .base) (entriesOf (now (layout .entry)) (now (rows .entry)) src)) ⌝ }
+    requires { ⌜ Unowned (now owners) ⌝ }
+    ensures { λ r. ⌜ Told (now (owners .entry)) (tilingFault (frame .open) (frame .base) (entriesOf (now (layout .entry)) (now (rows .entry)) src)) r ⌝ }
+    ensures { λ _. ⌜ now (owners .exit) ≡ now (owners .entry) ⌝ }
 {
-    if marked {
-        return plain::plain_tiling(layout, rows, src, frame);
+    if !plain {
+        let spare = looks(src.count, frame.base, owners.len());
+        let v = tile::tiling_by_search(layout, rows, src, frame, spare);
+        if v != GAVE_UP {
+            return v;
+        }
     }
-    if src.count < FEW {
-        return tile::tiling_by_search(layout, rows, src, frame);
+    if owners.len() != 65536 {
+        return GAVE_UP;
     }
-    if in_order(layout, rows, src) {
-        return tile::tiling_by_search(layout, rows, src, frame);
-    }
-    plain::plain_tiling(layout, rows, src, frame)
+    plain::tiling_by_marks(layout, rows, src, frame, owners)
 }
 
-// The first of numbers 70 to 83 that a record or a struct gives, or 0, with 81 to 83 by marks where `marked`
-// holds. The marks of ids are clear before, and after 0.
+// The first of numbers 70 to 83 that a record or a struct gives, or 0, with 81 to 83 as `tiling` has them. The marks of ids
+// are clear before, and after 0; the owners come back as they were lent.
 pub(crate) fn seq_fault(
     sheet: &[u16; 520],
     aligns: &[u16],
     layout: &[u8],
     rows: &[u32],
-    src: Source,
-    names: usize,
+    item: Item,
     frame: Frame,
-    marked: bool,
     marks: &mut [u64; 1024],
+    plain: bool,
+    owners: &mut [u16],
 ) -> u32
-    requires { ⌜ Room (now layout) (now rows) src ⌝ }
+    requires { ⌜ Room (now layout) (now rows) (item .entries) ⌝ }
     requires { ⌜ Marks (now marks) [] ⌝ }
     requires { ⌜ frame .base < 65536 ⌝ }
-    ensures { λ r. ⌜ r ≡ seqFault (now (sheet .entry)) (frame .width) (frame .labels) (now (aligns .entry)) (frame .open) (plain (frame .base) names (entriesOf (now (layout .entry)) (now (rows .entry)) src)) ⌝ }
+    requires { ⌜ Unowned (now owners) ⌝ }
+    ensures { λ r. ⌜ Told (now (owners .entry)) (seqFault (now (sheet .entry)) (frame .width) (frame .labels) (now (aligns .entry)) (frame .open) (judged (frame .base) (item .names) (entriesOf (now (layout .entry)) (now (rows .entry)) (item .entries)))) r ⌝ }
     ensures { λ r. ⌜ Clean r (now (marks .exit)) ⌝ }
+    ensures { λ _. ⌜ now (owners .exit) ≡ now (owners .entry) ⌝ }
 {
-    if names != src.count {
+    let src = item.entries;
+    if item.names != src.count {
         return refusal::NAMES_AND_FIELDS;
     }
     let a = fields_fault(sheet, aligns, layout, rows, src, frame, marks);
@@ -155,5 +167,5 @@ pub(crate) fn seq_fault(
         return a;
     }
     wipe_ids(layout, rows, src, marks);
-    tiling(layout, rows, src, frame, marked)
+    tiling(layout, rows, src, frame, plain, owners)
 }

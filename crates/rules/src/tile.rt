@@ -1,16 +1,20 @@
 // Numbers 81 to 83: base entries tile 0 to base, extensions go on from it. Each time the entry at the cursor is searched for.
 use crate::Chased;
+use crate::GAVE_UP;
 use crate::Hit;
 use crate::Source;
+use crate::Turn;
 use crate::entries;
 use fields::Frame;
 ghost use mathlib.Core.Path.{_≡_};
 ghost use mathlib.Core.Bool.{true, false};
+ghost use mathlib.Core.List.{[]};
 ghost use Prim.Native.Nat.{_<_, _≤_};
 ghost use lib.ListN.{length};
-ghost use Rattle.rules.specs.Rules.{first, spans, baseFault, extFault};
+ghost use Rattle.rules.specs.Rules.{spans, baseFault, extFault, tilingFault};
 ghost use Rattle.rules.specs.Entries.{entriesOf, Room};
 ghost use Rattle.rules.specs.Engines.{Passed};
+ghost use Rattle.rules.specs.Told.{Told};
 ghost use Rattle.rules.specs.Chase.{startsHere, onSide, None, Proper, Chase, Within, Sought, Hits};
 
 // A place that no entry reaches.
@@ -55,7 +59,7 @@ fn seek(layout: &[u8], rows: &[u32], src: Source, frame: Frame, ext: bool, curso
     Hit { end: 0, rest: left }
 }
 
-// The same with the search begun at `from`, and then from the front.
+// The same with the search begun at `from`, and then from the front, unless fewer looks are to spare than there are entries.
 fn seek_on(
     layout: &[u8],
     rows: &[u32],
@@ -64,17 +68,34 @@ fn seek_on(
     frame: Frame,
     ext: bool,
     cursor: usize,
-) -> Hit
+    spare: usize,
+) -> Turn
     requires { ⌜ Room (now layout) (now rows) src ⌝ }
     requires { ⌜ Within (now layout) (now rows) (frame .open) (frame .base) ext src from ⌝ }
     requires { ⌜ Proper (spans (frame .open) (frame .base) ext (entriesOf (now layout) (now rows) src)) ⌝ }
-    ensures { λ r. ⌜ Hits (now (layout .entry)) (now (rows .entry)) (frame .open) (frame .base) ext src cursor r ⌝ }
+    ensures { λ r. ⌜ (r .quit ≡ false → Hits (now (layout .entry)) (now (rows .entry)) (frame .open) (frame .base) ext src cursor (r .hit)) ⌝ }
 {
     let near = seek(layout, rows, from, frame, ext, cursor);
     if near.end != 0 {
-        return near;
+        return Turn {
+            quit: false,
+            hit: near,
+            spare,
+        };
     }
-    seek(layout, rows, src, frame, ext, cursor)
+    if spare < src.count {
+        return Turn {
+            quit: true,
+            hit: near,
+            spare,
+        };
+    }
+    let far = seek(layout, rows, src, frame, ext, cursor);
+    Turn {
+        quit: false,
+        hit: far,
+        spare: spare - src.count,
+    }
 }
 
 // How many entries the side has.
@@ -92,7 +113,8 @@ fn count(layout: &[u8], rows: &[u32], src: Source, frame: Frame, ext: bool) -> u
     k
 }
 
-// From end to end, until no entry of the side starts at the cursor. None starts at `stop`, where the search is spared.
+// From end to end, until no entry of the side starts at the cursor, or until no looks are to spare. None starts at `stop`, where
+// the search is spared.
 fn chase(
     layout: &[u8],
     rows: &[u32],
@@ -101,37 +123,55 @@ fn chase(
     ext: bool,
     start: usize,
     stop: usize,
+    spare: usize,
 ) -> Chased
     requires { ⌜ Room (now layout) (now rows) src ⌝ }
     requires { ⌜ Proper (spans (frame .open) (frame .base) ext (entriesOf (now layout) (now rows) src)) ⌝ }
     requires { ⌜ start < 65536 ⌝ }
     requires { ⌜ (stop < 131072 → None (spans (frame .open) (frame .base) ext (entriesOf (now layout) (now rows) src)) stop) ⌝ }
-    ensures { λ r. ⌜ Chase (spans (frame .open) (frame .base) ext (entriesOf (now (layout .entry)) (now (rows .entry)) src)) start (r .used) (r .cursor) ⌝ }
+    ensures { λ r. ⌜ (r .quit ≡ false → Chase (spans (frame .open) (frame .base) ext (entriesOf (now (layout .entry)) (now (rows .entry)) src)) start (r .used) (r .cursor)) ⌝ }
 {
     let mut used: usize = 0;
     let mut cursor = start;
     let mut from = src;
+    let mut looks = spare;
     while cursor != stop {
-        let hit = seek_on(layout, rows, src, from, frame, ext, cursor);
+        let turn = seek_on(layout, rows, src, from, frame, ext, cursor, looks);
+        if turn.quit {
+            return Chased {
+                quit: true,
+                used,
+                cursor,
+            };
+        }
+        let hit = turn.hit;
         if hit.end == 0 {
-            return Chased { used, cursor };
+            break;
         }
         used += 1;
         cursor = hit.end;
         from = hit.rest;
+        looks = turn.spare;
     }
-    Chased { used, cursor }
+    Chased {
+        quit: false,
+        used,
+        cursor,
+    }
 }
 
-// 81 and 82 of entries that passed 71 to 80, k of which are on the side of the base, or 0.
-fn base_fault(layout: &[u8], rows: &[u32], src: Source, frame: Frame, k: usize) -> u32
+// 81 and 82 of entries that passed 71 to 80, k of which are on the side of the base, or 0; or the search gave up.
+fn base_fault(layout: &[u8], rows: &[u32], src: Source, frame: Frame, k: usize, spare: usize) -> u32
     requires { ⌜ Room (now layout) (now rows) src ⌝ }
     requires { ⌜ Proper (spans (frame .open) (frame .base) false (entriesOf (now layout) (now rows) src)) ⌝ }
     requires { ⌜ None (spans (frame .open) (frame .base) false (entriesOf (now layout) (now rows) src)) (frame .base) ⌝ }
     requires { ⌜ k ≡ length (spans (frame .open) (frame .base) false (entriesOf (now layout) (now rows) src)) ⌝ }
-    ensures { λ r. ⌜ r ≡ baseFault (frame .open) (frame .base) (entriesOf (now (layout .entry)) (now (rows .entry)) src) ⌝ }
+    ensures { λ r. ⌜ Told [] (baseFault (frame .open) (frame .base) (entriesOf (now (layout .entry)) (now (rows .entry)) src)) r ⌝ }
 {
-    let c = chase(layout, rows, src, frame, false, 0, frame.base);
+    let c = chase(layout, rows, src, frame, false, 0, frame.base, spare);
+    if c.quit {
+        return GAVE_UP;
+    }
     if c.used != k {
         return refusal::BASE_GAP;
     }
@@ -142,33 +182,43 @@ fn base_fault(layout: &[u8], rows: &[u32], src: Source, frame: Frame, k: usize) 
 }
 
 // 83 of the same, k of which are past the base, or 0.
-fn ext_fault(layout: &[u8], rows: &[u32], src: Source, frame: Frame, k: usize) -> u32
+fn ext_fault(layout: &[u8], rows: &[u32], src: Source, frame: Frame, k: usize, spare: usize) -> u32
     requires { ⌜ Room (now layout) (now rows) src ⌝ }
     requires { ⌜ Proper (spans (frame .open) (frame .base) true (entriesOf (now layout) (now rows) src)) ⌝ }
     requires { ⌜ frame .base < 65536 ⌝ }
     requires { ⌜ k ≡ length (spans (frame .open) (frame .base) true (entriesOf (now layout) (now rows) src)) ⌝ }
-    ensures { λ r. ⌜ r ≡ extFault (frame .open) (frame .base) (entriesOf (now (layout .entry)) (now (rows .entry)) src) ⌝ }
+    ensures { λ r. ⌜ Told [] (extFault (frame .open) (frame .base) (entriesOf (now (layout .entry)) (now (rows .entry)) src)) r ⌝ }
 {
     if k == 0 {
         return 0;
     }
-    let c = chase(layout, rows, src, frame, true, frame.base, NEVER);
+    let c = chase(layout, rows, src, frame, true, frame.base, NEVER, spare);
+    if c.quit {
+        return GAVE_UP;
+    }
     if c.used != k {
         return refusal::EXTENSION_GAP;
     }
     0
 }
 
-// The first of numbers 81 to 83 that entries give which passed 71 to 80, or 0.
-pub(crate) fn tiling_by_search(layout: &[u8], rows: &[u32], src: Source, frame: Frame) -> u32
+// The first of numbers 81 to 83 that entries give which passed 71 to 80, or 0; or the search gave up, with
+// no more than `spare` looks on either side that an entry in order would not take.
+pub(crate) fn tiling_by_search(
+    layout: &[u8],
+    rows: &[u32],
+    src: Source,
+    frame: Frame,
+    spare: usize,
+) -> u32
     requires { ⌜ Room (now layout) (now rows) src ⌝ }
     requires { ⌜ Passed (frame .open) (frame .base) (entriesOf (now layout) (now rows) src) ⌝ }
-    ensures { λ r. ⌜ r ≡ first (baseFault (frame .open) (frame .base) (entriesOf (now (layout .entry)) (now (rows .entry)) src)) (extFault (frame .open) (frame .base) (entriesOf (now (layout .entry)) (now (rows .entry)) src)) ⌝ }
+    ensures { λ r. ⌜ Told [] (tilingFault (frame .open) (frame .base) (entriesOf (now (layout .entry)) (now (rows .entry)) src)) r ⌝ }
 {
     let k = count(layout, rows, src, frame, false);
-    let b = base_fault(layout, rows, src, frame, k);
+    let b = base_fault(layout, rows, src, frame, k, spare);
     if b != 0 {
         return b;
     }
-    ext_fault(layout, rows, src, frame, src.count - k)
+    ext_fault(layout, rows, src, frame, src.count - k, spare)
 }

@@ -70,11 +70,13 @@ fn show(a: Change, b: Change, c: Change) {
     bytes[c_at] = c.byte;
     let mut rows = [0u32; 126];
     layout::read_layout_rows(&bytes, &mut rows);
-    write(number(rules::check_layout(&bytes, 8, &sheet)));
+    write(number(engines::check_layout(&bytes, 8, &sheet)));
     io::write_all(1, b" ");
-    write(rules::check_rows(&rows, 8, &sheet));
+    write(number(engines::check_layout_plain(&bytes, 8, &sheet)));
     io::write_all(1, b" ");
-    write(rules::check_rows_plain(&rows, 8, &sheet));
+    write(engines::check_rows(&rows, 8, &sheet));
+    io::write_all(1, b" ");
+    write(engines::check_rows_plain(&rows, 8, &sheet));
     io::write_all(1, b"\n");
 }
 

@@ -33,7 +33,7 @@ pub fn write_layout(
             structs,
             labels,
         } => {
-            let why = rules::check_rows(rows, width, sheet);
+            let why = engines::check_rows(rows, width, sheet);
             if why != 0 {
                 return Written::Refused(why);
             }

@@ -6,7 +6,10 @@
 #[path = "../../measure/mod.rs"]
 mod bench;
 
-use bench::{alone, beside, shapes};
+use bench::{
+    alone, beside,
+    shapes::{self, Order},
+};
 use relay::ffi;
 use std::hint::black_box;
 
@@ -108,15 +111,20 @@ fn daily() {
 fn hostile() {
     println!("hostile: bytes, time, and times the time of half the size");
     type Shape = fn(usize) -> Vec<u8>;
-    let shapes: [(&str, usize, Shape); 8] = [
+    let shapes: [(&str, usize, Shape); 13] = [
         ("structs with nothing in them", 65_535, shapes::structs),
         ("fields that name the last of as many structs, which has as many fields", 3_600, shapes::last_struct),
         ("records of one field", 60_000, shapes::records),
         ("labels in one def", 16_000, |n| shapes::labels(n, false)),
         ("labels in one def, the last code twice (55)", 16_000, |n| shapes::labels(n, true)),
         ("label defs of one label", 60_000, shapes::label_defs),
-        ("fields in reverse", 3_600, |n| shapes::reverse(n, false)),
-        ("fields shuffled", 3_600, |n| shapes::reverse(n, true)),
+        ("fields in order", 3_600, |n| shapes::tiled(n, 1, 1, Order::Rising)),
+        ("fields in reverse", 3_600, |n| shapes::tiled(n, 1, 1, Order::Reverse)),
+        ("fields shuffled", 3_600, |n| shapes::tiled(n, 1, 1, Order::Shuffled)),
+        ("records of 3,600 fields in order", 50, |n| shapes::tiled(3_600, 1, n, Order::Rising)),
+        ("records of 3,600 fields in reverse", 50, |n| shapes::tiled(3_600, 1, n, Order::Reverse)),
+        ("records of 3,600 fields shuffled", 50, |n| shapes::tiled(3_600, 1, n, Order::Shuffled)),
+        ("records of 64 fields of 1,000 bytes in reverse", 2_700, |n| shapes::tiled(64, 1_000, n, Order::Reverse)),
     ];
     for (what, n, shape) in shapes {
         rising(&format!("dbn_layout, {what}"), n, |n| {

@@ -1,42 +1,54 @@
-use Rattle.rules.proofs.Turns.{step-found, step-end, step-less, Recording, records-stop, records-on, records-end}
-use Rattle.rules.specs.Walk.{seqsFrom}
-use Rattle.marks.specs.MarkLaws.{marks-none}
-use mathlib.Core.List.{[]}
+-- The invariant: the records to come give the same number, and the owners are as they were lent. Assumes nothing.
 use mathlib.Core.Bool.{true}
-use mathlib.Core.Path.{refl}
+use mathlib.Core.Path.{_≡_, refl, ap, _∙_}
+use mathlib.Core.List.{[]}
 use lib.ListN.{length}
 use borrow.Author.Needs.{needs}
+use Rattle.marks.specs.MarkLaws.{marks-none}
+use Rattle.rules.specs.Walk.{seqsFrom}
+use Rattle.rules.specs.Told.{told, told-as, told-by, told-0}
+use Rattle.rules.proofs.Turns.{step-found, step-end, step-less, Recording, records-stop, records-on, records-end}
 use Rattle.rules.proofs.items.records_fault.Statement.{statement}
 use Rattle.rules.proofs.items.records_fault.Tie as tie
 
 abbrev Inv-loop : tie.InvT-loop
-Inv-loop sheet aligns layout rows width labels marked marks₀ rtypes₀ p₀ marks rtypes p =
-    Recording sheet width labels aligns layout rows p₀ p marks rtypes
+Inv-loop sheet aligns layout rows task marks₀ owners₀ rtypes₀ p₀ marks owners rtypes p =
+    Recording sheet (task .width) (task .labels) aligns layout rows p₀ p marks rtypes × (owners ≡ owners₀)
 
 abbrev μ-loop : tie.MeasureT-loop
-μ-loop sheet aligns layout rows width labels marked marks₀ rtypes₀ p₀ marks rtypes p =
+μ-loop sheet aligns layout rows task marks₀ owners₀ rtypes₀ p₀ marks owners rtypes p =
     length (seqsFrom layout rows true p)
 
 loop-holds : tie.Need-loop-holds Inv-loop μ-loop
-loop-holds c = record { good = c .before .before .before .pre .0; marks = c .before .before .before .pre .1; seen = []; rtypes = marks-none; same = refl }
+loop-holds c = (record { good = c .before .before .before .before .before .pre .0; marks = c .before .before .before .before .before .pre .1 .0; seen = []; rtypes = marks-none; same = refl }, refl)
 
 next-item-requires : tie.Need-next-item-requires Inv-loop μ-loop
-next-item-requires c κs = c .loop .inv .good
+next-item-requires c κs = c .loop .inv .0 .good
 
 record-fault-requires : tie.Need-record-fault-requires Inv-loop μ-loop
-record-fault-requires c κs = (step-found (c .before .before .before .before .before .before .next-item .ensures) (c .before .before .before .before .item .given .1) .room, (c .before .before .before .before .before .before .before .loop .inv .marks, step-found (c .before .before .before .before .before .before .next-item .ensures) (c .before .before .before .before .item .given .1) .base))
+record-fault-requires c κs =
+    let s = step-found (c .before .before .before .before .before .before .before .next-item .ensures) (c .before .before .before .before .before .item .given .1) in
+    (s .room, (c .before .before .before .before .before .before .before .before .loop .inv .0 .marks, (s .base, rw (c .before .before .before .before .before .before .before .before .loop .inv .1) (c .before .before .before .before .before .before .before .before .before .before .before .before .before .before .pre .1 .1))))
+
+same-length : tie.Need-same-length Inv-loop μ-loop
+same-length c = ap length (c .before .before .before .record-fault .ensures .1 .1 ∙ c .before .before .before .before .before .before .before .before .before .before .before .before .loop .inv .1)
 
 returns : tie.Need-returns Inv-loop μ-loop
-returns c = records-stop _ _ _ _ _ _ (c .before .before .before .before .before .before .before .before .before .loop .inv) (step-found (c .before .before .before .before .before .before .before .before .next-item .ensures) (c .before .before .before .before .before .before .item .given .1)) (search needs) (c .before .before .before .is-marked .ensures) (c .before .record-fault .ensures .0) (c .if1 .taken)
+returns c =
+    told-as (λ e. records-stop _ _ _ _ _ _ (c .before .before .before .before .before .before .before .before .before .before .before .before .loop .inv .0) (step-found (c .before .before .before .before .before .before .before .before .before .before .before .next-item .ensures) (c .before .before .before .before .before .before .before .before .before .item .given .1)) (search needs) (c .before .before .before .before .before .before .is-marked .ensures) e (c .if1 .taken)) (told-by (c .before .before .before .before .before .before .before .before .before .before .before .before .loop .inv .1) (c .before .before .before .record-fault .ensures .0))
 
 loop-less : tie.Need-loop-less Inv-loop μ-loop
-loop-less c = step-less (step-found (c .before .before .before .before .before .before .before .before .before .before .next-item .ensures) (c .before .before .before .before .before .before .before .before .item .given .1))
+loop-less c = step-less (step-found (c .before .before .before .before .before .before .before .before .before .before .before .before .before .next-item .ensures) (c .before .before .before .before .before .before .before .before .before .before .before .item .given .1))
 
 loop-again : tie.Need-loop-again Inv-loop μ-loop
-loop-again c = records-on _ _ _ _ _ _ (c .before .before .before .before .before .before .before .before .before .before .before .loop .inv) (step-found (c .before .before .before .before .before .before .before .before .before .before .next-item .ensures) (c .before .before .before .before .before .before .before .before .item .given .1)) (search needs) (c .before .before .before .before .before .is-marked .ensures) (c .before .before .before .record-fault .ensures .0) (c .before .before .if1 .left) (c .before .before .before .record-fault .ensures .1) (c .mark .ensures)
+loop-again c =
+    (records-on _ _ _ _ _ _ (c .before .before .before .before .before .before .before .before .before .before .before .before .before .before .loop .inv .0) (step-found (c .before .before .before .before .before .before .before .before .before .before .before .before .before .next-item .ensures) (c .before .before .before .before .before .before .before .before .before .before .before .item .given .1)) (search needs) (c .before .before .before .before .before .before .before .before .is-marked .ensures) (told-0 (c .before .before .before .before .before .record-fault .ensures .0) (c .before .before .if1 .left)) (c .before .before .if1 .left) (c .before .before .before .before .before .record-fault .ensures .1 .0) (c .mark .ensures), c .before .before .before .before .before .record-fault .ensures .1 .1 ∙ c .before .before .before .before .before .before .before .before .before .before .before .before .before .before .loop .inv .1)
+
+same-length-2 : tie.Need-same-length-2 Inv-loop μ-loop
+same-length-2 c = ap length (c .before .before .before .loop .inv .1)
 
 returns-2 : tie.Need-returns-2 Inv-loop μ-loop
-returns-2 c = records-end _ _ _ _ _ _ (c .before .before .before .loop .inv) (step-end (c .before .before .next-item .ensures) (c .enum-told .given .1))
+returns-2 c = told (records-end _ _ _ _ _ _ (c .before .before .before .loop .inv .0) (step-end (c .before .before .next-item .ensures) (c .enum-told .given .1)))
 
 pub records-fault-spec : {M : Type 1} → statement M
 records-fault-spec =
@@ -49,9 +61,11 @@ records-fault-spec =
     (λ c. search needs)
     (λ c κs. search needs)
     record-fault-requires
+    same-length
     returns
     (λ c κs. search needs)
     loop-less
     loop-again
     (λ c. search needs)
+    same-length-2
     returns-2)

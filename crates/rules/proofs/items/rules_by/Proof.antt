@@ -1,16 +1,19 @@
-use mathlib.Core.Path.{sym}
-use lib.Seq.{length-take-le}
 use native.Mathlib.Omega.{arith}
+use mathlib.Core.Path.{sym}
 use lib.ListN.{length-take}
+use lib.Seq.{length-take-le}
 use borrow.Author.Needs.{needs}
 use Rattle.rules.proofs.items.rules_by.Statement.{statement}
 use Rattle.rules.proofs.items.rules_by.Tie as tie
 
 slice-aggregate-rules-in : tie.Need-slice-aggregate-rules-in
-slice-aggregate-rules-in c = sym (length-take-le (c .before .before .before .before .args .n) (c .before .before .before .before .args .table .now) (c .before .before .before .before .pre .1))
+slice-aggregate-rules-in c = sym (length-take-le (c .before .before .before .before .before .args .task .n) (c .before .before .before .before .before .args .table .now) (c .before .before .before .before .before .pre .1 .0))
 
 rules-in-requires : tie.Need-rules-in-requires
-rules-in-requires c κs = (c .before .before .before .before .pre .0 .structs-good, (c .before .before .before .before .pre .0 .records-good, simp length-take (omega (arith, c .before .before .before .before .pre .0 .count))))
+rules-in-requires c κs = (c .before .before .before .before .before .before .pre .0 .structs-good, (c .before .before .before .before .before .before .pre .0 .records-good, (simp length-take (omega (arith, c .before .before .before .before .before .before .pre .0 .count, c .before .before .before .before .before .before .pre .1 .0)), c .before .before .before .before .before .before .pre .1 .1)))
+
+returns : tie.Need-returns
+returns c = c .before .before .before .before .rules-in .ensures
 
 pub rules-by-spec : {M : Type 1} → statement M
 rules-by-spec =
@@ -20,4 +23,5 @@ rules-by-spec =
     slice-aggregate-rules-in
     rules-in-requires
     (λ c. search needs)
-    (λ c. search needs))
+    (λ c. search needs)
+    returns)

@@ -2,19 +2,20 @@
 use native.Mathlib.Omega.{arith}
 use mathlib.Core.Path.{sym, _∙_}
 use borrow.Author.Needs.{needs}
-use Rattle.rules.proofs.Painting.{Marking, marking, mark-skip, mark-room, mark-clash, mark-owner, mark-on, mark-end}
+use Rattle.plain_tiling.specs.PlainLaws.{blank-length}
+use Rattle.rules.proofs.Painting.{Painting, painting, paint-skip, paint-clash, paint-owner, paint-next, paint-end}
 use Rattle.rules.proofs.plain.mark_side.Statement.{statement}
 use Rattle.rules.proofs.plain.mark_side.Tie as tie
 
 abbrev Inv-loop : tie.InvT-loop
-Inv-loop layout rows frame ext start marks₀ left₀ owner₀ top₀ marks left owner top =
-    Marking (frame .open) (frame .base) ext layout rows start left₀ left marks owner top
+Inv-loop layout rows frame ext start owners₀ left₀ owner₀ top₀ owners left owner top =
+    Painting (frame .open) (frame .base) ext layout rows start left₀ left owners owner top
 
 abbrev μ-loop : tie.MeasureT-loop
-μ-loop layout rows frame ext start marks₀ left₀ owner₀ top₀ marks left owner top = left .count
+μ-loop layout rows frame ext start owners₀ left₀ owner₀ top₀ owners left owner top = left .count
 
 loop-holds : tie.Need-loop-holds Inv-loop μ-loop
-loop-holds c = marking _ _ _ _ _ (c .before .before .pre .0) (c .before .before .pre .1 .0) (c .before .before .pre .1 .1 .0) (c .before .before .pre .1 .1 .1)
+loop-holds c = painting _ _ _ _ _ (c .before .before .before .pre .0) (c .before .before .before .pre .1 .0) (c .before .before .before .pre .1 .1 .0) (c .before .before .before .pre .1 .1 .1)
 
 entry-at-requires : tie.Need-entry-at-requires Inv-loop μ-loop
 entry-at-requires c κs = (c .before .before .loop .inv .room, (c .if1 .taken))
@@ -26,28 +27,28 @@ loop-less : tie.Need-loop-less Inv-loop μ-loop
 loop-less c = rw (c .before .before .before .rest .ensures) (omega arith)
 
 loop-again : tie.Need-loop-again Inv-loop μ-loop
-loop-again c = rw (c .before .before .before .rest .ensures) (mark-skip _ _ _ _ _ (c .before .before .before .before .before .before .before .loop .inv) (c .before .before .before .before .before .if1 .taken) (c .before .before .before .before .entry-at .ensures) (rw (c .before .before .past-base .ensures) at (sym (c .before .differ .ensures) ∙ (c .if2 .taken))))
+loop-again c = rw (c .before .before .before .rest .ensures) (paint-skip _ _ _ _ _ (c .before .before .before .before .before .before .before .loop .inv) (c .before .before .before .before .before .if1 .taken) (c .before .before .before .before .entry-at .ensures) (rw (c .before .before .past-base .ensures) at (sym (c .before .differ .ensures) ∙ (c .if2 .taken))))
 
-is-taken-requires : tie.Need-is-taken-requires Inv-loop μ-loop
-is-taken-requires c κs = mark-room _ _ _ _ _ (c .before .before .before .before .before .before .before .before .before .before .loop .inv) (c .before .before .before .before .before .before .before .before .if1 .taken) (c .before .before .before .before .before .before .before .entry-at .ensures) (rw (c .before .before .before .before .before .past-base .ensures) at (sym (c .before .before .before .before .differ .ensures) ∙ (c .before .before .before .if2 .left))) (c .before .before .off-of .ensures .0) (c .before .end-of .ensures .0)
+same-length : tie.Need-same-length Inv-loop μ-loop
+same-length c = c .before .before .before .before .before .before .before .before .before .before .before .before .loop .inv .marks .only .long ∙ sym (rw (c .before .before .before .before .before .before .before .before .before .before .before .before .before .before .before .before .pre .1 .1 .1) blank-length)
 
 returns : tie.Need-returns Inv-loop μ-loop
-returns c = mark-clash _ _ _ _ _ (c .before .before .before .before .before .before .before .before .before .before .before .before .loop .inv) (c .before .before .before .before .before .before .before .before .before .before .if1 .taken) (c .before .before .before .before .before .before .before .before .before .entry-at .ensures) (rw (c .before .before .before .before .before .before .before .past-base .ensures) at (sym (c .before .before .before .before .before .before .differ .ensures) ∙ (c .before .before .before .before .before .if2 .left))) (c .before .before .before .before .off-of .ensures .0) (c .before .before .before .end-of .ensures .0) (sym (c .before .is-taken .ensures) ∙ (c .if3 .taken))
+returns c = paint-clash _ _ _ _ _ (c .before .before .before .before .before .before .before .before .before .before .before .before .loop .inv) (c .before .before .before .before .before .before .before .before .before .before .if1 .taken) (c .before .before .before .before .before .before .before .before .before .entry-at .ensures) (rw (c .before .before .before .before .before .before .before .past-base .ensures) at (sym (c .before .before .before .before .before .before .differ .ensures) ∙ (c .before .before .before .before .before .if2 .left))) (c .before .before .before .before .off-of .ensures .0) (c .before .before .before .end-of .ensures .0) (sym (c .before .is-taken .ensures) ∙ (c .if3 .taken))
 
 add-owner : tie.Need-add-owner Inv-loop μ-loop
-add-owner c = omega (arith, mark-owner _ _ _ _ _ (c .before .before .before .before .before .before .before .before .before .before .before .before .loop .inv) (c .before .before .before .before .before .before .before .before .before .before .if1 .taken) (c .before .before .before .before .before .before .before .before .before .entry-at .ensures) (rw (c .before .before .before .before .before .before .before .past-base .ensures) at (sym (c .before .before .before .before .before .before .differ .ensures) ∙ (c .before .before .before .before .before .if2 .left))) (c .before .before .before .before .off-of .ensures .0) (c .before .before .before .end-of .ensures .0) (sym (c .before .is-taken .ensures) ∙ (c .if3 .left)))
-
-give-requires : tie.Need-give-requires Inv-loop μ-loop
-give-requires c κs = mark-room _ _ _ _ _ (c .before .before .before .before .before .before .before .before .before .before .before .before .before .loop .inv) (c .before .before .before .before .before .before .before .before .before .before .before .if1 .taken) (c .before .before .before .before .before .before .before .before .before .before .entry-at .ensures) (rw (c .before .before .before .before .before .before .before .before .past-base .ensures) at (sym (c .before .before .before .before .before .before .before .differ .ensures) ∙ (c .before .before .before .before .before .before .if2 .left))) (c .before .before .before .before .before .off-of .ensures .0) (c .before .before .before .before .end-of .ensures .0)
+add-owner c = omega (arith, paint-owner _ _ _ _ _ (c .before .before .before .before .before .before .before .before .before .before .before .before .loop .inv) (c .before .before .before .before .before .before .before .before .before .before .if1 .taken) (c .before .before .before .before .before .before .before .before .before .entry-at .ensures) (rw (c .before .before .before .before .before .before .before .past-base .ensures) at (sym (c .before .before .before .before .before .before .differ .ensures) ∙ (c .before .before .before .before .before .if2 .left))) (c .before .before .before .before .off-of .ensures .0) (c .before .before .before .end-of .ensures .0) (sym (c .before .is-taken .ensures) ∙ (c .if3 .left)))
 
 loop-less-2 : tie.Need-loop-less-2 Inv-loop μ-loop
-loop-less-2 c = rw (c .before .before .before .before .before .before .before .before .before .before .before .rest .ensures) (omega arith)
+loop-less-2 c = rw (c .before .before .before .before .before .before .before .before .before .before .before .before .before .rest .ensures) (omega arith)
 
 loop-again-2 : tie.Need-loop-again-2 Inv-loop μ-loop
-loop-again-2 c = rw (c .before .before .before .before .before .before .before .before .before .before .before .rest .ensures) (mark-on _ _ _ _ _ (c .before .before .before .before .before .before .before .before .before .before .before .before .before .before .before .loop .inv) (c .before .before .before .before .before .before .before .before .before .before .before .before .before .if1 .taken) (c .before .before .before .before .before .before .before .before .before .before .before .before .entry-at .ensures) (rw (c .before .before .before .before .before .before .before .before .before .before .past-base .ensures) at (sym (c .before .before .before .before .before .before .before .before .before .differ .ensures) ∙ (c .before .before .before .before .before .before .before .before .if2 .left))) (c .before .before .before .before .before .before .before .off-of .ensures .0) (c .before .before .before .before .before .before .end-of .ensures .0) (sym (c .before .before .before .before .is-taken .ensures) ∙ (c .before .before .before .if3 .left)) (c .before .give .ensures) (c .larger .ensures))
+loop-again-2 c = rw (c .before .before .before .before .before .before .before .before .before .before .before .before .before .rest .ensures) (paint-next _ _ _ _ _ (c .before .before .before .before .before .before .before .before .before .before .before .before .before .before .before .before .before .loop .inv) (c .before .before .before .before .before .before .before .before .before .before .before .before .before .before .before .if1 .taken) (c .before .before .before .before .before .before .before .before .before .before .before .before .before .before .entry-at .ensures) (rw (c .before .before .before .before .before .before .before .before .before .before .before .before .past-base .ensures) at (sym (c .before .before .before .before .before .before .before .before .before .before .before .differ .ensures) ∙ (c .before .before .before .before .before .before .before .before .before .before .if2 .left))) (c .before .before .before .before .before .before .before .before .before .off-of .ensures .0) (c .before .before .before .before .before .before .before .before .end-of .ensures .0) (sym (c .before .before .before .before .before .before .is-taken .ensures) ∙ (c .before .before .before .before .before .if3 .left)) (c .before .before .before .give .ensures) (c .larger .ensures))
+
+same-length-2 : tie.Need-same-length-2 Inv-loop μ-loop
+same-length-2 c = c .before .before .loop .inv .marks .only .long ∙ sym (rw (c .before .before .before .before .before .before .pre .1 .1 .1) blank-length)
 
 returns-2 : tie.Need-returns-2 Inv-loop μ-loop
-returns-2 c = mark-end _ _ _ _ _ (c .before .before .loop .inv) (c .if1 .left)
+returns-2 c = paint-end _ _ _ _ _ (c .before .before .loop .inv) (c .if1 .left)
 
 pub mark-side-spec : {M : Type 1} → statement M
 mark-side-spec =
@@ -64,11 +65,13 @@ mark-side-spec =
     loop-again
     (λ c κs. search needs)
     (λ c κs. search needs)
-    is-taken-requires
+    (λ c κs. search needs)
+    same-length
     returns
     add-owner
-    give-requires
+    (λ c κs. search needs)
     (λ c κs. search needs)
     loop-less-2
     loop-again-2
+    same-length-2
     returns-2)

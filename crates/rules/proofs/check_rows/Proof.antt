@@ -1,7 +1,7 @@
-use Rattle.rules.specs.Whole.{rows-good, rows-ready, rows-many, rows-are}
 use borrow.Author.Needs.{needs}
-use Rattle.rules.proofs.rows_fault.Statement.{statement}
-use Rattle.rules.proofs.rows_fault.Tie as tie
+use Rattle.rules.specs.Whole.{rows-good, rows-ready, rows-many, rows-are}
+use Rattle.rules.proofs.check_rows.Statement.{statement}
+use Rattle.rules.proofs.check_rows.Tie as tie
 
 count-requires : tie.Need-count-requires
 count-requires c κs = rows-good _ _ _
@@ -15,8 +15,8 @@ rules-requires c κs = (rows-ready _ _ (c .before .before .before .count .ensure
 returns-2 : tie.Need-returns-2
 returns-2 c = rows-are _ _ _ _ (c .before .before .before .before .count .ensures) (c .before .before .before .if1 .left) (c .before .before .label-rows .ensures) (c .rules .ensures)
 
-pub rows-fault-spec : {M : Type 1} → statement M
-rows-fault-spec =
+pub check-rows-spec : {M : Type 1} → statement M
+check-rows-spec =
     tie.close
     (tie.spec
     (λ c. search needs)

@@ -1,0 +1,37 @@
+// The rules of a layout by either engine for 81 to 83: the search for the field at the cursor, and the plain one, which marks
+// each place of a record with its owner. Each pair makes the same promise, so its answers are equal.
+use layout::Verdict;
+ghost use mathlib.Core.Path.{_≡_};
+ghost use Rattle.layout.specs.Answers.{verdict};
+ghost use Rattle.rules.specs.Rules.{ruledOf};
+ghost use Rattle.rules.specs.RowRules.{rowsRules};
+
+// The verdict on a layout given with a symbol width: 13, then the layout, then its rules. Its version and how many rows it
+// has, or the refusal. By search; a record or a struct whose search takes too long is marked.
+pub fn check_layout(layout: &[u8], width: u16, sheet: &[u16; 520]) -> Verdict
+    ensures { λ r. ⌜ r ≡ verdict (ruledOf (now (sheet .entry)) width (now (layout .entry))) ⌝ }
+{
+    rules::check_layout(layout, width, sheet, false)
+}
+
+// The same, with every record and every struct marked.
+pub fn check_layout_plain(layout: &[u8], width: u16, sheet: &[u16; 520]) -> Verdict
+    ensures { λ r. ⌜ r ≡ verdict (ruledOf (now (sheet .entry)) width (now (layout .entry))) ⌝ }
+{
+    rules::check_layout(layout, width, sheet, true)
+}
+
+// The rules of the records and structs in a table of rows: the first number that they give, or 0; 91 where there are more
+// than 65,535 structs. By search; a record or a struct whose search takes too long is marked.
+pub fn check_rows(rows: &[u32], width: u16, sheet: &[u16; 520]) -> u32
+    ensures { λ r. ⌜ r ≡ rowsRules (now (sheet .entry)) width (now (rows .entry)) ⌝ }
+{
+    rules::check_rows(rows, width, sheet, false)
+}
+
+// The same, with every record and every struct marked.
+pub fn check_rows_plain(rows: &[u32], width: u16, sheet: &[u16; 520]) -> u32
+    ensures { λ r. ⌜ r ≡ rowsRules (now (sheet .entry)) width (now (rows .entry)) ⌝ }
+{
+    rules::check_rows(rows, width, sheet, true)
+}
