@@ -236,7 +236,7 @@ fn symbology_gives(text: &[u8], at: usize, bytes: &[u8], width: u16, base: usize
     let want = first.value;
     let from = first.next;
     let mut table = [0u32; 4608];
-    match symbology::read_symbology_rows(bytes, base, width, &mut table) {
+    match symbology::read_section_rows(bytes, base, width, false, true, &mut table) {
         symbology::Listed::Read { rows, next } => {
             let a = clip(next);
             let n = clip(rows);

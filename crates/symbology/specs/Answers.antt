@@ -1,8 +1,8 @@
--- What the public readers answer, and what they leave in the table.
+-- What the reader answers, and what it leaves in the table.
 -- Assumes nothing.
 use Prim.Native.Nat.{ℕ, _*_, _/_}
 use mathlib.Core.Path.{_≡_}
-use mathlib.Core.Bool.{Bool, true, _&&_}
+use mathlib.Core.Bool.{Bool, _&&_}
 use mathlib.Core.List.{List, _++_}
 use lib.ListN.{length, drop}
 use lib.Dec.{leb}
@@ -11,7 +11,6 @@ use Rattle.wire.specs.Pick.{pick}
 use Rattle.wire.specs.Out.{flat}
 use Rattle.symbology.specs.Symbology.{Symbology}
 use Rattle.symbology.specs.SymbologyRows.{symbologyRows}
-use Rattle.symbology.specs.Lists.{symbologyOf}
 use Rattle.symbology.specs.declared.Found.{Found}
 use Rattle.symbology.specs.declared.Found.the-variants as Found'
 use Rattle.symbology.specs.declared.Listed.{Listed}
@@ -31,18 +30,6 @@ judgeIf ready cap (refuse k) = Listed'.Refused k
 abbrev pub leaveIf : Bool → List ℕ → Res Symbology → List ℕ
 leaveIf ready t (ok l j) = pick (ready && leb (length (symbologyRows l)) (length t / 5)) (flat (symbologyRows l) ++ drop (5 * length (symbologyRows l)) t) t
 leaveIf ready t (refuse k) = t
-
--- the same of rows that are to be written
-abbrev pub judge5 : ℕ → Res Symbology → Listed
-judge5 cap z = judgeIf true cap z
-
-abbrev pub leave5 : List ℕ → Res Symbology → List ℕ
-leave5 t z = leaveIf true t z
-
--- what reading the symbology s at byte `base` of a block into the table t answers and leaves
-pub record Lists (width base : ℕ) (s t t′ : List ℕ) (r : Listed) : Type 0 where
-  pub is : r ≡ judge5 (length t / 5) (symbologyOf width base s)
-  pub leaves : t′ ≡ leave5 t (symbologyOf width base s)
 
 -- what reading z into the table t answers and leaves, where the rows are to be written only if `ready` holds
 pub record Fives (ready : Bool) (z : Res Symbology) (t t′ : List ℕ) (r : Listed) : Type 0 where
