@@ -1,0 +1,13 @@
+-- What the span below it gives.
+-- Assumes nothing.
+use mathlib.Core.Path.{ap, _∙_}
+use Rattle.c_names.specs.Numbers.{spanNumber, spanOut}
+use borrow.Author.Needs.{needs}
+use Rattle.c_names.proofs.dbn_layout_name.Statement.{statement}
+use Rattle.c_names.proofs.dbn_layout_name.Tie as tie
+
+returns : tie.Need-returns
+returns c = (c .put-span .ensures .0 ∙ ap spanNumber (c .before .before .layout-span .ensures), c .put-span .ensures .1 ∙ ap spanOut (c .before .before .layout-span .ensures))
+
+pub dbn-layout-name-spec : {M : Type 1} → statement M
+dbn-layout-name-spec = tie.close (tie.spec (λ c κs. search needs) (λ c κs. search needs) returns)
