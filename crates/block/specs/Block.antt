@@ -9,7 +9,7 @@ use Rattle.codec.specs.Codec.{Res, ok, refuse, _>>=_, need, Codec, raw, skip, n
 use Rattle.codec.specs.Remainder.{remainder}
 use Rattle.text.specs.Utf8.{utf8}
 use Rattle.text.specs.Date.{isDate}
-use Rattle.wire.specs.Pick.{pick}
+use Rattle.numbers.specs.Pick.{pick}
 use Rattle.layout.specs.Layout.{Layout, Parts, parts, toLayout, fromLayout}
 use Rattle.layout.specs.Given.{D}
 use Rattle.symbology.specs.Symbology.{Symbology, symbology}

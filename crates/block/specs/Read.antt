@@ -9,10 +9,10 @@ use lib.Seq.{drop-append-seam}
 use lib.Dec.{leb}
 use borrow.Author.Tests.{leb-true}
 use Rattle.codec.specs.Codec.{Res, ok, refuse}
-use Rattle.wire.specs.Pick.{pick}
+use Rattle.numbers.specs.Pick.{pick}
 use Rattle.layout.specs.Rows.{rows}
 use Rattle.symbology.specs.SymbologyRows.{symbologyRows}
-use Rattle.wire.specs.Out.{flat}
+use Rattle.table.specs.Out.{flat}
 use Rattle.layout.specs.ReadLaws.{rows-flat}
 use Rattle.symbology.specs.ReadLaws.{symbology-flat}
 use Rattle.block.specs.Block.{Block, lengths, blockOf}

@@ -40,9 +40,9 @@ use denote.Triple.Statement.{Contract, Triple}
 use denote.Triple.Call.{calls-at}
 use denote.Triple.Spec.{tripleOf}
 use denote.Triple.Clauses.{ensured, lasts}
-use Rattle.wire.specs.declared.Got.{Got}
-use Rattle.wire.proofs.Got as S
-use Rattle.wire.proofs.Got.Laws as S′
+use Rattle.numbers.specs.declared.Got.{Got}
+use Rattle.numbers.proofs.Got as S
+use Rattle.numbers.proofs.Got.Laws as S′
 use Rattle.byte_reader.specs.Reader.{after}
 use Rattle.byte_reader.specs.declared.ByteReader.{ByteReader}
 use Rattle.byte_reader.proofs.ByteReader as T

@@ -5,9 +5,10 @@ use Prim.Native.Nat.{ℕ}
 use mathlib.Core.Path.{_≡_}
 use mathlib.Core.List.{List}
 use denote.Ref.{now}
-use Rattle.wire.specs.Wire.{u16At, nameAt, Past}
-use Rattle.wire.specs.declared.Got.{Got}
-use Rattle.wire.specs.declared.Got.the-variants.{Value, Refused}
+use Rattle.numbers.specs.Numbers.{u16At, Past}
+use Rattle.wire.specs.Wire.{nameAt}
+use Rattle.numbers.specs.declared.Got.{Got}
+use Rattle.numbers.specs.declared.Got.the-variants.{Value, Refused}
 use Rattle.byte_reader.specs.declared.ByteReader.{ByteReader}
 use Rattle.byte_reader.specs.declared.Label.{Label}
 

@@ -4,7 +4,7 @@ use Prim.Native.Nat.{ℕ}
 use mathlib.Core.Path.{_≡_, sym, ap, _∙_}
 use mathlib.Core.List.{List}
 use denote.Ref.{RefT}
-use Rattle.wire.specs.declared.Got.{Got}
+use Rattle.numbers.specs.declared.Got.{Got}
 use Rattle.byte_reader.specs.Reader.{after, moved, Stepped, LabelIs}
 use Rattle.byte_reader.specs.declared.ByteReader.{ByteReader}
 use Rattle.byte_reader.specs.declared.Label.{Label}

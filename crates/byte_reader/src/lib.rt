@@ -1,10 +1,11 @@
 // A reader that keeps its section and its place together. Each step takes the reader apart, calls the reader of a slice at its
 // place, and moves the place past what was read. The functions at the end take a slice and a place, so that who calls them
 // does not hold a reader.
-use wire::Got;
+use numbers::Got;
 ghost use mathlib.Core.Path.{_≡_};
 ghost use Prim.Native.Nat.{_+_};
-ghost use Rattle.wire.specs.Wire.{takeAt, numAt, nameAt, Past};
+ghost use Rattle.numbers.specs.Numbers.{takeAt, numAt, Past};
+ghost use Rattle.wire.specs.Wire.{nameAt};
 ghost use Rattle.byte_reader.specs.Reader.{after, Stepped, LabelIs};
 
 // A section, and the place in it where the next read begins.
@@ -25,7 +26,7 @@ impl<'a> ByteReader<'a> {
     pub fn take(&mut self, n: usize, why: u32) -> Got
         ensures { λ r. ⌜ Stepped (n + 1) n (takeAt why n) (now (self .entry)) (now (self .exit)) r ⌝ }
     {
-        let got = wire::take(self.buf, self.pos, n, why);
+        let got = numbers::take(self.buf, self.pos, n, why);
         self.pos = place_after(got, self.pos);
         got
     }
@@ -34,7 +35,7 @@ impl<'a> ByteReader<'a> {
     pub fn u16(&mut self, why: u32) -> Got
         ensures { λ r. ⌜ Stepped 65536 2 (numAt why 2) (now (self .entry)) (now (self .exit)) r ⌝ }
     {
-        let got = wire::u16_at(self.buf, self.pos, why);
+        let got = numbers::u16_at(self.buf, self.pos, why);
         self.pos = place_after(got, self.pos);
         got
     }

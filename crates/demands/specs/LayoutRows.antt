@@ -10,7 +10,7 @@ use Rattle.codec.specs.Codec.{Codec, raw, padded, num, byte, _then_, named, che
 use Rattle.codec.specs.Edits.{Marks, Moves}
 use Rattle.codec.specs.MoveLaws.{moves-kept, moves-padded, moves-then, moves-named, moves-checked, moves-placed, moves-sized, times-moves, moves-times, moves-distinct, moves-boxed}
 use Rattle.wire.specs.Formats.{section, Name, text, name}
-use Rattle.wire.specs.Out.{flat}
+use Rattle.table.specs.Out.{flat}
 use Rattle.layout.specs.Layout.{Entry, Fields, RecordL, StructL, Label, LabelDef, Parts, Layout, toLayout, entry, fields, recordL, structL, label, labelDef, parts, groups}
 use Rattle.layout.specs.Rows.{headRow, row10, row12, row13, row14, row15, entryRow, nameRow, fieldRows, recordRows, structRows, labelRow, labelDefRows, rows}
 use Rattle.demands.specs.LayoutEdits.{moves-text, moves-name, u16-moves, u64-moves, marks-label, moves-label, moves-section, moves-labels, marks-labelDef, moves-labelDef, marks-entry, moves-entry, marks-name, moves-fields, marks-recordL, moves-recordL, marks-structL, moves-structL, moves-parts}

@@ -11,7 +11,7 @@ use lib.Dec.{eqb}
 use Rattle.codec.specs.Codec.{Codec, raw, num, _then_, named, checked, placed, asks, limited, timesLocate, timesEach}
 use Rattle.text.specs.Trim.{trimmedLen}
 use Rattle.text.specs.TrimLaws.{trimmed-le}
-use Rattle.wire.specs.Out.{flat}
+use Rattle.table.specs.Out.{flat}
 use Rattle.layout.specs.TextLaws.{rowText}
 use Rattle.symbology.specs.Symbology.{Symbol, Interval, Mapping, Symbology, symbol, date, list, interval, mapping, symbology}
 use Rattle.symbology.specs.SymbologyRows.{row5, symbolRow, intervalRow, mappingRows, listRow, symbologyRows}

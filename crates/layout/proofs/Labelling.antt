@@ -9,12 +9,13 @@ use lib.Dec.{eqb}
 use Rattle.codec.specs.Codec.{among}
 use Rattle.marks.specs.Marks.{wiped, Marks, Only}
 use Rattle.marks.specs.MarkLaws.{only-next, only-end}
-use Rattle.wire.specs.Wire.{le16, u16At, nameAt}
-use Rattle.wire.specs.WireLaws.{u16-value}
+use Rattle.numbers.specs.Numbers.{le16, u16At}
+use Rattle.wire.specs.Wire.{nameAt}
+use Rattle.numbers.specs.NumberLaws.{u16-value}
 use Rattle.wire.specs.NameLaws.{name-place}
-use Rattle.wire.specs.OutLaws.{Going}
-use Rattle.wire.specs.declared.Got.{Got}
-use Rattle.wire.specs.declared.Got.the-variants.{Value, Refused}
+use Rattle.table.specs.OutLaws.{Going}
+use Rattle.numbers.specs.declared.Got.{Got}
+use Rattle.numbers.specs.declared.Got.the-variants.{Value, Refused}
 use Rattle.layout.specs.Reader.{labelsAt}
 use Rattle.layout.specs.Labels.{Cleared, Walk, done, more, Codes}
 

@@ -16,19 +16,21 @@ use Rattle.codec.specs.Cases.{by-bool, by-le}
 use Rattle.text.specs.Utf8.{utf8}
 use Rattle.wire.specs.Formats
 use Rattle.wire.specs.Formats.{Name}
-use Rattle.wire.specs.Wire.{name, takeAt, u16At, nameAt, sectionAt, part, le16, le32, le64}
-use Rattle.wire.specs.WireLaws.{take-ok, take-no, take-value, take-refused, num-is, value8}
+use Rattle.wire.specs.Wire.{name, nameAt, sectionAt}
+use Rattle.numbers.specs.Numbers.{takeAt, u16At, part, le16, le32, le64}
+use Rattle.numbers.specs.NumberLaws.{take-ok, take-no, take-value, take-refused, num-is, value8}
 use Rattle.wire.specs.NameLaws.{name-ok, name-no}
-use Rattle.wire.specs.Out.{Out, said, row, seq, onGot, allRows}
+use Rattle.table.specs.Out.{Out, said, row, seq, onGot, allRows}
 use Rattle.wire.specs.Steps.{items-end, items-row, items-no, both, both-seq, said-named, count-row, said-num, said-name, seq-same, parts-end, parts-run, parts-no}
-use Rattle.wire.specs.declared.Got.{Got}
-use Rattle.wire.specs.declared.Got.the-variants.{Value, Refused}
+use Rattle.numbers.specs.declared.Got.{Got}
+use Rattle.numbers.specs.declared.Got.the-variants.{Value, Refused}
 use Rattle.layout.specs.Layout
 use Rattle.layout.specs.Layout.{Entry, Fields, RecordL, StructL, Label, LabelDef, toRecord, toStruct, toLabelDef}
 use Rattle.layout.specs.Given
 use Rattle.layout.specs.Given.{D, D-least}
 use Rattle.layout.specs.Rows.{headRow, entryRow, nameRow, fieldRows, recordRows, structRows, labelRow, labelDefRows, row10, row12, row13, row14, row15}
-use Rattle.layout.specs.Reader.{entryBytes, entriesAt, namesAt, fieldsAt, recordBody, structBody, labelBody, bodyOf, sectionsAt, groupAt, groupsAt, labelsAt}
+use Rattle.entry.specs.Entry.{entryBytes}
+use Rattle.layout.specs.Reader.{entriesAt, namesAt, fieldsAt, recordBody, structBody, labelBody, bodyOf, sectionsAt, groupAt, groupsAt, labelsAt}
 
 -- bytes written out one by one
 bytesFrom : ℕ → List ℕ → ℕ → ℕ → List ℕ

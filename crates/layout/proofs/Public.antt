@@ -9,13 +9,13 @@ use borrow.Author.Tests.{le-leb, lt-leb}
 use Rattle.codec.specs.Codec.{_then_, Res, ok, refuse, _>>=_, whole}
 use Rattle.codec.specs.Cases.{by-le}
 use Rattle.text.specs.Utf8.{utf8}
-use Rattle.wire.specs.Wire.{u16At}
-use Rattle.wire.specs.WireLaws.{num-is, u16-value}
-use Rattle.wire.specs.Out.{said, answer, fill, Fills, Ran, allRows}
-use Rattle.wire.specs.TableLaws.{fill-rows}
-use Rattle.wire.specs.declared.Got.{Got}
-use Rattle.wire.specs.declared.Got.the-variants.{Value}
-use Rattle.wire.specs.declared.Got.the-variants as Got'
+use Rattle.numbers.specs.Numbers.{u16At}
+use Rattle.numbers.specs.NumberLaws.{num-is, u16-value}
+use Rattle.table.specs.Out.{said, answer, fill, Fills, Ran, allRows}
+use Rattle.table.specs.TableLaws.{fill-rows}
+use Rattle.numbers.specs.declared.Got.{Got}
+use Rattle.numbers.specs.declared.Got.the-variants.{Value}
+use Rattle.numbers.specs.declared.Got.the-variants as Got'
 use Rattle.layout.specs.Layout
 use Rattle.layout.specs.Layout.{Layout, RecordL, StructL, LabelDef, toLayout}
 use Rattle.layout.specs.Given.{D, layoutOf}

@@ -4,9 +4,9 @@ use Prim.Native.Nat.{ℕ, suc, _+_, _≤_}
 use mathlib.Core.List.{List, [], _∷_}
 use lib.ListN.{getD, length}
 use Rattle.marks.specs.Marks.{Marks, Only}
-use Rattle.wire.specs.Wire.{le16}
-use Rattle.wire.specs.declared.Got.{Got}
-use Rattle.wire.specs.declared.Got.the-variants.{Value, Refused}
+use Rattle.numbers.specs.Numbers.{le16}
+use Rattle.numbers.specs.declared.Got.{Got}
+use Rattle.numbers.specs.declared.Got.the-variants.{Value, Refused}
 
 -- no mark is left where all was accepted
 abbrev pub Cleared : Got → List ℕ → Type 0

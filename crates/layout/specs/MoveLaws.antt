@@ -9,7 +9,7 @@ use lib.ListN.{length, replicate, length-append, length-replicate}
 use Rattle.codec.specs.Codec.{ok, Bytes, Codec, padded, num, _then_, named, sized, times, timesPrint, timesLocate, timesLegal, timesBare, distinct, counted}
 use Rattle.wire.specs.Formats.{Name, name}
 use Rattle.wire.specs.FormatLaws.{section-bare, section-locate, section-size, section-legal, name-bare, name-locate, name-size}
-use Rattle.wire.specs.Out.{allRows}
+use Rattle.table.specs.Out.{allRows}
 use Rattle.layout.specs.Layout.{Entry, Fields, RecordL, StructL, Label, LabelDef, Layout, entry, fields, recordBody, recordL, structBody, structL, label, labelBody, labelDef, parts, groups, readLayout, locateLayout, LegalLayout, bareLayout, FitsLayout}
 use Rattle.layout.specs.LayoutLaws.{print-parse, swap-legal}
 use Rattle.layout.specs.Rows.{entryRow, nameRow, fieldRows, recordRows, structRows, labelRow, labelDefRows, rows}

@@ -3,22 +3,17 @@
 -- Assumes nothing.
 use Prim.Native.Nat.{ℕ, _+_}
 use mathlib.Core.List.{List, [], _∷_, _++_, map}
-use lib.ListN.{getD}
 use lib.Dec.{eqb}
 use Rattle.codec.specs.Codec.{timesParse, distinctParse}
 use Rattle.text.specs.Utf8.{utf8}
-use Rattle.wire.specs.Pick.{pick}
-use Rattle.wire.specs.Wire.{name, u16At}
-use Rattle.wire.specs.Out.{Out, said, onGot, allRows}
+use Rattle.numbers.specs.Pick.{pick}
+use Rattle.wire.specs.Wire.{name}
+use Rattle.numbers.specs.Numbers.{u16At}
+use Rattle.table.specs.Out.{Out, said, onGot, allRows}
 use Rattle.layout.specs.Layout
 use Rattle.layout.specs.Layout.{toRecord, toStruct, toLabelDef}
 use Rattle.layout.specs.Given.{D, entry, fields, label, recordL, structL, labelDef}
 use Rattle.layout.specs.Rows.{entryRow, nameRow, fieldRows, recordRows, structRows, labelRow, labelDefRows}
-
--- the first eleven bytes of an entry
-abbrev pub entryBytes : List ℕ → ℕ → List ℕ
-entryBytes s at =
-    getD s at 0 ∷ getD s (at + 1) 0 ∷ getD s (at + 2) 0 ∷ getD s (at + 3) 0 ∷ getD s (at + 4) 0 ∷ getD s (at + 5) 0 ∷ getD s (at + 6) 0 ∷ getD s (at + 7) 0 ∷ getD s (at + 8) 0 ∷ getD s (at + 9) 0 ∷ getD s (at + 10) 0 ∷ []
 
 unfoldable pub entriesAt : ℕ → ℕ → List ℕ → ℕ → Out
 entriesAt base n s at = said (map entryRow) (timesParse entry n base s at)

@@ -16,22 +16,23 @@ use Rattle.codec.specs.Laws.{bind-ok, length-bare}
 use Rattle.codec.specs.Steps.{raw-got, raw-bad, times-length}
 use Rattle.codec.specs.Cases.{by-bool, by-le}
 use Rattle.text.specs.Utf8.{utf8}
-use Rattle.wire.specs.Pick.{pick}
+use Rattle.numbers.specs.Pick.{pick}
 use Rattle.wire.specs.Formats.{Name, section}
 use Rattle.wire.specs.FormatLaws.{law-name}
-use Rattle.wire.specs.Wire.{numAt, u16At, name, nameAt, sectionAt, part, le16}
-use Rattle.wire.specs.WireLaws.{numOf, num-is, num-value, u16-value}
+use Rattle.numbers.specs.Numbers.{numAt, u16At, part, le16}
+use Rattle.wire.specs.Wire.{name, nameAt, sectionAt}
+use Rattle.numbers.specs.NumberLaws.{numOf, num-is, num-value, u16-value}
 use Rattle.wire.specs.NameLaws.{nameOf, name-is, name-place}
 use Rattle.wire.specs.SectionLaws.{section-got, section-bad, section-of}
-use Rattle.wire.specs.declared.Got.{Got}
-use Rattle.wire.specs.declared.Got.the-variants.{Value, Refused}
+use Rattle.numbers.specs.declared.Got.{Got}
+use Rattle.numbers.specs.declared.Got.the-variants.{Value, Refused}
 use Rattle.layout.specs.Layout
 use Rattle.layout.specs.Layout.{Entry, Fields, RecordL, StructL, LabelDef, Layout, Parts, toRecord, toStruct, toLayout}
 use Rattle.layout.specs.LayoutLaws.{law-entry, law-labelDef}
 use Rattle.layout.specs.Given.{D, D-least, entry, fields, recordL, structL, labelDef, layoutOf}
-use Rattle.layout.specs.Reader.{entryBytes}
+use Rattle.entry.specs.Entry.{entryBytes}
 use Rattle.layout.specs.Rows.{recordRows, structRows, labelDefRows, rows}
-use Rattle.wire.specs.Out.{allRows}
+use Rattle.table.specs.Out.{allRows}
 
 -- the first eleven bytes of n entries from a on
 unfoldable pub headsAt : List ℕ → ℕ → ℕ → List (List ℕ)

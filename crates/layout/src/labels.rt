@@ -1,11 +1,11 @@
 // Labels whose codes differ.
 use super::rows;
-use wire::Got;
+use numbers::Got;
 ghost use mathlib.Core.Path.{_≡_};
 ghost use mathlib.Core.List.{[]};
 ghost use Prim.Native.Nat.{_<_};
 ghost use Rattle.marks.specs.Marks.{Marks};
-ghost use Rattle.wire.specs.Out.{Room, Ran};
+ghost use Rattle.table.specs.Out.{Room, Ran};
 ghost use Rattle.layout.specs.Reader.{labelsAt};
 ghost use Rattle.layout.specs.Labels.{Cleared, Codes};
 
@@ -28,7 +28,7 @@ pub(crate) fn labels(
     let mut p = at;
     let mut k = n;
     while 0 < todo {
-        match wire::u16_at(s, p, refusal::LAYOUT_TRUNCATED) {
+        match numbers::u16_at(s, p, refusal::LAYOUT_TRUNCATED) {
             Got::Value { value: x, next: q } => match wire::name_at(s, q) {
                 Got::Value { value: l, next: e } => {
                     if marks::is_marked(marks, x as u16) {
@@ -36,7 +36,7 @@ pub(crate) fn labels(
                     }
                     marks::mark(marks, x as u16);
                     let row = rows::label_row(base + (q + 1), l, x);
-                    wire::put_row(table, k, &row);
+                    table::put_row(table, k, &row);
                     k += 1;
                     p = e;
                     todo -= 1;

@@ -4,13 +4,10 @@ mod members;
 mod rows;
 mod sections;
 
-use wire::Got;
+use numbers::Got;
 ghost use mathlib.Core.Path.{_≡_};
-ghost use Prim.Native.Nat.{_+_};
-ghost use lib.ListN.{getD};
 ghost use Rattle.layout.specs.Given.{layoutOf};
 ghost use Rattle.layout.specs.Answers.{Answers, verdict};
-ghost use Rattle.layout.specs.Reader.{entryBytes};
 
 // The bytes of a field entry on the wire, FIELD_DEF_LEN; the first eleven are read.
 pub const D: usize = 16;
@@ -36,7 +33,7 @@ pub fn layout_verdict(layout: &[u8]) -> Verdict
     if layout.len() > 4294967295 {
         return Verdict::Refused(refusal::SIZE);
     }
-    match wire::u16_at(layout, 0, refusal::LAYOUT_TRUNCATED) {
+    match numbers::u16_at(layout, 0, refusal::LAYOUT_TRUNCATED) {
         Got::Value {
             value: version,
             next,
@@ -69,33 +66,4 @@ pub fn read_layout_rows(layout: &[u8], table: &mut [u32]) -> Answer
         }
         Verdict::Refused(why) => Answer::Refused(why),
     }
-}
-
-// The first eleven bytes of the entry at `at`, 0 for each byte past the end.
-pub fn entry_bytes(s: &[u8], at: usize) -> [u8; 11]
-    ensures { λ r. ⌜ r ≡ entryBytes (now (s .entry)) at ⌝ }
-{
-    if 11 <= wire::left(s, at) {
-        return members::eleven(s, at);
-    }
-    [
-        byte(s, at, 0),
-        byte(s, at, 1),
-        byte(s, at, 2),
-        byte(s, at, 3),
-        byte(s, at, 4),
-        byte(s, at, 5),
-        byte(s, at, 6),
-        byte(s, at, 7),
-        byte(s, at, 8),
-        byte(s, at, 9),
-        byte(s, at, 10),
-    ]
-}
-
-// Byte j from `at` on, 0 past the end.
-fn byte(s: &[u8], at: usize, j: usize) -> u8
-    ensures { λ r. ⌜ r ≡ getD (now (s .entry)) (at + j) 0 ⌝ }
-{
-    if j < wire::left(s, at) { s[at + j] } else { 0 }
 }

@@ -1,17 +1,15 @@
 // The fields of a record or a struct: entries, then one name each.
 use super::rows;
-use wire::Got;
+use numbers::Got;
 ghost use mathlib.Core.Path.{_≡_};
-ghost use Prim.Native.Nat.{_+_, _≤_};
-ghost use lib.ListN.{length};
-ghost use Rattle.wire.specs.Out.{Room, Ran};
-ghost use Rattle.layout.specs.Reader.{entryBytes, entriesAt, namesAt, fieldsAt};
+ghost use Rattle.table.specs.Out.{Room, Ran};
+ghost use Rattle.layout.specs.Reader.{entriesAt, namesAt, fieldsAt};
 
 pub(crate) fn fields(s: &[u8], at: usize, base: usize, table: &mut [u32], n: usize) -> Got
     requires { ⌜ Room base (now s) at n ⌝ }
     ensures { λ r. ⌜ Ran 9 base (now (s .entry)) (fieldsAt base (now (s .entry)) at) n (now (table .entry)) (now (table .exit)) r ⌝ }
 {
-    match wire::u16_at(s, at, refusal::LAYOUT_TRUNCATED) {
+    match numbers::u16_at(s, at, refusal::LAYOUT_TRUNCATED) {
         Got::Value { value, next } => match entries(s, next, value, base, table, n) {
             Got::Value { value: m, next: p } => names(s, p, value, base, table, m),
             Got::Refused(why) => Got::Refused(why),
@@ -28,11 +26,11 @@ fn entries(s: &[u8], at: usize, count: usize, base: usize, table: &mut [u32], n:
     let mut p = at;
     let mut k = n;
     while 0 < todo {
-        match wire::take(s, p, super::D, refusal::LAYOUT_TRUNCATED) {
+        match numbers::take(s, p, super::D, refusal::LAYOUT_TRUNCATED) {
             Got::Value { value: _, next } => {
-                let b = eleven(s, p);
+                let b = entry::entry_bytes(s, p);
                 let row = rows::entry_row(b);
-                wire::put_row(table, k, &row);
+                table::put_row(table, k, &row);
                 k += 1;
                 p = next;
                 todo -= 1;
@@ -54,7 +52,7 @@ fn names(s: &[u8], at: usize, count: usize, base: usize, table: &mut [u32], n: u
         match wire::name_at(s, p) {
             Got::Value { value, next } => {
                 let row = rows::name_row(base + (p + 1), value);
-                wire::put_row(table, k, &row);
+                table::put_row(table, k, &row);
                 k += 1;
                 p = next;
                 todo -= 1;
@@ -63,24 +61,4 @@ fn names(s: &[u8], at: usize, count: usize, base: usize, table: &mut [u32], n: u
         }
     }
     Got::Value { value: k, next: p }
-}
-
-// The first eleven bytes of the entry at `at`, which are there.
-pub(crate) fn eleven(s: &[u8], at: usize) -> [u8; 11]
-    requires { ⌜ at + 11 ≤ length (now s) ⌝ }
-    ensures { λ r. ⌜ r ≡ entryBytes (now (s .entry)) at ⌝ }
-{
-    [
-        s[at],
-        s[at + 1],
-        s[at + 2],
-        s[at + 3],
-        s[at + 4],
-        s[at + 5],
-        s[at + 6],
-        s[at + 7],
-        s[at + 8],
-        s[at + 9],
-        s[at + 10],
-    ]
 }

@@ -2,7 +2,7 @@
 ghost use mathlib.Core.Path.{_≡_};
 ghost use Prim.Native.Nat.{_+_, _*_, _≤_, _<_, _^_};
 ghost use lib.ListN.{length};
-ghost use Rattle.wire.specs.Wire.{le16, le32, le64};
+ghost use Rattle.numbers.specs.Numbers.{le16, le32, le64};
 ghost use Rattle.layout.specs.Rows.{headRow, row10, row12, row13, row14, row15};
 
 pub(crate) fn record_row(s: &[u8], start: usize, len: usize, count: usize) -> [u32; 9]

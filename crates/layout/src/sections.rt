@@ -2,11 +2,11 @@
 use super::labels;
 use super::members;
 use super::rows;
-use wire::Got;
+use numbers::Got;
 ghost use mathlib.Core.Path.{_≡_};
 ghost use mathlib.Core.List.{[]};
 ghost use Rattle.marks.specs.Marks.{Marks};
-ghost use Rattle.wire.specs.Out.{Room, Ran};
+ghost use Rattle.table.specs.Out.{Room, Ran};
 ghost use Rattle.layout.specs.Reader.{recordBody, structBody, labelBody, bodyOf, sectionsAt, groupAt, groupsAt};
 ghost use Rattle.layout.specs.Labels.{Cleared};
 
@@ -37,7 +37,7 @@ fn group(
     ensures { λ r. ⌜ Ran 9 0 (now (s .entry)) (groupAt kind (now (s .entry)) at) n (now (table .entry)) (now (table .exit)) r ⌝ }
     ensures { λ r. ⌜ Cleared r (now (marks .exit)) ⌝ }
 {
-    match wire::u16_at(s, at, refusal::LAYOUT_TRUNCATED) {
+    match numbers::u16_at(s, at, refusal::LAYOUT_TRUNCATED) {
         Got::Value { value, next } => sections(kind, s, next, value, table, n, marks),
         Got::Refused(why) => Got::Refused(why),
     }
@@ -107,18 +107,18 @@ fn record_body(s: &[u8], base: usize, table: &mut [u32], n: usize) -> Got
     requires { ⌜ Room base (now s) 0 n ⌝ }
     ensures { λ r. ⌜ Ran 9 base (now (s .entry)) (recordBody base (now (s .entry))) n (now (table .entry)) (now (table .exit)) r ⌝ }
 {
-    match wire::take(s, 0, 14, refusal::LAYOUT_TRUNCATED) {
+    match numbers::take(s, 0, 14, refusal::LAYOUT_TRUNCATED) {
         Got::Value { value: _, next: p } => match wire::name_at(s, p) {
             Got::Value {
                 value: len,
                 next: q,
-            } => match wire::u16_at(s, q, refusal::LAYOUT_TRUNCATED) {
+            } => match numbers::u16_at(s, q, refusal::LAYOUT_TRUNCATED) {
                 Got::Value {
                     value: count,
                     next: _,
                 } => {
                     let row = rows::record_row(s, base + (p + 1), len, count);
-                    wire::put_row(table, n, &row);
+                    table::put_row(table, n, &row);
                     members::fields(s, q, base, table, n + 1)
                 }
                 Got::Refused(why) => Got::Refused(why),
@@ -134,7 +134,7 @@ fn struct_body(s: &[u8], base: usize, table: &mut [u32], n: usize) -> Got
     requires { ⌜ Room base (now s) 0 n ⌝ }
     ensures { λ r. ⌜ Ran 9 base (now (s .entry)) (structBody base (now (s .entry))) n (now (table .entry)) (now (table .exit)) r ⌝ }
 {
-    match wire::u16_at(s, 0, refusal::LAYOUT_TRUNCATED) {
+    match numbers::u16_at(s, 0, refusal::LAYOUT_TRUNCATED) {
         Got::Value {
             value: size,
             next: p,
@@ -142,13 +142,13 @@ fn struct_body(s: &[u8], base: usize, table: &mut [u32], n: usize) -> Got
             Got::Value {
                 value: len,
                 next: q,
-            } => match wire::u16_at(s, q, refusal::LAYOUT_TRUNCATED) {
+            } => match numbers::u16_at(s, q, refusal::LAYOUT_TRUNCATED) {
                 Got::Value {
                     value: count,
                     next: _,
                 } => {
                     let row = rows::struct_row(base + (p + 1), len, size, count);
-                    wire::put_row(table, n, &row);
+                    table::put_row(table, n, &row);
                     members::fields(s, q, base, table, n + 1)
                 }
                 Got::Refused(why) => Got::Refused(why),
@@ -170,13 +170,13 @@ fn label_body(s: &[u8], base: usize, table: &mut [u32], n: usize, marks: &mut [u
         Got::Value {
             value: len,
             next: p,
-        } => match wire::u16_at(s, p, refusal::LAYOUT_TRUNCATED) {
+        } => match numbers::u16_at(s, p, refusal::LAYOUT_TRUNCATED) {
             Got::Value {
                 value: count,
                 next: q,
             } => {
                 let row = rows::label_def_row(base + 1, len, count);
-                wire::put_row(table, n, &row);
+                table::put_row(table, n, &row);
                 labels::labels(s, q, count, base, table, n + 1, marks)
             }
             Got::Refused(why) => Got::Refused(why),

@@ -8,7 +8,7 @@ use lib.ListN.{length, length-append, take, drop}
 use lib.Dec.{eqb, leb}
 use borrow.Author.Tests.{leb-true, leb-false, le-leb, lt-leb, ne-eqb}
 use Rattle.text.specs.Plain.{plain, plain-utf8}
-use Rattle.wire.specs.Pick.{pick}
+use Rattle.numbers.specs.Pick.{pick}
 use Rattle.wire.specs.NameLaws.{plain-nul}
 use Rattle.layout.specs.Given.{D}
 use Rattle.rows_check.specs.Tree.{cell, rowCount, after, countOf, namesFrom, nextSec, countKind, kinds, structsFrom, labelsFrom}

@@ -10,7 +10,7 @@ use lib.ListN.{length, take, drop, length-append, length-take, length-drop, leng
 use lib.Dec.{eqb}
 use Rattle.codec.specs.Codec.{Codec, little, timesPrint}
 use Rattle.text.specs.Utf8.{utf8}
-use Rattle.wire.specs.Pick.{pick}
+use Rattle.numbers.specs.Pick.{pick}
 use Rattle.wire.specs.Wire.{name}
 use Rattle.layout.specs.Given.{D, D-least, entry, fields, label, recordL, structL, labelDef}
 use Rattle.layout.specs.Layout

@@ -6,7 +6,7 @@ use mathlib.Core.List.{List, [], _∷_}
 use lib.ListN.{length, take, drop, getD}
 use lib.Dec.{leb, ltb, eqb}
 use Rattle.text.specs.Utf8.{utf8}
-use Rattle.wire.specs.Pick.{pick}
+use Rattle.numbers.specs.Pick.{pick}
 use Rattle.layout.specs.Given.{D, recordL, structL, labelDef}
 use Rattle.wire.specs.Formats.{noNul}
 use Rattle.layout.specs.Layout.{printLayout}

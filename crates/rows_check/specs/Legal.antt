@@ -10,7 +10,7 @@ use lib.Dec.{leb}
 use borrow.Author.Tests.{ne-eqb, leb-true, ltb-true, le-leb}
 use Rattle.codec.specs.Codec.{Bytes, Codec, timesLegal}
 use Rattle.text.specs.Utf8.{utf8}
-use Rattle.wire.specs.Pick.{pick}
+use Rattle.numbers.specs.Pick.{pick}
 use Rattle.wire.specs.Wire.{name}
 use Rattle.layout.specs.Given.{D, entry, fields, label, recordL, structL, labelDef}
 use Rattle.wire.specs.Formats.{noNul}

@@ -6,7 +6,7 @@ use mathlib.Core.Bool.{Bool, true, false}
 use mathlib.Core.List.{List}
 use lib.Dec.{eqb}
 use borrow.Author.Tests.{eqb-true, eqb-false}
-use Rattle.wire.specs.Pick.{pick}
+use Rattle.numbers.specs.Pick.{pick}
 use Rattle.layout.specs.Given.{D}
 use Rattle.rows_check.specs.Tree.{byKind, kinds}
 use Rattle.rows_check.specs.Check.{size, fault}

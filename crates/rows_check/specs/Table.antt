@@ -7,7 +7,7 @@ use mathlib.Core.List.{List, [], _∷_, _++_, map}
 use lib.ListN.{length, take, drop, length-take, length-drop, drop-of-length-le}
 use lib.Seq.{drop-cons}
 use Rattle.layout.specs.Rows.{entryRow, nameRow, fieldRows, recordRows, structRows, labelRow, labelDefRows, rows}
-use Rattle.wire.specs.Out.{flat, allRows}
+use Rattle.table.specs.Out.{flat, allRows}
 use Rattle.rows_check.specs.Tree.{cell, rowCount, from, after, cells, rowsIn, nameOf, entryOf, labelOf, fieldsOf, recordOf, structOf, labelDefOf, countOf, namesFrom, nextSec, skip, kinds, structsFrom, labelsFrom, treeOf}
 use Rattle.rows_check.specs.Check.{rowFits, limitOf, nameKind}
 use Rattle.rows_check.specs.Tests.{number-le, row-span, InPlace, Places, Formed, next-more}

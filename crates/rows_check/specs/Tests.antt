@@ -9,7 +9,7 @@ use mathlib.Core.Logic.{_⊎_, inl, inr, ⊎-elim}
 use lib.ListN.{length}
 use lib.Dec.{eqb}
 use borrow.Author.Tests.{ne-eqb, eqb-true, leb-true}
-use Rattle.wire.specs.Pick.{pick}
+use Rattle.numbers.specs.Pick.{pick}
 use Rattle.rows_check.specs.Tree.{cell, rowCount, countOf, namesFrom, nextSec, skip, kinds, structsFrom, labelsFrom}
 use Rattle.rows_check.specs.Check.{both, every, limitOf, numberFits, spanFits, rowFits, rowTest, passes, nameKind, secOk, walk, inOrder, wellFormed}
 

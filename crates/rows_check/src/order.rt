@@ -5,7 +5,7 @@ ghost use mathlib.Core.Path.{_≡_};
 ghost use Prim.Native.Nat.{_+_, _-_, _*_, _/_, _≤_, _<_};
 ghost use lib.ListN.{length};
 ghost use lib.Dec.{eqb};
-ghost use Rattle.wire.specs.Pick.{pick};
+ghost use Rattle.numbers.specs.Pick.{pick};
 ghost use Rattle.rows_check.specs.Tree.{countKind, rowCount, kinds};
 ghost use Rattle.rows_check.specs.Easy.{Easy};
 ghost use Rattle.rows_check.specs.Check.{every, secOk, walk, inOrder, wellFormed, groupsFit, countsFit, risesAt};

@@ -14,7 +14,7 @@ use Rattle.codec.specs.Codec.{among}
 use Rattle.codec.specs.Cases.{by-bool}
 use Rattle.marks.specs.Marks.{marked, withMark, Marks}
 use Rattle.marks.specs.MarkLaws.{marks-none, marks-more}
-use Rattle.wire.specs.Wire.{le16}
+use Rattle.numbers.specs.Numbers.{le16}
 use Rattle.rules.specs.declared.Place.{Place}
 use Rattle.rules.specs.declared.Item.{Item}
 use Rattle.rules.specs.declared.Next.{Next}

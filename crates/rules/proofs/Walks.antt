@@ -10,9 +10,9 @@ use lib.Seq.{getD-take, getD-drop, drop-drop}
 use lib.Dec.{eqb, lit<, lit≤}
 use borrow.Author.Tests.{eq-eqb, ne-eqb}
 use Rattle.codec.specs.Cases.{by-bool}
-use Rattle.wire.specs.Wire.{le16}
+use Rattle.numbers.specs.Numbers.{le16}
 use Rattle.layout.specs.Given.{D, D-least}
-use Rattle.layout.specs.Reader.{entryBytes}
+use Rattle.entry.specs.Entry.{entryBytes}
 use Rattle.rules.specs.declared.Source.{Source}
 use Rattle.rules.specs.declared.Place.{Place}
 use Rattle.rules.specs.declared.Item.{Item}

@@ -10,7 +10,7 @@ use lib.ListN.{length, getD, take, drop}
 use lib.Seq.{getD-take, getD-drop}
 use lib.Dec.{lit<}
 use Rattle.rules.specs.declared.Source.{Source}
-use Rattle.layout.specs.Reader.{entryBytes}
+use Rattle.entry.specs.Entry.{entryBytes}
 use Rattle.rules.specs.RowRules.{lo, hi, rowHead}
 
 -- the row at a of a table, as an entry's eleven bytes

@@ -10,12 +10,12 @@ use lib.Seq.{take-at, drop-at, take-all}
 use lib.Dec.{eqb, ltb}
 use borrow.Author.Tests.{eq-eqb, ne-eqb, le-ltb}
 use Rattle.codec.specs.Codec.{Bytes}
-use Rattle.wire.specs.Out.{flat, allRows}
+use Rattle.table.specs.Out.{flat, allRows}
 use Rattle.wire.specs.Formats.{Name}
-use Rattle.wire.specs.TableLaws.{Wide, wide-append, wide-map, wide-all}
+use Rattle.table.specs.TableLaws.{Wide, wide-append, wide-map, wide-all}
 use Rattle.layout.specs.Layout.{Entry, Fields, RecordL, StructL, Label, LabelDef, Parts, toLayout}
 use Rattle.layout.specs.Rows.{headRow, entryRow, nameRow, fieldRows, recordRows, structRows, labelRow, labelDefRows, rows}
-use Rattle.layout.specs.Reader.{entryBytes}
+use Rattle.entry.specs.Entry.{entryBytes}
 use Rattle.rules.specs.Rules.{Seq, seqOf, structSeq, recordSeq, seqsFault, rulesOf}
 use Rattle.rules.specs.RowRules.{lo, hi, column, rowsOf, rowHead, rowCount, rowSeq, seqsIn, kindRows, rowsRules}
 use Rattle.layout.specs.Standing.{bytes-11, rows-parts}

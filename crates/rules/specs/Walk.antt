@@ -5,7 +5,7 @@ use mathlib.Core.Path.{_≡_}
 use mathlib.Core.Bool.{Bool, true, false, cond}
 use mathlib.Core.List.{List, [], _∷_}
 use lib.ListN.{length, getD, drop}
-use Rattle.wire.specs.Wire.{le16}
+use Rattle.numbers.specs.Numbers.{le16}
 use Rattle.layout.specs.Given.{D}
 use Rattle.rules.specs.declared.Source.{Source}
 use Rattle.rules.specs.declared.Place.{Place}

@@ -11,7 +11,7 @@ use lib.Seq.{getD-take, getD-drop, drop-drop}
 use lib.Dec.{eqb, ltb, lit<}
 use borrow.Author.Tests.{eq-eqb, ne-eqb, lt-ltb, le-ltb}
 use Rattle.codec.specs.Codec.{Res, ok, refuse, _>>=_, need}
-use Rattle.wire.specs.Wire.{le16}
+use Rattle.numbers.specs.Numbers.{le16}
 use Rattle.layout.specs.Layout.{RecordL, StructL, Layout, fromLayout}
 use Rattle.layout.specs.Given.{D, layoutOf}
 use Rattle.layout.specs.Rows.{rows}

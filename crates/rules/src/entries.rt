@@ -52,7 +52,7 @@ pub(crate) fn entry_at(layout: &[u8], rows: &[u32], src: Source) -> [u8; 11]
     if src.rows {
         return in_rows(rows, at);
     }
-    layout::entry_bytes(layout, at)
+    entry::entry_bytes(layout, at)
 }
 
 // The entries after the first.

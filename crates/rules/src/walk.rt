@@ -7,7 +7,7 @@ ghost use mathlib.Core.Path.{_≡_};
 ghost use mathlib.Core.Bool.{cond};
 ghost use Prim.Native.Nat.{_+_, _*_, _%_, _<_, _≤_, min};
 ghost use lib.ListN.{length, getD};
-ghost use Rattle.wire.specs.Wire.{le16};
+ghost use Rattle.numbers.specs.Numbers.{le16};
 ghost use Rattle.rules.specs.Walk.{sectionItem, rowItem, Lies, Good, Stepped, kindOf};
 ghost use Rattle.rules.specs.RowRules.{column};
 

@@ -1,8 +1,8 @@
 // Reads document 01's layouts P7 and P9 step by step and prints what each step gives: the layout's numbers, its section, and in
 // the section's own part the name and the label.
 use libc::STDOUT_FILENO;
-use wire::Got;
-ghost use Rattle.wire.specs.Wire.{Past};
+use numbers::Got;
+ghost use Rattle.numbers.specs.Numbers.{Past};
 
 fn main() {
     show_layout(b"\x01\x00\x00\x00\x00\x00\x01\x00\x0E\x00\x01S\x00\x01\x00B\x00\x03Bid\x00");

@@ -7,8 +7,8 @@ use mathlib.Core.List.{List, _++_}
 use lib.ListN.{length, drop}
 use lib.Dec.{leb}
 use Rattle.codec.specs.Codec.{Res, ok, refuse}
-use Rattle.wire.specs.Pick.{pick}
-use Rattle.wire.specs.Out.{flat}
+use Rattle.numbers.specs.Pick.{pick}
+use Rattle.table.specs.Out.{flat}
 use Rattle.symbology.specs.Symbology.{Symbology}
 use Rattle.symbology.specs.SymbologyRows.{symbologyRows}
 use Rattle.symbology.specs.declared.Found.{Found}

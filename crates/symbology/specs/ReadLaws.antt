@@ -9,10 +9,10 @@ use borrow.Author.Tests.{le-leb}
 use Rattle.codec.specs.Codec.{Res, ok, refuse, _>>=_, need, isNil}
 use Rattle.text.specs.Utf8.{utf8}
 use Rattle.text.specs.Date.{isDate}
-use Rattle.wire.specs.Pick.{pick}
-use Rattle.wire.specs.Out.{flat, allRows}
-use Rattle.wire.specs.TableLaws.{Wide, wide-append, wide-map, wide-all}
-use Rattle.wire.specs.FlatLaws.{flat-length}
+use Rattle.numbers.specs.Pick.{pick}
+use Rattle.table.specs.Out.{flat, allRows}
+use Rattle.table.specs.TableLaws.{Wide, wide-append, wide-map, wide-all}
+use Rattle.table.specs.FlatLaws.{flat-length}
 use Rattle.symbology.specs.Symbology
 use Rattle.symbology.specs.Symbology.{Symbology}
 use Rattle.symbology.specs.SymbologyRows.{symbologyRows, listRow, mappingRows, intervalRow}

@@ -10,8 +10,8 @@ use lib.Seq.{take-take}
 use Rattle.codec.specs.Codec.{ok, Bytes, Codec, raw, num, _then_, named, checked, placed, asks, limited, timesLocate, timesEach}
 use Rattle.text.specs.Trim.{trimmedLen}
 use Rattle.text.specs.TrimLaws.{trimmed-le}
-use Rattle.wire.specs.Out.{flat, allRows}
-use Rattle.wire.specs.MoveLaws.{map-move, all-move}
+use Rattle.table.specs.Out.{flat, allRows}
+use Rattle.table.specs.MoveLaws.{map-move, all-move}
 use Rattle.symbology.specs.Symbology.{Symbol, Interval, Mapping, Symbology, symbol, date, list, interval, mapping, symbology, followed}
 use Rattle.symbology.specs.SymbologyLaws.{spots}
 use Rattle.symbology.specs.SymbologyRows.{listRow, intervalRow, mappingRows, symbologyRows}

@@ -13,8 +13,9 @@ use Rattle.codec.specs.Codec.{among}
 use Rattle.text.specs.Utf8.{utf8}
 use Rattle.text.specs.Plain.{plain, plain-utf8}
 use Rattle.wire.specs.NameLaws.{plain-nul}
-use Rattle.wire.specs.Wire.{closeAt, textAt, part}
-use Rattle.wire.specs.declared.Got.the-variants.{Value, Refused}
+use Rattle.wire.specs.Wire.{closeAt, textAt}
+use Rattle.numbers.specs.Numbers.{part}
+use Rattle.numbers.specs.declared.Got.the-variants.{Value, Refused}
 
 -- a loop that tests every byte for a NUL; no byte before i is one
 pub record Scan (s : List ℕ) (i : ℕ) : Type 0 where

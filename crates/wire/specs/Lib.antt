@@ -1,15 +1,9 @@
-pub mod Pick
 pub mod Formats
 pub mod FormatLaws
 pub mod Wire
 pub mod WireLaws
 pub mod NameLaws
 pub mod SectionLaws
-pub mod Out
-pub mod OutLaws
-pub mod TableLaws
 pub mod Steps
 pub mod Prints
-pub mod MoveLaws
 pub mod Single
-pub mod FlatLaws

@@ -12,12 +12,13 @@ use Rattle.codec.specs.Steps.{raw-got, raw-bad, byte-got, byte-bad}
 use Rattle.codec.specs.Cases.{by-bool, by-le, by-eqb}
 use Rattle.text.specs.Utf8.{utf8}
 use Rattle.text.specs.Plain.{plain, plain-next}
-use Rattle.wire.specs.Pick.{pick}
+use Rattle.numbers.specs.Pick.{pick}
 use Rattle.wire.specs.Formats
 use Rattle.wire.specs.Formats.{Name, noNul, text}
-use Rattle.wire.specs.Wire.{gotOf, name, nameAt, textAt, closeAt, part}
-use Rattle.wire.specs.declared.Got.{Got}
-use Rattle.wire.specs.declared.Got.the-variants.{Value, Refused}
+use Rattle.numbers.specs.Numbers.{gotOf, part}
+use Rattle.wire.specs.Wire.{name, nameAt, textAt, closeAt}
+use Rattle.numbers.specs.declared.Got.{Got}
+use Rattle.numbers.specs.declared.Got.the-variants.{Value, Refused}
 
 -- a plain text holds no NUL
 pub plain-nul : (t : List ℕ) → plain t ≡ true → among 0 t ≡ false

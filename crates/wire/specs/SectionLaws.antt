@@ -11,10 +11,11 @@ use Rattle.codec.specs.Codec.{Res, ok, refuse, _>>=_, need, Codec, raw, whole, 
 use Rattle.codec.specs.Steps.{raw-got, raw-bad}
 use Rattle.codec.specs.Cases.{by-le}
 use Rattle.wire.specs.Formats.{section}
-use Rattle.wire.specs.Wire.{u16At, bodyAt, gotOn, sectionAt, part}
-use Rattle.wire.specs.WireLaws.{numOf, num-is, u16-value}
-use Rattle.wire.specs.declared.Got.{Got}
-use Rattle.wire.specs.declared.Got.the-variants.{Value, Refused}
+use Rattle.numbers.specs.Numbers.{u16At, gotOn, part}
+use Rattle.wire.specs.Wire.{bodyAt, sectionAt}
+use Rattle.numbers.specs.NumberLaws.{numOf, num-is, u16-value}
+use Rattle.numbers.specs.declared.Got.{Got}
+use Rattle.numbers.specs.declared.Got.the-variants.{Value, Refused}
 
 -- a section and its body
 pub body-ok : (s : List ℕ) (b len : ℕ) → 2 ≤ len → len - 2 ≤ length s - b → Value b (b + (len - 2)) ≡ bodyAt s b len

@@ -6,13 +6,14 @@ use mathlib.Core.List.{List, [], _∷_, _++_, map}
 use lib.ListN.{length, take, drop}
 use Rattle.codec.specs.Codec.{Res, ok, refuse, _>>=_, Codec, num, named, timesParse}
 use Rattle.wire.specs.Formats.{Name, section}
-use Rattle.wire.specs.Wire.{name, numAt, nameAt, sectionAt, part}
-use Rattle.wire.specs.WireLaws.{numOf, num-is}
+use Rattle.wire.specs.Wire.{name, nameAt, sectionAt}
+use Rattle.numbers.specs.Numbers.{numAt, part}
+use Rattle.numbers.specs.NumberLaws.{numOf, num-is}
 use Rattle.wire.specs.NameLaws.{nameOf, name-is, name-length}
 use Rattle.wire.specs.SectionLaws.{section-got, section-bad}
-use Rattle.wire.specs.Out.{Out, allRows, said, row, seq, onGot}
-use Rattle.wire.specs.declared.Got.{Got}
-use Rattle.wire.specs.declared.Got.the-variants.{Value, Refused}
+use Rattle.table.specs.Out.{Out, allRows, said, row, seq, onGot}
+use Rattle.numbers.specs.declared.Got.{Got}
+use Rattle.numbers.specs.declared.Got.the-variants.{Value, Refused}
 
 -- ---- n items, row by row
 

@@ -1,34 +1,17 @@
--- What reading at a place of a slice answers: numbers, names and sections, from their formats.
+-- What reading a name or a section at a place of a slice answers, from their formats.
 -- Assumes nothing.
-use Prim.Native.Nat.{ℕ, _+_, _-_, _*_, _≤_, _<_}
-use mathlib.Core.Bool.{Bool}
+use Prim.Native.Nat.{ℕ, _+_, _-_, _≤_}
 use mathlib.Core.List.{List}
-use lib.ListN.{length, getD, take, drop}
+use lib.ListN.{length, getD}
 use lib.Dec.{leb, eqb}
-use Rattle.codec.specs.Codec.{Res, ok, refuse, Codec, raw, num, among}
+use Rattle.codec.specs.Codec.{Codec, among}
 use Rattle.text.specs.Utf8.{utf8}
-use Rattle.wire.specs.Pick.{pick}
+use Rattle.numbers.specs.Pick.{pick}
+use Rattle.numbers.specs.Numbers.{gotOf, u16At, has, part, gotOn}
 use Rattle.wire.specs.Formats
 use Rattle.wire.specs.Formats.{Name}
-use Rattle.wire.specs.declared.Got.{Got}
-use Rattle.wire.specs.declared.Got.the-variants.{Value, Refused}
-
--- a number of what was read, and the place after it
-abbrev pub gotOf : {A : Type 0} → (A → ℕ) → Res A → Got
-gotOf f (ok x p) = Value (f x) p
-gotOf f (refuse k) = Refused k
-
--- n bytes; why where they run past the end
-unfoldable pub takeAt : ℕ → ℕ → List ℕ → ℕ → Got
-takeAt why n s at = gotOf (λ _. n) (raw why n .parse 0 s at)
-
--- a little-endian number of w bytes; why where they run past the end
-unfoldable pub numAt : ℕ → ℕ → List ℕ → ℕ → Got
-numAt why w s at = gotOf (λ v. v) (num why w .parse 0 s at)
-
--- a u16 of a layout
-abbrev pub u16At : List ℕ → ℕ → Got
-u16At s at = numAt 50 2 s at
+use Rattle.numbers.specs.declared.Got.{Got}
+use Rattle.numbers.specs.declared.Got.the-variants.{Value, Refused}
 
 -- a name with the text crate's UTF-8
 abbrev pub name : Codec Name
@@ -37,14 +20,6 @@ name = Formats.name utf8
 -- the length of a name's text
 unfoldable pub nameAt : List ℕ → ℕ → Got
 nameAt s at = gotOf (λ n. length (n .text)) (name .parse 0 s at)
-
--- n bytes are left at `at`
-abbrev pub has : List ℕ → ℕ → ℕ → Bool
-has s at n = leb n (length s - at)
-
--- the bytes from b up to e
-abbrev pub part : List ℕ → ℕ → ℕ → List ℕ
-part s b e = take (e - b) (drop b s)
 
 -- the byte that closes a name
 unfoldable pub closeAt : List ℕ → ℕ → ℕ → Got
@@ -64,29 +39,10 @@ unfoldable pub bodyAt : List ℕ → ℕ → ℕ → Got
 bodyAt s b len =
     pick (leb 2 len) (pick (has s b (len - 2)) (Value b (b + (len - 2))) (Refused 50)) (Refused 51)
 
-abbrev pub gotOn : Got → (ℕ → ℕ → Got) → Got
-gotOn (Value v p) f = f v p
-gotOn (Refused k) f = Refused k
-
 unfoldable pub sectionAt : List ℕ → ℕ → Got
 sectionAt s at = gotOn (u16At s at) λ len p. bodyAt s p len
-
--- a number that was read past `at`: at least m bytes, within the section, and the number is below b
-pub data Past (b m : ℕ) (s : List ℕ) (at : ℕ) : Got → Type 0 where
-  past : {v p : ℕ} → at + m ≤ p → p ≤ length s → v < b → Past b m s at (Value v p)
-  refused : {k : ℕ} → Past b m s at (Refused k)
 
 -- a part of s from `at` on
 pub data Lies (s : List ℕ) (at : ℕ) : Got → Type 0 where
   lies : {b e : ℕ} → at ≤ b → b ≤ e → e ≤ length s → Lies s at (Value b e)
   outside : {k : ℕ} → Lies s at (Refused k)
-
--- little-endian numbers, 0 for a byte past the end
-abbrev pub le16 : List ℕ → ℕ → ℕ
-le16 b i = getD b i 0 + 256 * getD b (i + 1) 0
-
-abbrev pub le32 : List ℕ → ℕ → ℕ
-le32 b i = le16 b i + 65536 * le16 b (i + 2)
-
-abbrev pub le64 : List ℕ → ℕ → ℕ
-le64 b i = le32 b i + 4294967296 * le32 b (i + 4)

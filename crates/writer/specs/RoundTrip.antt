@@ -10,7 +10,7 @@ use lib.Dec.{leb, eqb}
 use borrow.Author.Tests.{eqb-true, leb-true, le-leb}
 use Rattle.codec.specs.Codec.{ok, Bytes}
 use Rattle.text.specs.Utf8.{utf8}
-use Rattle.wire.specs.Pick.{pick}
+use Rattle.numbers.specs.Pick.{pick}
 use Rattle.layout.specs.Layout.{Layout, fromLayout, locateLayout}
 use Rattle.layout.specs.Given.{D}
 use Rattle.layout.specs.Rows.{rows}

@@ -5,7 +5,7 @@ use mathlib.Core.Path.{_≡_}
 use mathlib.Core.List.{List, _++_}
 use lib.ListN.{length, drop}
 use lib.Dec.{leb, eqb}
-use Rattle.wire.specs.Pick.{pick}
+use Rattle.numbers.specs.Pick.{pick}
 use Rattle.rules.specs.RowRules.{rowsRules}
 use Rattle.rows_check.specs.Check.{fault, printed}
 use Rattle.rows_check.specs.Tree.{skip}

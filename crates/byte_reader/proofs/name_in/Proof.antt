@@ -35,9 +35,10 @@ use denote.Triple.Table.{entered, cited}
 use denote.Triple.Walked.{says, Stays, stay-none, stay-none-slice, walkOf, goes-none, goes-none-slice, Walks, ends-at, walked, walk-meets}
 use denote.Triple.Clauses.{ensured, lasts}
 use denote.Exit.{yes}
-use Rattle.wire.specs.Wire.{nameAt, Past}
-use Rattle.wire.specs.declared.Got.{Got}
-use Rattle.wire.proofs.Got as S
+use Rattle.wire.specs.Wire.{nameAt}
+use Rattle.numbers.specs.Numbers.{Past}
+use Rattle.numbers.specs.declared.Got.{Got}
+use Rattle.numbers.proofs.Got as S
 use Rattle.byte_reader.specs.Reader.{Stepped}
 use Rattle.byte_reader.specs.declared.ByteReader.{ByteReader}
 use Rattle.byte_reader.proofs.Held.{slice, Own, Slice, made, got-typed}

@@ -1,6 +1,6 @@
 use native.Mathlib.Omega.{arith}
 use mathlib.Core.Path.{sym, _∙_}
-use Rattle.wire.specs.WireLaws.{past-at}
+use Rattle.numbers.specs.NumberLaws.{past-at}
 use Rattle.layout.proofs.Public.{ver-no, ver-ok, ver-bad, layout-13, layout-no}
 use borrow.Author.Needs.{needs}
 use Rattle.layout.proofs.layout_verdict.Statement.{statement}

@@ -2,7 +2,7 @@
 -- Assumes nothing.
 use native.Mathlib.Omega.{arith}
 use borrow.Author.Needs.{needs}
-use Rattle.wire.specs.WireLaws.{past-at}
+use Rattle.numbers.specs.NumberLaws.{past-at}
 use Rattle.show_reader.proofs.show_text.Statement.{statement}
 use Rattle.show_reader.proofs.show_text.Tie as tie
 

@@ -1,6 +1,6 @@
-use Rattle.wire.specs.Wire.{refused}
+use Rattle.numbers.specs.Numbers.{refused}
 use native.Mathlib.Omega.{arith}
-use Rattle.wire.specs.WireLaws.{past-mk}
+use Rattle.numbers.specs.NumberLaws.{past-mk}
 use Rattle.wire.proofs.Scan.{close-ok, close-54, close-50}
 use borrow.Author.Needs.{needs}
 use Rattle.wire.proofs.close_at.Statement.{statement}

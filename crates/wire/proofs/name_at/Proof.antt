@@ -1,7 +1,7 @@
 use native.Mathlib.Omega.{arith}
 use mathlib.Core.Path.{_∙_}
-use Rattle.wire.specs.Wire.{refused}
-use Rattle.wire.specs.WireLaws.{past-back}
+use Rattle.numbers.specs.Numbers.{refused}
+use Rattle.numbers.specs.NumberLaws.{past-back}
 use Rattle.wire.specs.NameLaws.{name-50, name-text}
 use borrow.Author.Needs.{needs}
 use Rattle.wire.proofs.name_at.Statement.{statement}

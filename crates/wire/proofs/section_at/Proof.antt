@@ -1,5 +1,6 @@
 use mathlib.Core.Path.{sym, _∙_}
-use Rattle.wire.specs.WireLaws.{lies-back, past-at}
+use Rattle.wire.specs.WireLaws.{lies-back}
+use Rattle.numbers.specs.NumberLaws.{past-at}
 use Rattle.wire.specs.SectionLaws.{section-ok, section-no}
 use Rattle.wire.specs.Wire.{outside}
 use borrow.Author.Needs.{needs}

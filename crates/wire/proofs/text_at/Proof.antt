@@ -2,8 +2,8 @@
 -- Assumes nothing.
 use native.Mathlib.Omega.{arith}
 use mathlib.Core.Path.{sym, _∙_}
-use Rattle.wire.specs.Wire.{refused}
-use Rattle.wire.specs.WireLaws.{past-back}
+use Rattle.numbers.specs.Numbers.{refused}
+use Rattle.numbers.specs.NumberLaws.{past-back}
 use Rattle.wire.proofs.Scan.{text-50, text-52, text-53, text-ok, text-plain}
 use borrow.Author.Needs.{needs}
 use Rattle.wire.proofs.text_at.Statement.{statement}

@@ -36,9 +36,10 @@ use denote.Triple.Spec.{Meets, tripleOf}
 use denote.Triple.Table.{entered, cited}
 use denote.Triple.Walked.{says, Stays, stay-ref, walkOf, goes-ref, Walks, ends-at, walked, walk-meets}
 use denote.Triple.Clauses.{ensured, lasts}
-use Rattle.wire.specs.Wire.{nameAt, Past}
-use Rattle.wire.specs.declared.Got.{Got}
-use Rattle.wire.proofs.Got as S
+use Rattle.wire.specs.Wire.{nameAt}
+use Rattle.numbers.specs.Numbers.{Past}
+use Rattle.numbers.specs.declared.Got.{Got}
+use Rattle.numbers.proofs.Got as S
 use Rattle.wire.proofs.name_at as read
 use Rattle.wire.proofs.name_at.Symbol as read-def
 use Rattle.wire.proofs.name_at.Symbol.{name as #wire·name-at}

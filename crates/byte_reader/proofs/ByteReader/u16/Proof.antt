@@ -1,4 +1,4 @@
--- `ByteReader::u16` meets its contract: a walk of its MIR, by hand. The borrow is opened, which gives the reader's cell and what the reader owns; `wire::u16_at` is called on a copy of its slice and its place; the place that `place_after` gives is stored; and the borrow is closed at the reader there.
+-- `ByteReader::u16` meets its contract: a walk of its MIR, by hand. The borrow is opened, which gives the reader's cell and what the reader owns; `numbers::u16_at` is called on a copy of its slice and its place; the place that `place_after` gives is stored; and the borrow is closed at the reader there.
 -- All that the proof knows of the two callees is that each meets its contract.
 -- Assumes nothing.
 use mathlib.Core.Path.{_≡_, refl, ap}
@@ -37,13 +37,13 @@ use denote.Triple.Table.{entered, cited}
 use denote.Triple.Walked.{says, Stays, stay-ref, stay-none, walkOf, goes-none, goes-ref, Walks, ends-at, walked, walk-meets}
 use denote.Triple.Clauses.{ensured, lasts}
 use denote.Exit.{yes}
-use Rattle.wire.specs.Wire.{numAt, Past}
-use Rattle.wire.specs.declared.Got.{Got}
-use Rattle.wire.proofs.Got as S
-use Rattle.wire.proofs.u16_at as read
-use Rattle.wire.proofs.u16_at.Symbol as read-def
-use Rattle.wire.proofs.u16_at.Symbol.{name as #wire·u16-at}
-use Rattle.wire.proofs.u16_at.Met as read-thm
+use Rattle.numbers.specs.Numbers.{numAt, Past}
+use Rattle.numbers.specs.declared.Got.{Got}
+use Rattle.numbers.proofs.Got as S
+use Rattle.numbers.proofs.u16_at as read
+use Rattle.numbers.proofs.u16_at.Symbol as read-def
+use Rattle.numbers.proofs.u16_at.Symbol.{name as #numbers·u16-at}
+use Rattle.numbers.proofs.u16_at.Met as read-thm
 use Rattle.byte_reader.specs.Reader.{after}
 use Rattle.byte_reader.specs.declared.ByteReader.{ByteReader}
 use Rattle.byte_reader.proofs.Held.{B, behind, slice, placed, Own, Slice, slice-out, got-makes, got-typed, Place, opens-reader, closes-reader, calls-place}
@@ -103,7 +103,7 @@ module _ {M : Type 1} (𝓤 : URA M) (H : Heap 𝓤) (A : Atoms 𝓤) (W : Given
       frame ! $ feqI ! (List Val) (vptr b o ∷ []) (vptr b o ∷ []) refl $ fjoin3 ! $ nothing ! $ owned ! u32 (Is u32) (uint-makes 𝓤 H A W w32) why _ (refl, why-fits) $ fjoin ! $ move ! (1 ∷ 0 ∷ []) $ fjoin ! $
       owned ! S.the-row (Is S.the-row) (got-makes 𝓤 H A) r (u ∷ []) is $ move ! (1 ∷ 0 ∷ []) $ done !
 
-  module _ (C : Calls 𝓤 H) (Λ : Loops 𝓤 H) (fm : FmC 𝓤 H (W .laws) C) (known-read : Triple 𝓤 (C #wire·u16-at) (Read 𝓤 H A at-mem run)) (known-place : Triple 𝓤 (C #byte-reader·place-after) (Place 𝓤 H A at-mem run)) where
+  module _ (C : Calls 𝓤 H) (Λ : Loops 𝓤 H) (fm : FmC 𝓤 H (W .laws) C) (known-read : Triple 𝓤 (C #numbers·u16-at) (Read 𝓤 H A at-mem run)) (known-place : Triple 𝓤 (C #byte-reader·place-after) (Place 𝓤 H A at-mem run)) where
     walk : ent 𝓤 (onEntry 𝓤 H A u16.signature (κ, (κ′, tt)) (q, (q′, tt)) x at) (WpFn 𝓤 H C Λ code.function (vptr b o ∷ vint w32 why ∷ []) Post)
     walk =
         qed W ((‵ (flft κ q) ⊛ ‵ (flft κ′ q′) ⊛ ‵ ftrue) ∷ ‵ (owns (MutRef (named 0) κ (B κ′) ∷ u32 ∷ []) x at) ∷ []) ∵ enter ! C Λ code.function (vptr b o ∷ vint w32 why ∷ []) _ $
@@ -137,13 +137,13 @@ module _ {M : Type 1} (𝓤 : URA M) (H : Heap 𝓤) (A : Atoms 𝓤) (W : Given
         keep ! (0 ∷ 1 ∷ 2 ∷ 5 ∷ []) $ by ! (exits r u p is e f))))))))))))))
 
 module _ {M : Type 1} (𝓤 : URA M) (H : Heap 𝓤) (A : Atoms 𝓤) (W : Given 𝓤 H A) (mem : Memory → SProp 𝓤) (run : Routine → Fun 𝓤) where
-  u16-walks : (C : Calls 𝓤 H) (Λ : Loops 𝓤 H) → FmC 𝓤 H (W .laws) C → Triple 𝓤 (C #wire·u16-at) (Read 𝓤 H A mem run) → Triple 𝓤 (C #byte-reader·place-after) (Place 𝓤 H A mem run)
+  u16-walks : (C : Calls 𝓤 H) (Λ : Loops 𝓤 H) → FmC 𝓤 H (W .laws) C → Triple 𝓤 (C #numbers·u16-at) (Read 𝓤 H A mem run) → Triple 𝓤 (C #byte-reader·place-after) (Place 𝓤 H A mem run)
       → Walks 𝓤 H A u16.ended stayed (WpFn 𝓤 H C Λ code.function) (u16.clauses 𝓤 H A mem run)
   u16-walks C Λ fm known-read known-place = walked 𝓤 H A u16.ended stayed (u16.clauses 𝓤 H A mem run) (WpFn 𝓤 H C Λ code.function) (λ κs. (ptr-vals, (uint-vals w32, tt))) (λ κs. (mut-tells (named 0) (κs .0) (B (κs .1 .0)), (uint-tells w32, tt)))
       (λ κs qs bounds a _ are. via 𝓤 _ (fst∗ 𝓤 _ (emp 𝓤)) (walk 𝓤 H A W mem run (κs .0) (κs .1 .0) (qs .0) (qs .1 .0) bounds (a .0 .ptr .0) (a .0 .ptr .1) (a .0 .name) (a .0 .now) (a .1 .0) (are .1 .0 .1) C Λ fm known-read known-place))
 
 u16-meets : {M : Type 1} (𝓤 : URA M) (H : Heap 𝓤) (A : Atoms 𝓤) (W : Given 𝓤 H A) (mem : Memory → SProp 𝓤) (run : Routine → Fun 𝓤) (𝓣 : Tables 𝓤 H)
-    → Triple 𝓤 (𝓣 .C #wire·u16-at) (Read 𝓤 H A mem run) → Triple 𝓤 (𝓣 .C #byte-reader·place-after) (Place 𝓤 H A mem run)
+    → Triple 𝓤 (𝓣 .C #numbers·u16-at) (Read 𝓤 H A mem run) → Triple 𝓤 (𝓣 .C #byte-reader·place-after) (Place 𝓤 H A mem run)
     → Meets 𝓤 H A u16.signature (WpFn 𝓤 H (𝓣 .C) (𝓣 .Λ) code.function) (u16.spec 𝓤 H A mem run)
 u16-meets 𝓤 H A W mem run 𝓣 known-read known-place = walk-meets 𝓤 H A u16.ended stayed W (goes-ref 𝓤 H A W 2 0 tt behind, (goes-none 𝓤 H A W 2 (λ _. u32) yes (λ κs x f. refl), tt)) (u16.clauses 𝓤 H A mem run) (WpFn 𝓤 H (𝓣 .C) (𝓣 .Λ) code.function) (WpFn-mono 𝓤 H (W .laws) 𝓣 code.function)
     (u16-walks 𝓤 H A W mem run (𝓣 .C) (𝓣 .Λ) (fmOf 𝓤 H (W .laws) 𝓣) known-read known-place)
@@ -154,5 +154,5 @@ u16-spec 𝓤 H 𝓜 𝓖 𝓡 =
     entered 𝓤 H (tripleOf 𝓤 H (𝓖 .A) u16.signature (u16.spec 𝓤 H (𝓖 .A) (𝓜 .mem) (𝓡 .run)))
     (tables 𝓤 H 𝓜 𝓡 code.env .C) (tables 𝓤 H 𝓜 𝓡 code.env .Λ) #byte-reader·u16 code.function (code.unfolded 𝓤 H 𝓜 𝓡)
     (u16-meets 𝓤 H (𝓖 .A) (givenOf 𝓤 H 𝓜 𝓖) (𝓜 .mem) (𝓡 .run) (tablesOf 𝓤 H 𝓜 (tables 𝓤 H 𝓜 𝓡 code.env))
-    (cited 𝓤 H (Read 𝓤 H (𝓖 .A) (𝓜 .mem) (𝓡 .run)) 𝓜 𝓡 code.env #wire·u16-at read-def.routine code.calls-wire·u16-at (read-thm.met 𝓤 H 𝓜 𝓖 𝓡))
+    (cited 𝓤 H (Read 𝓤 H (𝓖 .A) (𝓜 .mem) (𝓡 .run)) 𝓜 𝓡 code.env #numbers·u16-at read-def.routine code.calls-numbers·u16-at (read-thm.met 𝓤 H 𝓜 𝓖 𝓡))
     (cited 𝓤 H (Place 𝓤 H (𝓖 .A) (𝓜 .mem) (𝓡 .run)) 𝓜 𝓡 code.env #byte-reader·place-after place-def.routine code.calls-byte-reader·place-after (place-thm.met 𝓤 H 𝓜 𝓖 𝓡)))

@@ -6,9 +6,9 @@ use Rattle.layout.specs.Rows.{headRow}
 use Rattle.layout.specs.Given.{D-is}
 use mathlib.Core.Path.{sym, ap, _∙_}
 use Rattle.layout.specs.Reader.{entriesAt}
-use Rattle.wire.specs.WireLaws.{past-at}
+use Rattle.numbers.specs.NumberLaws.{past-at}
 use Rattle.layout.proofs.Laws.{entries-row, entries-no, entries-end}
-use Rattle.wire.specs.OutLaws.{put-as, Going, going, going-row, going-no, going-end}
+use Rattle.table.specs.OutLaws.{put-as, Going, going, going-row, going-no, going-end}
 use Rattle.layout.proofs.members.entries.Statement.{statement}
 use Rattle.layout.proofs.members.entries.Tie as tie
 
@@ -21,16 +21,13 @@ abbrev μ-loop : tie.MeasureT-loop
 loop-holds : tie.Need-loop-holds Inv-loop μ-loop
 loop-holds c = going _ (c .before .before .pre)
 
-eleven-requires : tie.Need-eleven-requires Inv-loop μ-loop
-eleven-requires c κs = omega (arith, past-at (c .before .before .before .take .ensures .1) (c .before .next .given .1))
-
 add-k : tie.Need-add-k Inv-loop μ-loop
 add-k c = omega (arith, past-at (c .before .before .before .before .before .before .before .before .before .before .take .ensures .1) (c .before .before .before .before .before .before .before .before .next .given .1))
 
 loop-again : tie.Need-loop-again Inv-loop μ-loop
 loop-again c =
     going-row (c .before .before .before .before .before .before .before .before .before .before .before .before .loop .inv) (entries-row _ _ _ _ (sym D-is) (c .before .before .before .before .before .before .before .before .before .before .before .loop-test .taken) (sym (c .before .before .before .before .before .before .before .before .before .before .take .ensures .0) ∙ c .before .before .before .before .before .before .before .before .next .given .1))
-    (put-as (c .before .before .before .before .before .entry-row .ensures ∙ ap (λ (b : List ℕ). headRow b) (c .before .before .before .before .before .before .eleven .ensures)) (c .before .before .put-row .ensures)) (c .before .before .put-row .kept .0) (omega (arith, past-at (c .before .before .before .before .before .before .before .before .before .before .take .ensures .1) (c .before .before .before .before .before .before .before .before .next .given .1)))
+    (put-as (c .before .before .before .before .before .entry-row .ensures ∙ ap (λ (b : List ℕ). headRow b) (c .before .before .before .before .before .before .entry-bytes .ensures)) (c .before .before .put-row .ensures)) (c .before .before .put-row .kept .0) (omega (arith, past-at (c .before .before .before .before .before .before .before .before .before .before .take .ensures .1) (c .before .before .before .before .before .before .before .before .next .given .1)))
 
 same-length : tie.Need-same-length Inv-loop μ-loop
 same-length c = c .before .before .before .before .before .loop .inv .wide
@@ -54,7 +51,7 @@ entries-spec =
     loop-holds
     (λ c κs. search needs)
     (λ c. search needs)
-    eleven-requires
+    (λ c κs. search needs)
     (λ c κs. search needs)
     (λ c. search needs)
     (λ c κs. search needs)

@@ -2,9 +2,9 @@ use borrow.Author.Needs.{needs}
 use native.Mathlib.Omega.{arith}
 use mathlib.Core.Path.{sym, _∙_}
 use Rattle.layout.specs.Reader.{namesAt}
-use Rattle.wire.specs.WireLaws.{past-at}
+use Rattle.numbers.specs.NumberLaws.{past-at}
 use Rattle.layout.proofs.Laws.{names-row, names-no, names-end}
-use Rattle.wire.specs.OutLaws.{put-as, Going, going, going-row, going-no, going-end}
+use Rattle.table.specs.OutLaws.{put-as, Going, going, going-row, going-no, going-end}
 use Rattle.layout.proofs.members.names.Statement.{statement}
 use Rattle.layout.proofs.members.names.Tie as tie
 

@@ -1,4 +1,4 @@
-use Rattle.wire.specs.OutLaws.{ran-is}
+use Rattle.table.specs.OutLaws.{ran-is}
 use Rattle.layout.proofs.Laws.{kind-0, kind-1, kind-2}
 use Rattle.layout.proofs.Labelling.{cleared-any}
 use borrow.Author.Needs.{needs}

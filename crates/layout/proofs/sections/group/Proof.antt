@@ -1,7 +1,7 @@
 use native.Mathlib.Omega.{arith}
 use mathlib.Core.Path.{sym, _∙_}
-use Rattle.wire.specs.OutLaws.{ran-on, ran-on-no}
-use Rattle.wire.specs.WireLaws.{past-at}
+use Rattle.table.specs.OutLaws.{ran-on, ran-on-no}
+use Rattle.numbers.specs.NumberLaws.{past-at}
 use Rattle.layout.specs.Reader.{groupAt}
 use borrow.Author.Needs.{needs}
 use Rattle.layout.proofs.sections.group.Statement.{statement}

@@ -1,7 +1,7 @@
 use native.Mathlib.Omega.{arith}
 use mathlib.Core.Path.{sym, _∙_}
-use Rattle.wire.specs.OutLaws.{ran-is, ran-on, ran-on-no, ran-row, put-as}
-use Rattle.wire.specs.WireLaws.{past-at}
+use Rattle.table.specs.OutLaws.{ran-is, ran-on, ran-on-no, ran-row, put-as}
+use Rattle.numbers.specs.NumberLaws.{past-at}
 use Rattle.layout.proofs.Laws.{label-is}
 use borrow.Author.Needs.{needs}
 use Rattle.layout.proofs.sections.label_body.Statement.{statement}

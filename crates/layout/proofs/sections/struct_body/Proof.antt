@@ -1,8 +1,8 @@
 use native.Mathlib.Omega.{arith}
 use mathlib.Core.Path.{sym, _∙_}
-use Rattle.wire.specs.WireLaws.{past-at}
+use Rattle.numbers.specs.NumberLaws.{past-at}
 use Rattle.layout.proofs.Laws.{struct-is}
-use Rattle.wire.specs.OutLaws.{ran-is, ran-on, ran-on-no, ran-row, put-as}
+use Rattle.table.specs.OutLaws.{ran-is, ran-on, ran-on-no, ran-row, put-as}
 use borrow.Author.Needs.{needs}
 use Rattle.layout.proofs.sections.struct_body.Statement.{statement}
 use Rattle.layout.proofs.sections.struct_body.Tie as tie

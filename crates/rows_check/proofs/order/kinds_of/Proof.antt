@@ -4,7 +4,7 @@ use Prim.Native.Nat.{ℕ, _+_, _-_, _≤_}
 use native.Mathlib.Omega.{arith}
 use mathlib.Core.Path.{_≡_}
 use lib.Dec.{eqb}
-use Rattle.wire.specs.Pick.{pick}
+use Rattle.numbers.specs.Pick.{pick}
 use Rattle.rows_check.specs.Tree.{cell, rowCount, countKind, kinds}
 use Rattle.rows_check.proofs.Laws.{kind-next, kind-none}
 use borrow.Author.Needs.{needs}

@@ -1,0 +1,4 @@
+pub mod Pick
+pub mod Numbers
+pub mod NumberLaws
+pub mod Single

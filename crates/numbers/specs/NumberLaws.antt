@@ -1,0 +1,126 @@
+-- What reading a number or some bytes at a place gives, where it reads and where it refuses. Assumes nothing.
+use Prim.Native.Nat.{ℕ, suc, _+_, _-_, _*_, _≤_, _<_}
+use mathlib.Core.Path.{_≡_, refl, sym, ap, _∙_}
+use mathlib.Core.List.{List}
+use native.Mathlib.Nat.{add-zero}
+use native.Mathlib.Omega.{arith}
+use lib.ListN.{length, getD, take, drop, length-take, length-drop}
+use Rattle.codec.specs.Codec.{Res, ok, refuse, raw, value, num}
+use Rattle.codec.specs.Steps.{raw-got, raw-bad, num-got, num-bad, value-step, value2}
+use Rattle.codec.specs.Cases.{by-le}
+use Rattle.numbers.specs.Numbers.{gotOf, Past, past, refused, takeAt, numAt, u16At, part, le16, le32, le64}
+use Rattle.numbers.specs.declared.Got.{Got}
+use Rattle.numbers.specs.declared.Got.the-variants.{Value, Refused}
+
+-- ---- bytes
+
+module _ (why n : ℕ) (s : List ℕ) (at : ℕ) where
+  pub take-ok : at + n ≤ length s → takeAt why n s at ≡ Value n (at + n)
+  unfolding takeAt
+  take-ok h = rw (raw-got why n 0 s at h)
+
+  pub take-no : length s < at + n → takeAt why n s at ≡ Refused why
+  unfolding takeAt
+  take-no h = rw (raw-bad why n 0 s at h)
+
+  pub take-value : {v p : ℕ} → takeAt why n s at ≡ Value v p → (p ≡ at + n) × (at + n ≤ length s)
+  take-value {v} {p} e =
+      by-le (at + n) (length s)
+      (λ h. (let q = sym (take-ok h) ∙ e in let y : at + n ≡ p = cc in sym y, h))
+      (λ h. let q = sym (take-no h) ∙ e in absurd (let z : _≡_ {A = ℕ} 0 1 = cc in omega arith))
+
+  pub take-refused : {k : ℕ} → takeAt why n s at ≡ Refused k → (k ≡ why) × (length s < at + n)
+  take-refused {k} e =
+      by-le (at + n) (length s)
+      (λ h. let q = sym (take-ok h) ∙ e in absurd (let z : _≡_ {A = ℕ} 0 1 = cc in omega arith))
+      (λ h. (let q = sym (take-no h) ∙ e in let y : why ≡ k = cc in sym y, h))
+
+-- ---- numbers
+
+pub value-at : (n : ℕ) (s : List ℕ) (i j : ℕ) → i + 1 ≡ j → i < length s → value (take (suc n) (drop i s)) ≡ getD s i 0 + 256 * value (take n (drop j s))
+value-at n s i j e h = value-step n s i h ∙ ap (λ m. getD s i 0 + 256 * value (take n (drop m s))) e
+
+pub value1 : (s : List ℕ) (i : ℕ) → i < length s → value (take 1 (drop i s)) ≡ getD s i 0
+value1 s i h = value-step 0 s i h ∙ add-zero (getD s i 0)
+
+pub value4 : (s : List ℕ) (i : ℕ) → i + 4 ≤ length s → value (take 4 (drop i s)) ≡ le32 s i
+value4 s i h = omega (
+  arith,
+  value-at 3 s i (i + 1) refl (omega arith),
+  value-at 2 s (i + 1) (i + 2) (omega arith) (omega arith),
+  value-at 1 s (i + 2) (i + 2 + 1) refl (omega arith),
+  value-at 0 s (i + 2 + 1) (i + 4) (omega arith) (omega arith),
+)
+
+pub value8 : (s : List ℕ) (i : ℕ) → i + 8 ≤ length s → value (take 8 (drop i s)) ≡ le64 s i
+value8 s i h = omega (
+  arith,
+  value-at 7 s i (i + 1) refl (omega arith),
+  value-at 6 s (i + 1) (i + 2) (omega arith) (omega arith),
+  value-at 5 s (i + 2) (i + 2 + 1) refl (omega arith),
+  value-at 4 s (i + 2 + 1) (i + 4) (omega arith) (omega arith),
+  value-at 3 s (i + 4) (i + 4 + 1) refl (omega arith),
+  value-at 2 s (i + 4 + 1) (i + 4 + 2) (omega arith) (omega arith),
+  value-at 1 s (i + 4 + 2) (i + 4 + 2 + 1) refl (omega arith),
+  value-at 0 s (i + 4 + 2 + 1) (i + 8) (omega arith) (omega arith),
+)
+
+-- a number that was read, in the words of the format
+abbrev pub numOf : Got → Res ℕ
+numOf (Value v p) = ok v p
+numOf (Refused k) = refuse k
+
+num-of : (r : Res ℕ) → r ≡ numOf (gotOf (λ v. v) r)
+num-of (ok v p) = refl
+num-of (refuse k) = refl
+
+module _ (why w : ℕ) (s : List ℕ) (at : ℕ) where
+  pub num-is : (base : ℕ) → num why w .parse base s at ≡ numOf (numAt why w s at)
+  unfolding numAt num raw
+  num-is base = num-of (num why w .parse 0 s at)
+
+  pub num-ok : at + w ≤ length s → numAt why w s at ≡ Value (value (take w (drop at s))) (at + w)
+  unfolding numAt
+  num-ok h = rw (num-got why w 0 s at h)
+
+  pub num-no : length s < at + w → numAt why w s at ≡ Refused why
+  unfolding numAt
+  num-no h = rw (num-bad why w 0 s at h)
+
+  -- the number that was read, and where
+  pub num-value : {v p : ℕ} → numAt why w s at ≡ Value v p → (v ≡ value (take w (drop at s))) × (p ≡ at + w) × (at + w ≤ length s)
+  num-value {v} {p} e =
+      by-le (at + w) (length s)
+      (λ h. let q = sym (num-ok h) ∙ e in (let z : value (take w (drop at s)) ≡ v = cc in sym z, let y : at + w ≡ p = cc in sym y, h))
+      (λ h. let q = sym (num-no h) ∙ e in absurd (let z : _≡_ {A = ℕ} 0 1 = cc in omega arith))
+
+pub u8-ok : (why : ℕ) (s : List ℕ) (at : ℕ) → 1 ≤ length s - at → Value (getD s at 0) (at + 1) ≡ numAt why 1 s at
+u8-ok why s at h = sym (num-ok why 1 s at (omega arith) ∙ ap (λ v. Value v (at + 1)) (value1 s at (omega arith)))
+
+pub u16-ok : (why : ℕ) (s : List ℕ) (at : ℕ) → 2 ≤ length s - at → Value (le16 s at) (at + 2) ≡ numAt why 2 s at
+u16-ok why s at h = sym (num-ok why 2 s at (omega arith) ∙ ap (λ v. Value v (at + 2)) (value2 s at (omega arith)))
+
+pub u32-ok : (why : ℕ) (s : List ℕ) (at : ℕ) → 4 ≤ length s - at → Value (le32 s at) (at + 4) ≡ numAt why 4 s at
+u32-ok why s at h = sym (num-ok why 4 s at (omega arith) ∙ ap (λ v. Value v (at + 4)) (value4 s at (omega arith)))
+
+-- the u16 that was read, and where
+pub u16-value : (s : List ℕ) (at : ℕ) {v p : ℕ} → u16At s at ≡ Value v p → (v ≡ le16 s at) × (p ≡ at + 2) × (at + 2 ≤ length s)
+u16-value s at e = let (x, y, z) = num-value 50 2 s at e in (x ∙ value2 s at z, y, z)
+
+-- what a number that was read tells
+pub past-at : {b m at v p : ℕ} {s : List ℕ} {r : Got} → Past b m s at r → r ≡ Value v p → (at + m ≤ p) × (p ≤ length s) × (v < b)
+past-at {b} {m} {at} {v} {p} {s} {r} h e = go (rw e at h)
+  where
+    go : Past b m s at (Value v p) → (at + m ≤ p) × (p ≤ length s) × (v < b)
+    go (past x y z) = (x, y, z)
+
+pub past-mk : {b m at v p : ℕ} {s : List ℕ} → at + m ≤ p → p ≤ length s → v < b → Past b m s at (Value v p)
+past-mk x y z = past x y z
+
+pub past-back : {b m m′ at at′ : ℕ} {s : List ℕ} {r : Got} → Past b m s at r → at′ + m′ ≤ at + m → Past b m′ s at′ r
+past-back (past x y z) h = past-mk (omega arith) y z
+past-back refused h = refused
+
+-- the part of a slice that a section's body is
+pub part-length : (s : List ℕ) (b e : ℕ) → e ≤ length s → length (part s b e) ≡ e - b
+part-length s b e h = simp (length-take, length-drop) (omega arith)

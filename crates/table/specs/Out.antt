@@ -1,0 +1,86 @@
+-- What a reader of rows gives: the rows and the place after them, or the refusal; and what it leaves in a table.
+-- Assumes nothing.
+use Prim.Native.Nat.{ℕ, _+_, _*_, _/_, _≤_, _<_, _^_}
+use mathlib.Core.Path.{_≡_}
+use mathlib.Core.Bool.{Bool}
+use mathlib.Core.List.{List, [], _∷_, _++_, map}
+use lib.ListN.{length}
+use lib.Seq.{sets}
+use lib.Dec.{ltb}
+use Rattle.codec.specs.Codec.{Res, ok, refuse, _>>=_}
+use Rattle.numbers.specs.Pick.{pick}
+use Rattle.numbers.specs.declared.Got.{Got}
+use Rattle.numbers.specs.declared.Got.the-variants.{Value, Refused}
+
+-- the lists, one after the other
+abbrev pub flat : {A : Type 0} → List (List A) → List A
+flat [] = []
+flat (x ∷ xs) = x ++ flat xs
+
+-- the rows of each
+abbrev pub allRows : {A : Type 0} → (A → List (List ℕ)) → List A → List (List ℕ)
+allRows f xs = flat (map f xs)
+
+abbrev pub Out : Type 0
+Out = Res (List (List ℕ))
+
+-- the rows of what is read
+abbrev pub said : {A : Type 0} → (A → List (List ℕ)) → Res A → Out
+said f r = r >>= λ x j. ok (f x) j
+
+-- one row before others
+abbrev pub row : List ℕ → Out → Out
+row r o = o >>= λ rs p. ok (r ∷ rs) p
+
+-- the first reader's rows, and where it stopped those of the second
+unfoldable pub seq : Out → (ℕ → Out) → Out
+seq o f = o >>= λ rs p. f p >>= λ qs q. ok (rs ++ qs) q
+
+-- a number that was read, and what follows it
+abbrev pub onGot : Got → (ℕ → ℕ → Out) → Out
+onGot (Value v p) f = f v p
+onGot (Refused k) f = refuse k
+
+-- row n of a table of rows of w numbers, where the table has it
+unfoldable pub putRow : ℕ → List ℕ → ℕ → List ℕ → List ℕ
+putRow w t n r = pick (ltb n (length t / w)) (sets t (w * n) r) t
+
+-- the table after row n is stored
+pub record Put (w : ℕ) (t : List ℕ) (n : ℕ) (r t′ : List ℕ) : Type 0 where
+  pub is : t′ ≡ putRow w t n r
+
+-- the table after the rows from row n on
+abbrev pub fill : ℕ → List ℕ → ℕ → List (List ℕ) → List ℕ
+fill w t n [] = t
+fill w t n (r ∷ rs) = fill w (putRow w t n r) (n + 1) rs
+
+-- the same, of a reader: a refusal says nothing of the table
+abbrev pub Fills : ℕ → List ℕ → ℕ → Out → List ℕ → Type 0
+Fills w t n (ok rs p) t′ = t′ ≡ fill w t n rs
+Fills w t n (refuse k) t′ = Unit {0}
+
+-- the next row's index and the next place, or the refusal
+abbrev pub answer : ℕ → Out → Got
+answer n (ok rs p) = Value (n + length rs) p
+answer n (refuse k) = Refused k
+
+-- a place within the section, and rows counted within the bytes passed
+pub data Within (base : ℕ) (s : List ℕ) : Got → Type 0 where
+  stopped : {m p : ℕ} → m ≤ base + p → p ≤ length s → Within base s (Value m p)
+  refused : {k : ℕ} → Within base s (Refused k)
+
+-- what a reader of rows at `at` asks: places from `base` on fit a u32, and there are no more rows than bytes before
+pub record Room (base : ℕ) (s : List ℕ) (at n : ℕ) : Type 0 where
+  pub small : base + length s < 2 ^ 32
+  pub few : n ≤ base + at
+  pub inside : at ≤ length s
+
+-- what it does: answer and table are those of `o`
+pub record Ran (w base : ℕ) (s : List ℕ) (o : Out) (n : ℕ) (t t′ : List ℕ) (r : Got) : Type 0 where
+  pub answered : r ≡ answer n o
+  pub filled : Fills w t n o t′
+  pub within : Within base s r
+
+-- a reader by a test
+unfoldable pub when : Bool → Out → Out → Out
+when b o o′ = pick b o o′

@@ -1,0 +1,162 @@
+-- Readers of rows, put together: one after the other, in a loop, by a test. Assumes nothing.
+use Prim.Native.Nat.{ℕ, suc, _+_, _/_, _≤_}
+use mathlib.Core.Path.{_≡_, refl, sym, ap, _∙_, subst, subst₂}
+use mathlib.Core.List.{List, [], _∷_, _++_}
+use mathlib.Core.Bool.{Bool, true, false}
+use native.Mathlib.Nat.{add-zero, div-zero}
+use native.Mathlib.Omega.{arith}
+use lib.ListN.{length, length-append}
+use borrow.Author.Tests.{le-ltb}
+use Rattle.codec.specs.Codec.{ok, refuse, _>>=_}
+use Rattle.table.specs.Out.{Out, row, seq, when, onGot, putRow, Put, fill, Fills, answer, Room, Ran, Within, stopped, refused}
+use Rattle.numbers.specs.declared.Got.{Got}
+use Rattle.numbers.specs.declared.Got.the-variants.{Value, Refused}
+
+-- a table that does not have the row
+pub put-not : (w : ℕ) (t : List ℕ) (n : ℕ) (r : List ℕ) → length t / w ≤ n → t ≡ putRow w t n r
+unfolding putRow
+put-not w t n r h = rw (le-ltb n (length t / w) h)
+
+-- a row of no numbers changes nothing
+pub put-none : (t : List ℕ) (n : ℕ) (r : List ℕ) → length r ≤ 0 → t ≡ putRow (length r) t n r
+unfolding putRow
+put-none t n r h = let e : length r ≡ 0 = omega arith in rw (e, div-zero (length t), le-ltb n 0 (omega arith))
+
+-- a row under another name
+pub put-as : {t t′ v v′ : List ℕ} {n : ℕ} → v′ ≡ v → Put (length v′) t n v′ t′ → Put (length v) t n v t′
+put-as {t} {n = n} q e = record { is = e .is ∙ ap (λ u. putRow (length u) t n u) q }
+
+-- a loop that reads rows: what is left to read gives the rest of the rows and the same answer
+pub record Going (w base : ℕ) (s : List ℕ) (o₀ : Out) (n₀ : ℕ) (t₀ : List ℕ) (o : Out) (p n : ℕ) (t : List ℕ) : Type 0 where
+  pub answers : answer n₀ o₀ ≡ answer n o
+  pub fills : (t′ : List ℕ) → Fills w t n o t′ → Fills w t₀ n₀ o₀ t′
+  pub few : n ≤ base + p
+  pub inside : p ≤ length s
+  pub wide : length t ≡ length t₀
+
+pub going : {w base p n : ℕ} {s : List ℕ} (o : Out) {t : List ℕ} → Room base s p n → Going w base s o n t o p n t
+going o h = record { answers = refl; fills = λ t′ e. e; few = h .few; inside = h .inside; wide = refl }
+
+-- one row, and others
+answer-row : (r : List ℕ) (o : Out) (n : ℕ) → answer n (row r o) ≡ answer (n + 1) o
+answer-row r (ok rs p) n = let e : n + suc (length rs) ≡ n + 1 + length rs = omega arith in ap (λ m. Value m p) e
+answer-row r (refuse k) n = refl
+
+fills-row : (w : ℕ) (r : List ℕ) (o : Out) (n : ℕ) (t t′ : List ℕ) → Fills w (putRow w t n r) (n + 1) o t′ → Fills w t n (row r o) t′
+fills-row w r (ok rs p) n t t′ e = e
+fills-row w r (refuse k) n t t′ e = tt
+
+fill-append : (w : ℕ) (rs qs : List (List ℕ)) (n : ℕ) (t : List ℕ) → fill w t n (rs ++ qs) ≡ fill w (fill w t n rs) (n + length rs) qs
+fill-append w [] qs n t = rw add-zero
+fill-append w (r ∷ rs) qs n t =
+    let e : n + 1 + length rs ≡ n + suc (length rs) = omega arith in
+    fill-append w rs qs (n + 1) (putRow w t n r) ∙ ap (λ m. fill w (fill w (putRow w t n r) (n + 1) rs) m qs) e
+
+-- one reader after the other
+join : (w : ℕ) (rs : List (List ℕ)) (n : ℕ) (t t₁ : List ℕ) → t₁ ≡ fill w t n rs → (o : Out)
+    → (answer n (o >>= λ qs q. ok (rs ++ qs) q) ≡ answer (n + length rs) o) × ((t′ : List ℕ) → Fills w t₁ (n + length rs) o t′ → Fills w t n (o >>= λ qs q. ok (rs ++ qs) q) t′)
+join w rs n t t₁ g (ok qs q) =
+    let e : n + length (rs ++ qs) ≡ n + length rs + length qs = omega (arith, length-append rs qs) in
+    (ap (λ m. Value m q) e, λ t′ h. h ∙ ap (λ v. fill w v (n + length rs) qs) g ∙ sym (fill-append w rs qs n t))
+join w rs n t t₁ g (refuse k) = (refl, λ t′ h. tt)
+
+seq-go : (w : ℕ) (o : Out) (f : ℕ → Out) (n : ℕ) (t t₁ : List ℕ) {m p : ℕ} → answer n o ≡ Value m p → Fills w t n o t₁
+    → (answer n (seq o f) ≡ answer m (f p)) × ((t′ : List ℕ) → Fills w t₁ m (f p) t′ → Fills w t n (seq o f) t′)
+unfolding seq
+seq-go w (ok rs q) f n t t₁ {m} {p} e g =
+    let em : n + length rs ≡ m = cc in
+    let ep : q ≡ p = cc in
+    subst₂ (λ (m p : ℕ). (answer n (seq (ok rs q) f) ≡ answer m (f p)) × ((t′ : List ℕ) → Fills w t₁ m (f p) t′ → Fills w t n (seq (ok rs q) f) t′)) em ep
+    (join w rs n t t₁ g (f q))
+seq-go w (refuse k) f n t t₁ e g = absurd (let z : _≡_ {A = ℕ} 0 1 = cc in omega arith)
+
+seq-stop : (w : ℕ) (o : Out) (f : ℕ → Out) (n : ℕ) (t t′ : List ℕ) {k : ℕ} → answer n o ≡ Refused k → (answer n (seq o f) ≡ Refused k) × Fills w t n (seq o f) t′
+unfolding seq
+seq-stop w (ok rs q) f n t t′ e = absurd (let z : _≡_ {A = ℕ} 0 1 = cc in omega arith)
+seq-stop w (refuse j) f n t t′ e = (e, tt)
+
+module _ {w base n : ℕ} {s : List ℕ} {o : Out} {t t₁ : List ℕ} {r₁ : Got} (g : Ran w base s o n t t₁ r₁) where
+  pub ran-seq : {base′ m p : ℕ} {s′ t₂ : List ℕ} {r₂ : Got} (f : ℕ → Out) → r₁ ≡ Value m p → Ran w base′ s′ (f p) m t₁ t₂ r₂ → Ran w base′ s′ (seq o f) n t t₂ r₂
+  ran-seq f e h =
+      let q = seq-go w o f n t t₁ (sym (g .answered) ∙ e) (g .filled) in
+      record { answered = h .answered ∙ sym (q .0); filled = q .1 _ (h .filled); within = h .within }
+
+  pub ran-stop : {base′ k : ℕ} {s′ : List ℕ} (f : ℕ → Out) → r₁ ≡ Refused k → Ran w base′ s′ (seq o f) n t t₁ (Refused k)
+  ran-stop f e =
+      let q = seq-stop w o f n t t₁ (sym (g .answered) ∙ e) in
+      record { answered = sym (q .0); filled = q .1; within = refused }
+
+  pub ran-at : {m p : ℕ} → r₁ ≡ Value m p → (m ≤ base + p) × (p ≤ length s)
+  ran-at {m} {p} e = let w = g .within in go (rw e at w)
+    where
+      go : Within base s (Value m p) → (m ≤ base + p) × (p ≤ length s)
+      go (stopped x y) = (x, y)
+
+-- a number that was read, a row, a refusal, another name of the same
+module _ {w base n : ℕ} {s t t₁ : List ℕ} {r : Got} where
+  pub ran-is : {o o′ : Out} → o ≡ o′ → Ran w base s o′ n t t₁ r → Ran w base s o n t t₁ r
+  ran-is e g = rw e g
+
+  pub ran-yes : (o o′ : Out) {b : Bool} → b ≡ true → Ran w base s o n t t₁ r → Ran w base s (when b o o′) n t t₁ r
+  unfolding when
+  ran-yes o o′ e g = rw e g
+
+  pub ran-else : (o o′ : Out) {b : Bool} → b ≡ false → Ran w base s o′ n t t₁ r → Ran w base s (when b o o′) n t t₁ r
+  unfolding when
+  ran-else o o′ e g = rw e g
+
+  pub ran-on : {d : Got} {v p : ℕ} (f : ℕ → ℕ → Out) → d ≡ Value v p → Ran w base s (f v p) n t t₁ r → Ran w base s (onGot d f) n t t₁ r
+  ran-on f e g = rw e g
+
+  pub ran-row : {v t₂ : List ℕ} {o : Out} → Put w t n v t₂ → Ran w base s o (n + 1) t₂ t₁ r → Ran w base s (row v o) n t t₁ r
+  ran-row {v} {t₂ = t₂} {o = o} z g =
+      record {
+        answered = g .answered ∙ sym (answer-row v o n);
+        filled = fills-row w v o n t t₁ (subst (λ u. Fills w u (n + 1) o t₁) (z .is) (g .filled));
+        within = g .within;
+      }
+
+pub ran-no : {w base n k : ℕ} {s : List ℕ} {o : Out} {t t′ : List ℕ} → o ≡ refuse k → Ran w base s o n t t′ (Refused k)
+ran-no e = rw e (record { answered = refl; filled = tt; within = refused })
+
+pub ran-on-no : {w base n k : ℕ} {s t : List ℕ} {d : Got} (f : ℕ → ℕ → Out) → d ≡ Refused k → Ran w base s (onGot d f) n t t (Refused k)
+ran-on-no f e = ran-no (rw e)
+
+module _ {w base n₀ p n : ℕ} {s : List ℕ} {o₀ o : Out} {t₀ t : List ℕ} (g : Going w base s o₀ n₀ t₀ o p n t) where
+  -- one row more, stored in the table
+  pub going-row : {v : List ℕ} {o′ : Out} {p′ : ℕ} {t′ : List ℕ} → o ≡ row v o′ → Put w t n v t′ → length t′ ≡ length t → (n + 1 ≤ base + p′) × (p′ ≤ length s) → Going w base s o₀ n₀ t₀ o′ p′ (n + 1) t′
+  going-row {v} {o′ = o′} {t′ = t′} e y l h =
+      record {
+        answers = g .answers ∙ rw e (answer-row v o′ n);
+        fills = λ u f. g .fills u (subst (λ x. Fills w t n x u) (sym e) (fills-row w v o′ n t u (subst (λ x. Fills w x (n + 1) o′ u) (y .is) f)));
+        few = h .0;
+        inside = h .1;
+        wide = l ∙ g .wide;
+      }
+
+  -- the rows of a reader within
+  pub going-run : {base′ m q p′ : ℕ} {s′ t′ : List ℕ} {o′ : Out} {r : Got} (f : ℕ → Out) → o ≡ seq o′ f → Ran w base′ s′ o′ n t t′ r → r ≡ Value m q → length t′ ≡ length t → (m ≤ base + p′) × (p′ ≤ length s) → Going w base s o₀ n₀ t₀ (f q) p′ m t′
+  going-run {t′ = t′} {o′} f e h i l b =
+      let z = seq-go w o′ f n t t′ (sym (h .answered) ∙ i) (h .filled) in
+      record {
+        answers = g .answers ∙ rw e (z .0);
+        fills = λ u v. g .fills u (subst (λ x. Fills w t n x u) (sym e) (z .1 u v));
+        few = b .0;
+        inside = b .1;
+        wide = l ∙ g .wide;
+      }
+
+  pub going-halt : {base′ k : ℕ} {s′ t′ : List ℕ} {o′ : Out} {r : Got} (f : ℕ → Out) → o ≡ seq o′ f → Ran w base′ s′ o′ n t t′ r → r ≡ Refused k → Ran w base s o₀ n₀ t₀ t′ (Refused k)
+  going-halt {t′ = t′} {o′} f e h i =
+      let z = seq-stop w o′ f n t t′ (sym (h .answered) ∙ i) in
+      record { answered = sym (g .answers ∙ rw e (z .0)); filled = g .fills t′ (subst (λ x. Fills w t n x t′) (sym e) (z .1)); within = refused }
+
+  pub going-end : o ≡ ok [] p → Ran w base s o₀ n₀ t₀ t (Value n p)
+  going-end e = record {
+    answered = sym (g .answers ∙ rw e (ap (λ m. Value m p) (add-zero n)));
+    filled = g .fills t (subst (λ x. Fills w t n x t) (sym e) refl);
+    within = stopped (g .few) (g .inside);
+  }
+
+  pub going-no : {k : ℕ} → o ≡ refuse k → Ran w base s o₀ n₀ t₀ t (Refused k)
+  going-no e = record { answered = sym (g .answers ∙ rw e); filled = g .fills t (subst (λ x. Fills w t n x t) (sym e) tt); within = refused }
