@@ -1,3 +1,4 @@
 pub mod Sheet
 pub mod Field
+pub mod Answers
 pub mod Single

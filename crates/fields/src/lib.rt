@@ -5,6 +5,7 @@ ghost use Prim.Native.Nat.{_+_, _*_, _<_};
 ghost use lib.ListN.{length};
 ghost use Rattle.fields.specs.Sheet.{idOf, offOf, sizeOf, typeOf, defOf, endOf, isPadding, isStruct, isSymbol, isDecimal, namesLabel, isExtension, pastBase, alignOf, memberAlign};
 ghost use Rattle.fields.specs.Field.{differs, breaks71, breaks72, breaks73, breaks74, breaks76, breaks77, breaks79, breaks80, fieldFault};
+ghost use Rattle.fields.specs.Answers.{ExtentIs, ClassIs};
 
 // What the fields of one record or struct are held against: whether it is a record, its base size or its size, the
 // stream's symbol width and how many label defs there are.
@@ -13,6 +14,80 @@ pub struct Frame {
     pub base: usize,
     pub width: usize,
     pub labels: usize,
+}
+
+// Where an entry stands: whether it is of the other side of the base, its first byte, and one past its last.
+pub struct Extent {
+    pub other: bool,
+    pub off: usize,
+    pub end: usize,
+}
+
+// What rules over many entries ask of one: its id, whether it is padding, and its alignment inside a struct.
+pub struct Class {
+    pub id: u16,
+    pub padding: bool,
+    pub align: u16,
+}
+
+// Where the entry stands, seen from the base, or from the extensions where `ext` holds.
+pub fn extent_of(frame: Frame, ext: bool, e: [u8; 11]) -> Extent
+    ensures { λ r. ⌜ ExtentIs (frame .open) (frame .base) ext e r ⌝ }
+{
+    Extent {
+        other: differ(ext, past_base(frame, e)),
+        off: off_of(e),
+        end: end_of(e),
+    }
+}
+
+// The entry's id, whether it is padding, and its alignment inside a struct, or 0 where the sheet has none.
+pub fn class_of(sheet: &[u16; 520], e: [u8; 11]) -> Class
+    ensures { λ r. ⌜ ClassIs (now (sheet .entry)) e r ⌝ }
+{
+    Class {
+        id: id_of(e),
+        padding: is_padding(sheet, e),
+        align: member_align(sheet, e),
+    }
+}
+
+// The first of rules 71 to 80 that the entry breaks, or 0. `aligns` has the alignment of each struct; `seen` says that
+// the entry's id came before.
+pub fn check_field(sheet: &[u16; 520], aligns: &[u16], frame: Frame, seen: bool, e: [u8; 11]) -> u32
+    ensures { λ r. ⌜ r ≡ fieldFault (now (sheet .entry)) (frame .width) (frame .labels) (now (aligns .entry)) (frame .open) (frame .base) seen e ⌝ }
+{
+    if breaks_71(sheet, seen, e) {
+        return refusal::ID_TWICE;
+    }
+    if breaks_72(sheet, frame, e) {
+        return refusal::STRUCT_IN_STRUCT;
+    }
+    if breaks_73(sheet, aligns, frame, e) {
+        return refusal::DEF_INDEX;
+    }
+    if breaks_74(sheet, aligns, e) {
+        return refusal::MISALIGNED;
+    }
+    if size_of(e) == 0 {
+        return refusal::SIZE_ZERO;
+    }
+    if breaks_76(sheet, e) {
+        return refusal::DECIMAL_SCALE;
+    }
+    if breaks_77(sheet, frame, e) {
+        return refusal::SYMBOL_WIDTH;
+    }
+    if 65535 < end_of(e) {
+        return refusal::FIELD_END;
+    }
+    if breaks_79(sheet, frame, e) {
+        return refusal::EXTENSION_MARK;
+    }
+    if breaks_80(frame, e) {
+        return refusal::PAST_BASE;
+    }
+    0
 }
 
 // ---- numbers
@@ -42,7 +117,7 @@ fn both(a: bool, b: bool) -> bool
 }
 
 // Whether one holds and the other does not.
-pub fn differ(a: bool, b: bool) -> bool
+fn differ(a: bool, b: bool) -> bool
     ensures { λ r. ⌜ r ≡ differs a b ⌝ }
 {
     if a { !b } else { b }
@@ -50,13 +125,13 @@ pub fn differ(a: bool, b: bool) -> bool
 
 // ---- the parts of an entry
 
-pub fn id_of(e: [u8; 11]) -> u16
+fn id_of(e: [u8; 11]) -> u16
     ensures { λ r. ⌜ r ≡ idOf e ⌝ }
 {
     pair(e[0], e[1]) as u16
 }
 
-pub fn off_of(e: [u8; 11]) -> usize
+fn off_of(e: [u8; 11]) -> usize
     ensures { λ r. ⌜ (r ≡ offOf e) × (r < 65536) ⌝ }
 {
     pair(e[2], e[3])
@@ -69,7 +144,7 @@ fn size_of(e: [u8; 11]) -> usize
 }
 
 // One past the field's last byte.
-pub fn end_of(e: [u8; 11]) -> usize
+fn end_of(e: [u8; 11]) -> usize
     ensures { λ r. ⌜ (r ≡ endOf e) × (r < 131072) ⌝ }
 {
     off_of(e) + size_of(e)
@@ -89,7 +164,7 @@ fn def_of(e: [u8; 11]) -> usize
 
 // ---- what the sheet says of an entry
 
-pub fn is_padding(sheet: &[u16; 520], e: [u8; 11]) -> bool
+fn is_padding(sheet: &[u16; 520], e: [u8; 11]) -> bool
     ensures { λ r. ⌜ r ≡ isPadding (now (sheet .entry)) e ⌝ }
 {
     type_of(e) == wide16(sheet[515])
@@ -131,14 +206,14 @@ fn is_extension(sheet: &[u16; 520], e: [u8; 11]) -> bool
 }
 
 // Whether a record's entry stands at or past the base.
-pub fn past_base(frame: Frame, e: [u8; 11]) -> bool
+fn past_base(frame: Frame, e: [u8; 11]) -> bool
     ensures { λ r. ⌜ r ≡ pastBase (frame .open) (frame .base) e ⌝ }
 {
     both(frame.open, frame.base <= off_of(e))
 }
 
 // The alignment of an entry inside a struct, or 0 where the sheet has none.
-pub fn member_align(sheet: &[u16; 520], e: [u8; 11]) -> u16
+fn member_align(sheet: &[u16; 520], e: [u8; 11]) -> u16
     ensures { λ r. ⌜ r ≡ memberAlign (now (sheet .entry)) e ⌝ }
 {
     if is_padding(sheet, e) {
@@ -225,42 +300,4 @@ fn breaks_80(frame: Frame, e: [u8; 11]) -> bool
     ensures { λ r. ⌜ r ≡ breaks80 (frame .open) (frame .base) e ⌝ }
 {
     both(!past_base(frame, e), frame.base < end_of(e))
-}
-
-// The first of rules 71 to 80 that the entry breaks, or 0. `aligns` has the alignment of each struct; `seen` says that
-// the entry's id came before.
-pub fn check_field(sheet: &[u16; 520], aligns: &[u16], frame: Frame, seen: bool, e: [u8; 11]) -> u32
-    ensures { λ r. ⌜ r ≡ fieldFault (now (sheet .entry)) (frame .width) (frame .labels) (now (aligns .entry)) (frame .open) (frame .base) seen e ⌝ }
-{
-    if breaks_71(sheet, seen, e) {
-        return refusal::ID_TWICE;
-    }
-    if breaks_72(sheet, frame, e) {
-        return refusal::STRUCT_IN_STRUCT;
-    }
-    if breaks_73(sheet, aligns, frame, e) {
-        return refusal::DEF_INDEX;
-    }
-    if breaks_74(sheet, aligns, e) {
-        return refusal::MISALIGNED;
-    }
-    if size_of(e) == 0 {
-        return refusal::SIZE_ZERO;
-    }
-    if breaks_76(sheet, e) {
-        return refusal::DECIMAL_SCALE;
-    }
-    if breaks_77(sheet, frame, e) {
-        return refusal::SYMBOL_WIDTH;
-    }
-    if 65535 < end_of(e) {
-        return refusal::FIELD_END;
-    }
-    if breaks_79(sheet, frame, e) {
-        return refusal::EXTENSION_MARK;
-    }
-    if breaks_80(frame, e) {
-        return refusal::PAST_BASE;
-    }
-    0
 }

@@ -45,11 +45,12 @@ fn mark_side(
     while 0 < left.count {
         let e = entries::entry_at(layout, rows, left);
         left = entries::rest(left);
-        if fields::differ(ext, fields::past_base(frame, e)) {
+        let x = fields::extent_of(frame, ext, e);
+        if x.other {
             continue;
         }
-        let a = fields::off_of(e);
-        let z = fields::end_of(e);
+        let a = x.off;
+        let z = x.end;
         if plain_tiling::is_taken(owners, a, z) {
             return Painted { clash: true, top };
         }

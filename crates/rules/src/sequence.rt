@@ -32,7 +32,8 @@ pub(crate) fn struct_align(sheet: &[u16; 520], layout: &[u8], rows: &[u32], src:
     let mut a: u16 = 1;
     while 0 < left.count {
         let e = entries::entry_at(layout, rows, left);
-        a = larger(a, fields::member_align(sheet, e));
+        let c = fields::class_of(sheet, e);
+        a = larger(a, c.align);
         left = entries::rest(left);
     }
     a
@@ -42,10 +43,11 @@ pub(crate) fn struct_align(sheet: &[u16; 520], layout: &[u8], rows: &[u32], src:
 fn note(sheet: &[u16; 520], marks: &mut [u64; 1024], e: [u8; 11])
     ensures { λ _. ⌜ now (marks .exit) ≡ notedMarks (now (sheet .entry)) (now (marks .entry)) e ⌝ }
 {
-    if fields::is_padding(sheet, e) {
+    let c = fields::class_of(sheet, e);
+    if c.padding {
         return;
     }
-    marks::mark(marks, fields::id_of(e));
+    marks::mark(marks, c.id);
 }
 
 // The first of rules 71 to 80 that an entry breaks, in order, or 0. The ids are marked, and no others.
@@ -66,7 +68,8 @@ fn fields_fault(
     let mut left = src;
     while 0 < left.count {
         let e = entries::entry_at(layout, rows, left);
-        let seen = marks::is_marked(marks, fields::id_of(e));
+        let c = fields::class_of(sheet, e);
+        let seen = marks::is_marked(marks, c.id);
         let v = fields::check_field(sheet, aligns, frame, seen, e);
         if v != 0 {
             return v;
@@ -78,7 +81,7 @@ fn fields_fault(
 }
 
 // Clears the marks of the entries' ids.
-fn wipe_ids(layout: &[u8], rows: &[u32], src: Source, marks: &mut [u64; 1024])
+fn wipe_ids(sheet: &[u16; 520], layout: &[u8], rows: &[u32], src: Source, marks: &mut [u64; 1024])
     requires { ⌜ Room (now layout) (now rows) src ⌝ }
     requires { ⌜ Only (now marks) (idsOf (entriesOf (now layout) (now rows) src)) ⌝ }
     ensures { λ _. ⌜ Marks (now (marks .exit)) [] ⌝ }
@@ -86,7 +89,8 @@ fn wipe_ids(layout: &[u8], rows: &[u32], src: Source, marks: &mut [u64; 1024])
     let mut left = src;
     while 0 < left.count {
         let e = entries::entry_at(layout, rows, left);
-        marks::wipe(marks, fields::id_of(e));
+        let c = fields::class_of(sheet, e);
+        marks::wipe(marks, c.id);
         left = entries::rest(left);
     }
 }
@@ -166,6 +170,6 @@ pub(crate) fn seq_fault(
     if a != 0 {
         return a;
     }
-    wipe_ids(layout, rows, src, marks);
+    wipe_ids(sheet, layout, rows, src, marks);
     tiling(layout, rows, src, frame, plain, owners)
 }

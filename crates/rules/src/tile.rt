@@ -24,17 +24,19 @@ const NEVER: usize = 131072;
 fn starts_here(frame: Frame, ext: bool, cursor: usize, e: [u8; 11]) -> bool
     ensures { λ r. ⌜ r ≡ startsHere (frame .open) (frame .base) ext cursor e ⌝ }
 {
-    if fields::differ(ext, fields::past_base(frame, e)) {
+    let x = fields::extent_of(frame, ext, e);
+    if x.other {
         return false;
     }
-    fields::off_of(e) == cursor
+    x.off == cursor
 }
 
 // 1 for an entry of the side, else 0.
 fn on_side(frame: Frame, ext: bool, e: [u8; 11]) -> usize
     ensures { λ r. ⌜ (r ≡ onSide (frame .open) (frame .base) ext e) × (r ≤ 1) ⌝ }
 {
-    if fields::differ(ext, fields::past_base(frame, e)) {
+    let x = fields::extent_of(frame, ext, e);
+    if x.other {
         return 0;
     }
     1
@@ -49,8 +51,9 @@ fn seek(layout: &[u8], rows: &[u32], src: Source, frame: Frame, ext: bool, curso
     while 0 < left.count {
         let e = entries::entry_at(layout, rows, left);
         if starts_here(frame, ext, cursor, e) {
+            let x = fields::extent_of(frame, ext, e);
             return Hit {
-                end: fields::end_of(e),
+                end: x.end,
                 rest: entries::rest(left),
             };
         }

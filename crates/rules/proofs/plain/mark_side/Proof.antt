@@ -24,25 +24,25 @@ rest-requires : tie.Need-rest-requires Inv-loop μ-loop
 rest-requires c κs = (c .before .if1 .taken, (c .before .before .before .loop .inv .room .small))
 
 loop-less : tie.Need-loop-less Inv-loop μ-loop
-loop-less c = rw (c .before .before .before .rest .ensures) (omega arith)
+loop-less c = rw (c .before .before .rest .ensures) (omega arith)
 
 loop-again : tie.Need-loop-again Inv-loop μ-loop
-loop-again c = rw (c .before .before .before .rest .ensures) (paint-skip _ _ _ _ _ (c .before .before .before .before .before .before .before .loop .inv) (c .before .before .before .before .before .if1 .taken) (c .before .before .before .before .entry-at .ensures) (rw (c .before .before .past-base .ensures) at (sym (c .before .differ .ensures) ∙ (c .if2 .taken))))
+loop-again c = rw (c .before .before .rest .ensures) (paint-skip _ _ _ _ _ (c .before .before .before .before .before .before .loop .inv) (c .before .before .before .before .if1 .taken) (c .before .before .before .entry-at .ensures) (sym (c .before .extent-of .ensures .other) ∙ c .if2 .taken))
 
 same-length : tie.Need-same-length Inv-loop μ-loop
-same-length c = c .before .before .before .before .before .before .before .before .before .before .before .before .loop .inv .marks .only .long ∙ sym (rw (c .before .before .before .before .before .before .before .before .before .before .before .before .before .before .before .before .pre .1 .1 .1) blank-length)
+same-length c = c .before .before .before .before .before .before .before .before .before .loop .inv .marks .only .long ∙ sym (rw (c .before .before .before .before .before .before .before .before .before .before .before .before .before .pre .1 .1 .1) blank-length)
 
 returns : tie.Need-returns Inv-loop μ-loop
-returns c = paint-clash _ _ _ _ _ (c .before .before .before .before .before .before .before .before .before .before .before .before .loop .inv) (c .before .before .before .before .before .before .before .before .before .before .if1 .taken) (c .before .before .before .before .before .before .before .before .before .entry-at .ensures) (rw (c .before .before .before .before .before .before .before .past-base .ensures) at (sym (c .before .before .before .before .before .before .differ .ensures) ∙ (c .before .before .before .before .before .if2 .left))) (c .before .before .before .before .off-of .ensures .0) (c .before .before .before .end-of .ensures .0) (sym (c .before .is-taken .ensures) ∙ (c .if3 .taken))
+returns c = paint-clash _ _ _ _ _ (c .before .before .before .before .before .before .before .before .before .loop .inv) (c .before .before .before .before .before .before .before .if1 .taken) (c .before .before .before .before .before .before .entry-at .ensures) (sym (c .before .before .before .before .extent-of .ensures .other) ∙ c .before .before .before .if2 .left) (c .before .before .before .before .extent-of .ensures .off) (c .before .before .before .before .extent-of .ensures .end) (sym (c .before .is-taken .ensures) ∙ (c .if3 .taken))
 
 add-owner : tie.Need-add-owner Inv-loop μ-loop
-add-owner c = omega (arith, paint-owner _ _ _ _ _ (c .before .before .before .before .before .before .before .before .before .before .before .before .loop .inv) (c .before .before .before .before .before .before .before .before .before .before .if1 .taken) (c .before .before .before .before .before .before .before .before .before .entry-at .ensures) (rw (c .before .before .before .before .before .before .before .past-base .ensures) at (sym (c .before .before .before .before .before .before .differ .ensures) ∙ (c .before .before .before .before .before .if2 .left))) (c .before .before .before .before .off-of .ensures .0) (c .before .before .before .end-of .ensures .0) (sym (c .before .is-taken .ensures) ∙ (c .if3 .left)))
+add-owner c = omega (arith, paint-owner _ _ _ _ _ (c .before .before .before .before .before .before .before .before .before .loop .inv) (c .before .before .before .before .before .before .before .if1 .taken) (c .before .before .before .before .before .before .entry-at .ensures) (sym (c .before .before .before .before .extent-of .ensures .other) ∙ c .before .before .before .if2 .left) (c .before .before .before .before .extent-of .ensures .off) (c .before .before .before .before .extent-of .ensures .end) (sym (c .before .is-taken .ensures) ∙ (c .if3 .left)))
 
 loop-less-2 : tie.Need-loop-less-2 Inv-loop μ-loop
-loop-less-2 c = rw (c .before .before .before .before .before .before .before .before .before .before .before .before .before .rest .ensures) (omega arith)
+loop-less-2 c = rw (c .before .before .before .before .before .before .before .before .before .before .rest .ensures) (omega arith)
 
 loop-again-2 : tie.Need-loop-again-2 Inv-loop μ-loop
-loop-again-2 c = rw (c .before .before .before .before .before .before .before .before .before .before .before .before .before .rest .ensures) (paint-next _ _ _ _ _ (c .before .before .before .before .before .before .before .before .before .before .before .before .before .before .before .before .before .loop .inv) (c .before .before .before .before .before .before .before .before .before .before .before .before .before .before .before .if1 .taken) (c .before .before .before .before .before .before .before .before .before .before .before .before .before .before .entry-at .ensures) (rw (c .before .before .before .before .before .before .before .before .before .before .before .before .past-base .ensures) at (sym (c .before .before .before .before .before .before .before .before .before .before .before .differ .ensures) ∙ (c .before .before .before .before .before .before .before .before .before .before .if2 .left))) (c .before .before .before .before .before .before .before .before .before .off-of .ensures .0) (c .before .before .before .before .before .before .before .before .end-of .ensures .0) (sym (c .before .before .before .before .before .before .is-taken .ensures) ∙ (c .before .before .before .before .before .if3 .left)) (c .before .before .before .give .ensures) (c .larger .ensures))
+loop-again-2 c = rw (c .before .before .before .before .before .before .before .before .before .before .rest .ensures) (paint-next _ _ _ _ _ (c .before .before .before .before .before .before .before .before .before .before .before .before .before .before .loop .inv) (c .before .before .before .before .before .before .before .before .before .before .before .before .if1 .taken) (c .before .before .before .before .before .before .before .before .before .before .before .entry-at .ensures) (sym (c .before .before .before .before .before .before .before .before .before .extent-of .ensures .other) ∙ c .before .before .before .before .before .before .before .before .if2 .left) (c .before .before .before .before .before .before .before .before .before .extent-of .ensures .off) (c .before .before .before .before .before .before .before .before .before .extent-of .ensures .end) (sym (c .before .before .before .before .before .before .is-taken .ensures) ∙ (c .before .before .before .before .before .if3 .left)) (c .before .before .before .give .ensures) (c .larger .ensures))
 
 same-length-2 : tie.Need-same-length-2 Inv-loop μ-loop
 same-length-2 c = c .before .before .loop .inv .marks .only .long ∙ sym (rw (c .before .before .before .before .before .before .pre .1 .1 .1) blank-length)
@@ -60,11 +60,8 @@ mark-side-spec =
     entry-at-requires
     rest-requires
     (λ c κs. search needs)
-    (λ c κs. search needs)
     loop-less
     loop-again
-    (λ c κs. search needs)
-    (λ c κs. search needs)
     (λ c κs. search needs)
     same-length
     returns

@@ -19,7 +19,7 @@ entry-at-requires : tie.Need-entry-at-requires Inv-loop μ-loop
 entry-at-requires c κs = (c .before .before .loop .inv .room, c .if1 .taken)
 
 returns : tie.Need-returns Inv-loop μ-loop
-returns c = (fields-stop _ _ _ _ _ _ _ _ (c .before .before .before .before .before .before .before .before .loop .inv) (c .before .before .before .before .before .before .if1 .taken) (c .before .before .before .before .before .entry-at .ensures) (c .before .before .before .id-of .ensures) (search needs) (c .before .before .is-marked .ensures) (c .before .check-field .ensures) (c .if2 .taken), λ z. absurd (c .if2 .taken z))
+returns c = (fields-stop _ _ _ _ _ _ _ _ (c .before .before .before .before .before .before .before .before .loop .inv) (c .before .before .before .before .before .before .if1 .taken) (c .before .before .before .before .before .entry-at .ensures) (c .before .before .before .before .class-of .ensures .id) (search needs) (c .before .before .is-marked .ensures) (c .before .check-field .ensures) (c .if2 .taken), λ z. absurd (c .if2 .taken z))
 
 rest-requires : tie.Need-rest-requires Inv-loop μ-loop
 rest-requires c κs = (c .before .before .before .before .before .before .before .before .if1 .taken, c .before .before .before .before .before .before .before .before .before .before .loop .inv .room .small)
@@ -28,7 +28,7 @@ loop-less : tie.Need-loop-less Inv-loop μ-loop
 loop-less c = rw (c .rest .ensures) (omega arith)
 
 loop-again : tie.Need-loop-again Inv-loop μ-loop
-loop-again c = rw (c .rest .ensures) (fields-go _ _ _ _ _ _ _ _ (c .before .before .before .before .before .before .before .before .before .before .before .loop .inv) (c .before .before .before .before .before .before .before .before .before .if1 .taken) (c .before .before .before .before .before .before .before .before .entry-at .ensures) (c .before .before .before .before .before .before .id-of .ensures) (search needs) (c .before .before .before .before .before .is-marked .ensures) (c .before .before .before .before .check-field .ensures) (c .before .before .before .if2 .left) (c .before .note .ensures))
+loop-again c = rw (c .rest .ensures) (fields-go _ _ _ _ _ _ _ _ (c .before .before .before .before .before .before .before .before .before .before .before .loop .inv) (c .before .before .before .before .before .before .before .before .before .if1 .taken) (c .before .before .before .before .before .before .before .before .entry-at .ensures) (c .before .before .before .before .before .before .before .class-of .ensures .id) (search needs) (c .before .before .before .before .before .is-marked .ensures) (c .before .before .before .before .check-field .ensures) (c .before .before .before .if2 .left) (c .before .note .ensures))
 
 returns-2 : tie.Need-returns-2 Inv-loop μ-loop
 returns-2 c = (fields-end _ _ _ _ _ _ _ _ (c .before .before .loop .inv) (c .if1 .left), λ _. fields-marks _ _ _ _ _ _ _ _ (c .before .before .loop .inv) (c .if1 .left))

@@ -25,7 +25,7 @@ loop-less : tie.Need-loop-less Inv-loop μ-loop
 loop-less c = rw (c .rest .ensures) (omega arith)
 
 loop-again : tie.Need-loop-again Inv-loop μ-loop
-loop-again c = rw (c .rest .ensures) (align-go _ _ _ (c .before .before .before .before .before .before .loop .inv) (c .before .before .before .before .if1 .taken) (c .before .before .before .entry-at .ensures) (c .before .before .member-align .ensures) (c .before .larger .ensures))
+loop-again c = rw (c .rest .ensures) (align-go _ _ _ (c .before .before .before .before .before .before .loop .inv) (c .before .before .before .before .if1 .taken) (c .before .before .before .entry-at .ensures) (c .before .before .class-of .ensures .align) (c .before .larger .ensures))
 
 returns : tie.Need-returns Inv-loop μ-loop
 returns c = align-end _ _ _ (c .before .before .loop .inv) (c .if1 .left)

@@ -5,11 +5,11 @@ use Rattle.rules.proofs.sequence.wipe_ids.Statement.{statement}
 use Rattle.rules.proofs.sequence.wipe_ids.Tie as tie
 
 abbrev Inv-loop : tie.InvT-loop
-Inv-loop layout rows marks₀ left₀ marks left =
+Inv-loop sheet layout rows marks₀ left₀ marks left =
     Wiping layout rows left marks
 
 abbrev μ-loop : tie.MeasureT-loop
-μ-loop layout rows marks₀ left₀ marks left =
+μ-loop sheet layout rows marks₀ left₀ marks left =
     left .count
 
 loop-holds : tie.Need-loop-holds Inv-loop μ-loop
@@ -25,7 +25,7 @@ loop-less : tie.Need-loop-less Inv-loop μ-loop
 loop-less c = rw (c .rest .ensures) (omega arith)
 
 loop-again : tie.Need-loop-again Inv-loop μ-loop
-loop-again c = rw (c .rest .ensures) (wipe-go _ _ (c .before .before .before .before .before .before .before .loop .inv) (c .before .before .before .before .before .if1 .taken) (c .before .before .before .before .entry-at .ensures) (c .before .before .id-of .ensures) (search needs) (c .before .wipe .ensures))
+loop-again c = rw (c .rest .ensures) (wipe-go _ _ (c .before .before .before .before .before .before .before .loop .inv) (c .before .before .before .before .before .if1 .taken) (c .before .before .before .before .entry-at .ensures) (c .before .before .before .class-of .ensures .id) (search needs) (c .before .wipe .ensures))
 
 returns : tie.Need-returns Inv-loop μ-loop
 returns c = wipe-end _ _ (c .before .before .loop .inv) (c .if1 .left)

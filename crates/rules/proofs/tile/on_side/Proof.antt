@@ -6,10 +6,10 @@ use Rattle.rules.proofs.tile.on_side.Statement.{statement}
 use Rattle.rules.proofs.tile.on_side.Tie as tie
 
 returns : tie.Need-returns
-returns c = (side-other _ _ _ _ (rw (c .before .before .past-base .ensures) at (sym (c .before .differ .ensures) ∙ c .if1 .taken)), lit≤ tt)
+returns c = (side-other _ _ _ _ (sym (c .before .extent-of .ensures .other) ∙ c .if1 .taken), lit≤ tt)
 
 returns-2 : tie.Need-returns-2
-returns-2 c = (side-this _ _ _ _ (rw (c .before .before .past-base .ensures) at (sym (c .before .differ .ensures) ∙ c .if1 .left)), lit≤ tt)
+returns-2 c = (side-this _ _ _ _ (sym (c .before .extent-of .ensures .other) ∙ c .if1 .left), lit≤ tt)
 
 pub on-side-spec : {M : Type 1} → statement M
-on-side-spec = tie.close (tie.spec (λ c κs. search needs) (λ c κs. search needs) returns returns-2)
+on-side-spec = tie.close (tie.spec (λ c κs. search needs) returns returns-2)

@@ -23,7 +23,7 @@ rest-requires : tie.Need-rest-requires Inv-loop μ-loop
 rest-requires c κs = (c .before .before .before .before .if1 .taken, seek-room _ _ _ _ _ (c .before .before .before .before .before .before .loop .inv) .small)
 
 returns : tie.Need-returns Inv-loop μ-loop
-returns c = seek-hit _ _ _ _ _ (c .before .before .before .before .before .before .before .loop .inv) (c .before .before .before .before .before .if1 .taken) (c .before .before .before .before .entry-at .ensures) (sym (c .before .before .before .starts-here .ensures) ∙ c .before .before .if2 .taken) (c .before .end-of .ensures .0) (c .before .end-of .ensures .1) (c .rest .ensures)
+returns c = seek-hit _ _ _ _ _ (c .before .before .before .before .before .before .before .loop .inv) (c .before .before .before .before .before .if1 .taken) (c .before .before .before .before .entry-at .ensures) (sym (c .before .before .before .starts-here .ensures) ∙ c .before .before .if2 .taken) (c .before .extent-of .ensures .end) (c .before .extent-of .ensures .end-low) (c .rest .ensures)
 
 rest-requires-2 : tie.Need-rest-requires-2 Inv-loop μ-loop
 rest-requires-2 c κs = (c .before .before .before .if1 .taken, seek-room _ _ _ _ _ (c .before .before .before .before .before .loop .inv) .small)
