@@ -15,7 +15,7 @@ use Rattle.codec.specs.Laws.{bind-ok}
 use Rattle.codec.specs.Steps.{raw-got, raw-bad, num-got, num-bad}
 use Rattle.codec.specs.Remainder.{remainder}
 use Rattle.text.specs.Utf8.{utf8}
-use Rattle.text.specs.Date.{isDate}
+use Rattle.dates.specs.Date.{isDate}
 use Rattle.layout.specs.Layout.{Layout, Parts, parts, toLayout, fromLayout}
 use Rattle.layout.specs.Given.{D, layoutOf}
 use Rattle.symbology.specs.Symbology.{Symbology, symbology}

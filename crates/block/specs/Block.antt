@@ -8,7 +8,7 @@ use lib.Dec.{leb, eqb}
 use Rattle.codec.specs.Codec.{Res, ok, refuse, _>>=_, need, Codec, raw, skip, num, _then_, _on_, named, checked, judged, some, sized, whole, boxed, isNil, full}
 use Rattle.codec.specs.Remainder.{remainder}
 use Rattle.text.specs.Utf8.{utf8}
-use Rattle.text.specs.Date.{isDate}
+use Rattle.dates.specs.Date.{isDate}
 use Rattle.numbers.specs.Pick.{pick}
 use Rattle.layout.specs.Layout.{Layout, Parts, parts, toLayout, fromLayout}
 use Rattle.layout.specs.Given.{D}

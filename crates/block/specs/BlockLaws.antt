@@ -9,7 +9,7 @@ use Rattle.codec.specs.Codec.{Res, ok, Bytes, Codec, little, raw, skip, num, _t
 use Rattle.codec.specs.Laws.{Law, Same, whole-free, law-raw, law-skip, law-num, law-then, law-on, law-named, law-checked, law-judged, law-some, law-sized, law-boxed, law-full}
 use Rattle.codec.specs.Remainder.{law-remainder}
 use Rattle.text.specs.Utf8.{utf8}
-use Rattle.text.specs.Date.{isDate}
+use Rattle.dates.specs.Date.{isDate}
 use Rattle.layout.specs.Given.{D}
 use Rattle.layout.specs.Layout.{Layout, Parts, parts}
 use Rattle.layout.specs.LayoutLaws.{law-parts}

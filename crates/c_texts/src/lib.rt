@@ -1,7 +1,7 @@
 // C functions on one text and one number. Nothing here but calls of the layers.
 ghost use mathlib.Core.Path.{_≡_};
 ghost use Rattle.text.specs.Utf8.{utf8};
-ghost use Rattle.text.specs.Date.{isDate};
+ghost use Rattle.dates.specs.Date.{isDate};
 ghost use Rattle.c_texts.specs.Numbers.{bit};
 
 // 1 where the bytes are UTF-8, else 0.
@@ -17,5 +17,5 @@ pub extern "C" fn dbn_text(s: &[u8]) -> u32
 pub extern "C" fn dbn_date(yyyymmdd: u32) -> u32
     ensures { λ r. ⌜ r ≡ bit (isDate yyyymmdd) ⌝ }
 {
-    if text::is_date(yyyymmdd) { 1 } else { 0 }
+    if dates::is_date(yyyymmdd) { 1 } else { 0 }
 }

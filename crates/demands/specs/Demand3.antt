@@ -14,7 +14,7 @@ use Rattle.codec.specs.Codec.{Res, ok, refuse, _>>=_, need, Bytes, Codec, raw, 
 use Rattle.codec.specs.Laws.{bind-ok, need-ok, whole-reads, whole-back, Whole}
 use Rattle.codec.specs.Edits.{Marked, bytesOf, Edit, put}
 use Rattle.text.specs.Utf8.{utf8}
-use Rattle.text.specs.Date.{isDate}
+use Rattle.dates.specs.Date.{isDate}
 use Rattle.layout.specs.Given.{D}
 use Rattle.layout.specs.Layout.{parts, fromLayout, toLayout, bareLayout}
 use Rattle.layout.specs.Rows.{rows}

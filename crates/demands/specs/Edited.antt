@@ -14,7 +14,7 @@ use Rattle.codec.specs.Edits.{Marked, kept, free, _and_, box, bytesOf, Edit, pu
 use Rattle.codec.specs.EditLaws.{put-all, marks-kept, marks-skip, marks-then, marks-on, marks-named, marks-checked, marks-judged, marks-some, marks-boxed}
 use Rattle.codec.specs.MoveLaws.{Inside, inside, put-kept}
 use Rattle.text.specs.Utf8.{utf8}
-use Rattle.text.specs.Date.{isDate}
+use Rattle.dates.specs.Date.{isDate}
 use Rattle.layout.specs.Given.{D}
 use Rattle.layout.specs.Layout.{Layout, Parts, parts, toLayout, fromLayout, printLayout, locateLayout, bareLayout, LegalLayout}
 use Rattle.layout.specs.LayoutLaws.{law-parts, parse-print, layout-octets}

@@ -14,7 +14,7 @@ use borrow.Author.Tests.{le-leb}
 use Rattle.codec.specs.Codec.{Res, ok, refuse, _>>=_, need, Bytes, Codec, little, value, raw, skip, num, _then_, _on_, named, checked, judged, some, whole, boxed, isNil, full}
 use Rattle.codec.specs.Laws.{Law, Here, law-boxed, whole-back}
 use Rattle.text.specs.Utf8.{utf8}
-use Rattle.text.specs.Date.{isDate}
+use Rattle.dates.specs.Date.{isDate}
 use Rattle.layout.specs.Given.{D}
 use Rattle.layout.specs.Layout.{printLayout}
 use Rattle.symbology.specs.Symbology.{Symbology, symbology}

@@ -6,8 +6,9 @@ use mathlib.Core.Bool.{Bool, true, false}
 use mathlib.Core.List.{List, [], _∷_}
 use Rattle.codec.specs.Codec.{Res, ok, refuse, _>>=_, raw, num, byte, _then_, named, checked, placed, sized, times, distinct, counted, whole, boxed}
 use Rattle.text.specs.Utf8.{utf8}
-use Rattle.text.specs.Date.{isDate}
-use Rattle.text.specs.Hand.{p12, p13}
+use Rattle.dates.specs.Date.{isDate}
+use Rattle.dates.specs.Hand.{p12}
+use Rattle.text.specs.Hand.{p13}
 use Rattle.wire.specs.Formats.{section, text, name}
 use Rattle.layout.specs.Layout.{label, labelDef, parts, groups, readLayout}
 use Rattle.layout.specs.Given.{layoutOf}

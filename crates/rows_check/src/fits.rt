@@ -259,7 +259,7 @@ fn name_clean(rows: &[u32], text: &[u8], q: usize) -> bool
 fn is_clean(s: &[u8]) -> bool
     ensures { λ r. ⌜ r ≡ clean (now (s .entry)) ⌝ }
 {
-    if text::is_plain(s) {
+    if plain_text::is_plain(s) {
         return true;
     }
     if wire::has_nul(s) {

@@ -1,10 +1,8 @@
 pub mod Utf8
 pub mod And
-pub mod Plain
 pub mod Ascii
 pub mod Rows
 pub mod Trim
-pub mod Date
 pub mod Hand
 pub mod Utf8Laws
 pub mod TrimLaws

@@ -9,7 +9,8 @@ use native.Mathlib.Omega.{arith}
 use borrow.Author.Tests.{lt-leb}
 use lib.Dec.{T, leb, ltb}
 use lib.ListN.{length, take, replicate}
-use Rattle.text.specs.Utf8.{Range, _to_, Expect, table37, both, within, pick, starts, step, ended, goes, utf8}
+use Rattle.text.specs.Utf8.{Range, _to_, Expect, table37, within, pick, starts, step, ended, goes, utf8}
+use Rattle.codec.specs.Every.{both}
 use Rattle.text.specs.Trim.{trimmedLen}
 use Rattle.text.specs.TrimLaws.{trimmed-split}
 

@@ -11,7 +11,7 @@ use lib.Dec.{eqb}
 use borrow.Author.Tests.{le-leb, lt-leb, eq-eqb, ne-eqb}
 use Rattle.codec.specs.Codec.{among}
 use Rattle.text.specs.Utf8.{utf8}
-use Rattle.text.specs.Plain.{plain, plain-utf8}
+use Rattle.plain_text.specs.Plain.{plain, plain-utf8}
 use Rattle.wire.specs.NameLaws.{plain-nul}
 use Rattle.wire.specs.Wire.{closeAt, textAt}
 use Rattle.numbers.specs.Numbers.{part}

@@ -69,7 +69,7 @@ fn text_at(s: &[u8], b: usize, len: usize) -> Got
     if len <= numbers::left(s, b) {
         let e = b + len;
         let t = &s[b..e];
-        if text::is_plain(t) {
+        if plain_text::is_plain(t) {
             return close_at(s, e, len);
         }
         if has_nul(t) {

@@ -1,10 +1,10 @@
 -- `leap` meets its contract.
 -- Assumes nothing.
 use borrow.Author.Tests.{eq-eqb, ne-eqb}
-use Rattle.text.specs.Date.{isLeap}
+use Rattle.dates.specs.Date.{isLeap}
 use borrow.Author.Needs.{needs}
-use Rattle.text.proofs.dates.leap.Statement.{statement}
-use Rattle.text.proofs.dates.leap.Tie as tie
+use Rattle.dates.proofs.leap.Statement.{statement}
+use Rattle.dates.proofs.leap.Tie as tie
 
 returns : tie.Need-returns
 unfolding isLeap

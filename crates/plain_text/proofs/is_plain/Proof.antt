@@ -5,10 +5,10 @@ use mathlib.Core.Path.{refl, sym, _∙_}
 use native.Mathlib.Omega.{arith}
 use lib.ListN.{length}
 use borrow.Author.Tests.{not-true, not-false}
-use Rattle.text.proofs.Eights.{Scan, eight-miss, eight-next, last-eight}
+use Rattle.plain_text.proofs.Eights.{Scan, eight-miss, eight-next, last-eight}
 use borrow.Author.Needs.{needs}
-use Rattle.text.proofs.plain.is_plain.Statement.{statement}
-use Rattle.text.proofs.plain.is_plain.Tie as tie
+use Rattle.plain_text.proofs.is_plain.Statement.{statement}
+use Rattle.plain_text.proofs.is_plain.Tie as tie
 
 abbrev Inv-loop : tie.InvT-loop
 Inv-loop s i₀ i = Scan s i

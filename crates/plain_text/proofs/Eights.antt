@@ -7,8 +7,8 @@ use native.Mathlib.Numerals.{add-one}
 use native.Mathlib.Omega.{arith}
 use lib.ListN.{length, getD, take, drop, length-drop, drop-of-length-le}
 use lib.Seq.{drop-cons, drop-drop, take-all}
 use Rattle.text.specs.And.{and-true, and-false, and-join}
-use Rattle.text.specs.Plain.{plainByte, plain}
+use Rattle.plain_text.specs.Plain.{plainByte, plain}
 
 -- one byte more of the eight from a on
 pub eight-one : (s : List ℕ) (a j : ℕ) (x : Bool) → a + 8 ≤ length s → j < 8

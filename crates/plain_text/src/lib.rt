@@ -2,7 +2,7 @@
 ghost use mathlib.Core.Path.{_≡_};
 ghost use Prim.Native.Nat.{_+_, _≤_};
 ghost use lib.ListN.{length, take, drop};
-ghost use Rattle.text.specs.Plain.{plainByte, plain};
+ghost use Rattle.plain_text.specs.Plain.{plainByte, plain};
 
 // Whether every byte of s is from 1 to 127. Eight bytes are looked at together, the last eight once more.
 pub fn is_plain(s: &[u8]) -> bool

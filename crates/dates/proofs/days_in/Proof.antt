@@ -2,11 +2,11 @@
 -- Assumes nothing.
 use mathlib.Core.Path.{_≡_, _∙_, sym}
 use native.Mathlib.Omega.{arith}
-use Rattle.text.specs.Date.{daysIn}
-use Rattle.text.proofs.Days.{other, past}
+use Rattle.dates.specs.Date.{daysIn}
+use Rattle.dates.proofs.Days.{other, past}
 use borrow.Author.Needs.{needs}
-use Rattle.text.proofs.dates.days_in.Statement.{statement}
-use Rattle.text.proofs.dates.days_in.Tie as tie
+use Rattle.dates.proofs.days_in.Statement.{statement}
+use Rattle.dates.proofs.days_in.Tie as tie
 
 leap-requires : tie.Need-leap-requires
 leap-requires c κs = search needs

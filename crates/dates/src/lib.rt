@@ -1,6 +1,6 @@
 // Dates, written year x 10000 + month x 100 + day.
 ghost use mathlib.Core.Path.{_≡_};
-ghost use Rattle.text.specs.Date.{isLeap, daysIn, isDate};
+ghost use Rattle.dates.specs.Date.{isLeap, daysIn, isDate};
 
 // Whether n is a date of the Gregorian calendar, of the years 0 to 9999.
 pub fn is_date(n: u32) -> bool

@@ -5,11 +5,11 @@ use mathlib.Core.Path.{_≡_, sym, _∙_}
 use mathlib.Core.Bool.{_&&_}
 use native.Mathlib.Nat.{add-zero, sub-zero}
 use lib.ListN.{take, drop}
-use Rattle.text.specs.Plain.{plain}
-use Rattle.text.proofs.Eights.{eight-one, eight-none}
+use Rattle.plain_text.specs.Plain.{plain}
+use Rattle.plain_text.proofs.Eights.{eight-one, eight-none}
 use borrow.Author.Needs.{needs}
-use Rattle.text.proofs.plain.eight.Statement.{statement}
-use Rattle.text.proofs.plain.eight.Tie as tie
+use Rattle.plain_text.proofs.eight.Statement.{statement}
+use Rattle.plain_text.proofs.eight.Tie as tie
 
 abbrev Inv-loop : tie.InvT-loop
 Inv-loop s a all₀ j₀ all j =

@@ -4,10 +4,10 @@ use mathlib.Core.Path.{refl, sym, _∙_}
 use native.Mathlib.Omega.{arith}
 use lib.ListN.{length}
 use borrow.Author.Tests.{not-true, not-false}
-use Rattle.text.proofs.Eights.{Scan, scan-miss, scan-next, scan-end}
+use Rattle.plain_text.proofs.Eights.{Scan, scan-miss, scan-next, scan-end}
 use borrow.Author.Needs.{needs}
-use Rattle.text.proofs.plain.by_one.Statement.{statement}
-use Rattle.text.proofs.plain.by_one.Tie as tie
+use Rattle.plain_text.proofs.by_one.Statement.{statement}
+use Rattle.plain_text.proofs.by_one.Tie as tie
 
 abbrev Inv-loop : tie.InvT-loop
 Inv-loop s i₀ i = Scan s i

@@ -5,10 +5,10 @@ use Prim.Native.Nat.{ℕ, _/_, _%_}
 use native.Mathlib.Omega.{arith}
 use borrow.Author.Tests.{le-leb, lt-leb}
 use lib.Dec.{leb}
-use Rattle.text.specs.Date.{isDate, isDay}
+use Rattle.dates.specs.Date.{isDate, isDay}
 use borrow.Author.Needs.{needs}
-use Rattle.text.proofs.dates.is_date.Statement.{statement}
-use Rattle.text.proofs.dates.is_date.Tie as tie
+use Rattle.dates.proofs.is_date.Statement.{statement}
+use Rattle.dates.proofs.is_date.Tie as tie
 
 returns : tie.Need-returns
 unfolding isDate isDay

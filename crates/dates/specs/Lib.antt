@@ -1,0 +1,3 @@
+pub mod Date
+pub mod Hand
+pub mod Single
