@@ -1,4 +1,4 @@
-//! The C functions of crate `dbn_c`, as `include/dbn_start.h` declares them.
+//! The C functions of the library `dbn_c`, as `include/dbn_start.h` declares them.
 //!
 //! Each answers a refusal number (0: accepted), but [`dbn_text`] and [`dbn_date`], which answer 1 for yes and 0 for no.
 //! A slice is a pointer and a length. What `out` does not name keeps its value. Lent buffers must not overlap.

@@ -1,6 +1,6 @@
 //! The start of a DBN stream: prelude, metadata, symbology and layout, read by proved code.
 //!
-//! The reading itself is done by the C functions of crate `dbn_c` ([`ffi`]), whose promises are proved. This module lends
+//! The reading itself is done by the C functions of the library `dbn_c` ([`ffi`]), whose promises are proved. This module lends
 //! them their buffers and gives back names as parts of the caller's own bytes. [`Feed`] takes a stream in pieces,
 //! [`Block`] and [`Layout`] take what is already whole, and [`Refusal`] is the number, with a sentence, of what was refused.
 
