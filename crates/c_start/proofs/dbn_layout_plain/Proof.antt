@@ -1,8 +1,8 @@
 -- Case by case on the verdict. Assumes nothing.
 use mathlib.Core.Path.{sym, _∙_}
 use borrow.Author.Needs.{needs}
-use Rattle.c_layouts.proofs.dbn_layout_plain.Statement.{statement}
-use Rattle.c_layouts.proofs.dbn_layout_plain.Tie as tie
+use Rattle.c_start.proofs.dbn_layout_plain.Statement.{statement}
+use Rattle.c_start.proofs.dbn_layout_plain.Tie as tie
 
 returns : tie.Need-returns
 returns c = let e = sym (c .before .before .before .check-layout-plain .ensures) ∙ c .before .version .given .1 in record { number = simp e; out = simp e }

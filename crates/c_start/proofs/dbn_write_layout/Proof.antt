@@ -2,8 +2,8 @@
 -- Assumes nothing.
 use mathlib.Core.Path.{sym, _∙_}
 use borrow.Author.Needs.{needs}
-use Rattle.c_layouts.proofs.dbn_write_layout.Statement.{statement}
-use Rattle.c_layouts.proofs.dbn_write_layout.Tie as tie
+use Rattle.c_start.proofs.dbn_write_layout.Statement.{statement}
+use Rattle.c_start.proofs.dbn_write_layout.Tie as tie
 
 returns : tie.Need-returns
 returns c = let p = c .before .before .before .before .before .write-layout .ensures in let e = sym (p .is) ∙ c .before .n .given .1 in record { number = simp e; out = simp e; output = p .leaves }
