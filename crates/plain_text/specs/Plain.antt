@@ -1,12 +1,12 @@
 -- Texts of bytes from 1 to 127. Assumes nothing.
-use Prim.Native.Nat.{ℕ, _<_, _≤_, zero-le}
-use native.Mathlib.Omega.{arith}
+use Prim.Native.Nat.{ℕ, _<_}
 use mathlib.Core.Path.{_≡_, refl}
 use mathlib.Core.Bool.{Bool, true, _&&_}
 use mathlib.Core.List.{List, [], _∷_}
 use lib.Dec.{ltb}
-use borrow.Author.Tests.{ltb-true, le-leb}
+use borrow.Author.Tests.{ltb-true, lt-ltb}
 use Rattle.text.specs.Utf8.{utf8}
+use Rattle.text.specs.Ascii.{ascii, ascii-utf8}
 use Rattle.text.specs.And.{and-left, and-right}
 
 -- a byte from 1 to 127
@@ -24,11 +24,13 @@ plain-next b s e =
     let x = and-left (plainByte b) (plain s) e in
     (ltb-true 0 b (and-left (ltb 0 b) (ltb b 128) x), ltb-true b 128 (and-right (ltb 0 b) (ltb b 128) x), and-right (plainByte b) (plain s) e)
 
--- a plain text is UTF-8
-pub plain-utf8 : (s : List ℕ) → plain s ≡ true → utf8 s ≡ true
-unfolding utf8
-plain-utf8 [] e = refl
-plain-utf8 (b ∷ s) e =
+-- its bytes are below 128
+plain-ascii : (s : List ℕ) → plain s ≡ true → ascii s ≡ true
+plain-ascii [] e = refl
+plain-ascii (b ∷ s) e =
     let (low, high, rest) = plain-next b s e in
-    let under : b ≤ 127 = omega arith in
-    rw (le-leb 0 b zero-le, le-leb b 127 under) (plain-utf8 s rest)
+    rw (lt-ltb b 128 high) (plain-ascii s rest)
+
+-- so it is UTF-8
+pub plain-utf8 : (s : List ℕ) → plain s ≡ true → utf8 s ≡ true
+plain-utf8 s e = ascii-utf8 s (plain-ascii s e)

@@ -4,4 +4,5 @@ pub mod TableLaws
 pub mod FlatLaws
 pub mod MoveLaws
 pub mod PartLaws
+pub mod Steps
 pub mod Single
