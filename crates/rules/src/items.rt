@@ -5,6 +5,7 @@ use crate::Next;
 use crate::Place;
 use crate::Task;
 use crate::sequence;
+use crate::sequence::seq_fault;
 use crate::walk;
 use fields::Frame;
 ghost use mathlib.Core.Path.{_≡_};
@@ -89,23 +90,14 @@ fn struct_fault(
     if item.base % a != 0 {
         return refusal::STRUCT_SIZE;
     }
-    let frame = Frame {
+    let f = Frame {
         open: false,
         base: item.base,
         width: task.width,
         labels: task.labels,
     };
-    sequence::seq_fault(
-        sheet,
-        aligns,
-        layout,
-        rows,
-        item,
-        frame,
-        marks,
-        task.plain,
-        owners,
-    )
+    let plain = task.plain;
+    seq_fault(sheet, aligns, layout, rows, item, f, marks, plain, owners)
 }
 
 // The first of numbers 61 to 64 and 70 to 83 that a record gives, or 0; `twice` says that its rtype came before.
@@ -134,30 +126,20 @@ fn record_fault(
     if item.rtype % 256 == 78 {
         return refusal::RTYPE_RESERVED;
     }
-    let header = wide(sheet[518]);
-    if item.base < header {
+    if item.base < wide(sheet[518]) {
         return refusal::BASE_BELOW_HEADER;
     }
     if item.base % 8 != 0 {
         return refusal::BASE_NOT_OF_8;
     }
-    let frame = Frame {
+    let f = Frame {
         open: true,
         base: item.base,
         width: task.width,
         labels: task.labels,
     };
-    sequence::seq_fault(
-        sheet,
-        aligns,
-        layout,
-        rows,
-        item,
-        frame,
-        marks,
-        task.plain,
-        owners,
-    )
+    let plain = task.plain;
+    seq_fault(sheet, aligns, layout, rows, item, f, marks, plain, owners)
 }
 
 // The first number that a struct gives, in table order, or 0.
@@ -213,18 +195,8 @@ fn records_fault(
         match walk::next_item(layout, rows, true, p) {
             Next::Found(item, after) => {
                 let rtype = item.rtype;
-                let twice = marks::is_marked(&rtypes, rtype);
-                let v = record_fault(
-                    sheet,
-                    aligns,
-                    layout,
-                    rows,
-                    item,
-                    twice,
-                    task,
-                    marks,
-                    owners,
-                );
+                let seen = marks::is_marked(&rtypes, rtype);
+                let v = record_fault(sheet, aligns, layout, rows, item, seen, task, marks, owners);
                 if v != 0 {
                     return v;
                 }
