@@ -1,7 +1,6 @@
 pub mod Block
 pub mod Fields
 pub mod Read
-pub mod Given
 pub mod BlockLaws
 pub mod Steps
 pub mod Single

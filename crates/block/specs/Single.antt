@@ -2,13 +2,8 @@
 use Prim.Native.Nat.{ℕ}
 use mathlib.Core.Path.{_≡_, sym, _∙_}
 use mathlib.Core.List.{List}
-use Rattle.layout.specs.declared.Answer.{Answer}
 use Rattle.block.specs.Read.{Promise}
-use Rattle.block.specs.Given.{Ruled}
 use Rattle.block.specs.declared.BlockAnswer.{BlockAnswer}
 
 pub read-block-single : {v : ℕ} {b t s l s₁ l₁ s₂ l₂ : List ℕ} {r₁ r₂ : BlockAnswer} → Promise v b t s l r₁ s₁ l₁ → Promise v b t s l r₂ s₂ l₂ → (r₁ ≡ r₂) × (s₁ ≡ s₂) × (l₁ ≡ l₂)
 read-block-single p q = (p .answer ∙ sym (q .answer), p .symbology ∙ sym (q .symbology), p .layout ∙ sym (q .layout))
-
-pub read-layout-single : {w : ℕ} {s sheet t t₁ t₂ : List ℕ} {r₁ r₂ : Answer} → Ruled s w sheet t t₁ r₁ → Ruled s w sheet t t₂ r₂ → (r₁ ≡ r₂) × (t₁ ≡ t₂)
-read-layout-single p q = (p .is ∙ sym (q .is), p .leaves ∙ sym (q .leaves))

@@ -6,7 +6,6 @@ ghost use mathlib.Core.Path.{_≡_};
 ghost use Rattle.codec.specs.Codec.{whole};
 ghost use Rattle.block.specs.Block as Block;
 ghost use Rattle.block.specs.Read.{Promise};
-ghost use Rattle.block.specs.Given.{Ruled};
 ghost use Rattle.block.specs.Steps.{Headed, Does};
 
 // What may be absent.
@@ -93,25 +92,6 @@ pub fn read_block(
     }
     let width = header::symbol_width(block, v);
     read_body(block, v, width, sheet, symbology, layout)
-}
-
-// A layout given with a symbol width: 13, the layout, its rules, then 3. The table is written only where all is accepted and it
-// is long enough.
-pub fn read_layout(
-    layout: &[u8],
-    width: u16,
-    sheet: &[u16; 520],
-    table: &mut [u32],
-) -> layout::Answer
-    ensures { λ r. ⌜ Ruled (now (layout .entry)) width (now (sheet .entry)) (now (table .entry)) (now (table .exit)) r ⌝ }
-{
-    match engines::check_layout(layout, width, sheet) {
-        layout::Verdict::Accepted {
-            version: _,
-            rows: _,
-        } => layout::read_layout_rows(layout, table),
-        layout::Verdict::Refused(why) => layout::Answer::Refused(why),
-    }
 }
 
 // What follows an accepted header: layout and symbology, then 3 for a table that is short, then the rows.

@@ -20,10 +20,6 @@ step-one {d = d} g h =
     let e = g .answer ∙ sym (h .answer) in
     (e, g .reader ∙ (ap (moved d) e ∙ sym (h .reader)))
 
--- of `u16_in` and `name_in`
-pub read-one : (f : List ℕ → ℕ → Got) (s : List ℕ) (at : ℕ) (r q : Got) → r ≡ f s at → q ≡ f s at → r ≡ q
-read-one f s at r q e g = e ∙ sym g
-
 -- of `label_in`
 pub label-one : {s : List ℕ} {at : ℕ} {x y : Label} → LabelIs s at x → LabelIs s at y → x ≡ y
 label-one {s} {at} {x} {y} g h =

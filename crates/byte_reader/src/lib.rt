@@ -1,10 +1,10 @@
 // A reader that keeps its section and its place together. Each step takes the reader apart, calls the reader of a slice at its
-// place, and moves the place past what was read. The functions at the end take a slice and a place, so that who calls them
-// does not hold a reader.
+// place, and moves the place past what was read. The function at the end takes a slice and a place, so that who calls it does
+// not hold a reader.
 use numbers::Got;
 ghost use mathlib.Core.Path.{_≡_};
 ghost use Prim.Native.Nat.{_+_};
-ghost use Rattle.numbers.specs.Numbers.{takeAt, numAt, Past};
+ghost use Rattle.numbers.specs.Numbers.{takeAt, numAt};
 ghost use Rattle.wire.specs.Wire.{nameAt};
 ghost use Rattle.byte_reader.specs.Reader.{after, Stepped, LabelIs};
 
@@ -62,22 +62,6 @@ impl Label {
     {
         Label { code, name }
     }
-}
-
-// The u16 at `at`; `why` where it runs past the end.
-pub fn u16_in(s: &[u8], at: usize, why: u32) -> Got
-    ensures { λ r. ⌜ (r ≡ numAt why 2 (now (s .entry)) at) × Past 65536 2 (now (s .entry)) at r ⌝ }
-{
-    let mut reader = ByteReader { buf: s, pos: at };
-    reader.u16(why)
-}
-
-// The length of the text of the name at `at`, which starts one byte later.
-pub fn name_in(s: &[u8], at: usize) -> Got
-    ensures { λ r. ⌜ (r ≡ nameAt (now (s .entry)) at) × Past 256 2 (now (s .entry)) at r ⌝ }
-{
-    let mut reader = ByteReader { buf: s, pos: at };
-    reader.name()
 }
 
 // The label at `at`: the name is read where the reader stands after the code.

@@ -1,9 +1,9 @@
 -- What the C functions of a stream's start give for each case of an answer: document 01's number, and the values in `out`.
 -- Assumes nothing.
-use Prim.Native.Nat.{ℕ, _+_, _*_, _/_}
+use Prim.Native.Nat.{ℕ, _+_, _*_}
 use mathlib.Core.Path.{_≡_}
 use mathlib.Core.List.{List, [], _∷_}
-use lib.ListN.{length, set}
+use lib.ListN.{set}
 use lib.Seq.{sets}
 use Rattle.block.specs.Read.{blockAnswer, blockSymbology, blockLayout}
 use Rattle.block.specs.declared.Fields.{Fields}
@@ -12,29 +12,9 @@ use Rattle.block.specs.declared.Optional.the-variants.{Absent, Present}
 use Rattle.block.specs.declared.BlockAnswer.{BlockAnswer}
 use Rattle.block.specs.declared.BlockAnswer.the-variants.{Read}
 use Rattle.feed.specs.Feeding.{stageOf, takenOf, heldAfter, storeAfter, answerAt, symbologyAt, layoutAt, answerNumber}
-use Rattle.feed.specs.declared.Stage.{Stage}
-use Rattle.feed.specs.declared.Stage.the-variants.{Whole}
 use Rattle.feed.specs.declared.Answer.{Answer}
 use Rattle.feed.specs.declared.Answer.the-variants.{Needs, Done}
 use Rattle.c_texts.specs.Numbers.{bit}
-use Rattle.layout.specs.Answers.{verdict, judge, leave}
-use Rattle.layout.specs.declared.Answer.{Answer as LayoutAnswer}
-use Rattle.layout.specs.declared.Answer.the-variants as Answer'
-use Rattle.layout.specs.declared.Verdict.{Verdict}
-use Rattle.layout.specs.declared.Verdict.the-variants as Verdict'
-use Rattle.rules.specs.Rules.{ruledOf}
-use Rattle.rows_check.specs.Check.{printed}
-use Rattle.writer.specs.Write.{writeLayout, outAfter}
-use Rattle.writer.specs.declared.Written.{Written}
-use Rattle.writer.specs.declared.Written.the-variants.{Length}
-
--- ---- the prelude
-
--- what is missing; version and block length; a refusal writes nothing
-abbrev pub preludeOut : Stage → List ℕ → List ℕ
-preludeOut (Stage.Needs n) o = n ∷ 0 ∷ 0 ∷ 0 ∷ []
-preludeOut (Stage.Refused e) o = o
-preludeOut (Whole v n) o = 0 ∷ v ∷ n ∷ 0 ∷ []
 
 -- ---- the block
 
@@ -101,56 +81,3 @@ pub record FeedC (k : ℕ) (st p t s l o : List ℕ) (r : ℕ) (st′ s′ l′ 
   pub store : st′ ≡ storeAfter k st p
   pub symbology : s′ ≡ symbologyAt (stageOf (heldAfter k st p) (storeAfter k st p)) (storeAfter k st p) t s l
   pub layout : l′ ≡ layoutAt (stageOf (heldAfter k st p) (storeAfter k st p)) (storeAfter k st p) t s l
-
--- ---- a layout
-
--- 3 for a short table, 0 for an accepted layout
-abbrev pub layoutNumber : LayoutAnswer → ℕ
-layoutNumber (Answer'.Read v n) = 0
-layoutNumber (Answer'.Short n) = 3
-layoutNumber (Answer'.Refused e) = e
-
--- version at 9 and rows at 11; with 3 the rows needed, at 11
-abbrev pub layoutOut : LayoutAnswer → List ℕ → List ℕ
-layoutOut (Answer'.Read v n) o = set (set o 9 v) 11 n
-layoutOut (Answer'.Short n) o = set o 11 n
-layoutOut (Answer'.Refused e) o = o
-
--- THE PROMISE of dbn_layout: the layout s, ruled on with the width w and the sheet, its rows in the table t
-pub record LayoutC (s : List ℕ) (w : ℕ) (sheet t o : List ℕ) (r : ℕ) (t′ o′ : List ℕ) : Type 0 where
-  pub number : r ≡ layoutNumber (judge (length t / 9) (ruledOf sheet w s))
-  pub out : o′ ≡ layoutOut (judge (length t / 9) (ruledOf sheet w s)) o
-  pub rows : t′ ≡ leave t (ruledOf sheet w s)
-
--- 0 for an accepted layout
-abbrev pub verdictNumber : Verdict → ℕ
-verdictNumber (Verdict'.Accepted v n) = 0
-verdictNumber (Verdict'.Refused e) = e
-
--- version at 9 and rows at 11
-abbrev pub verdictOut : Verdict → List ℕ → List ℕ
-verdictOut (Verdict'.Accepted v n) o = set (set o 9 v) 11 n
-verdictOut (Verdict'.Refused e) o = o
-
--- THE PROMISE of dbn_layout_plain: the layout s, ruled on with the width w and the sheet, and no table
-pub record LayoutPlainC (s : List ℕ) (w : ℕ) (sheet o : List ℕ) (r : ℕ) (o′ : List ℕ) : Type 0 where
-  pub number : r ≡ verdictNumber (verdict (ruledOf sheet w s))
-  pub out : o′ ≡ verdictOut (verdict (ruledOf sheet w s)) o
-
--- ---- a layout written
-
--- 0 for a written layout
-abbrev pub writtenNumber : Written → ℕ
-writtenNumber (Length n) = 0
-writtenNumber (Written.Refused e) = e
-
--- the length at 0
-abbrev pub writtenOut : Written → List ℕ → List ℕ
-writtenOut (Length n) o = set o 0 n
-writtenOut (Written.Refused e) o = o
-
--- THE PROMISE of dbn_write_layout: rows and text written as a layout of version v, for the width w, into the output u
-pub record WriteC (rows text : List ℕ) (v w : ℕ) (sheet u o : List ℕ) (r : ℕ) (u′ o′ : List ℕ) : Type 0 where
-  pub number : r ≡ writtenNumber (writeLayout sheet w v rows text (length u))
-  pub out : o′ ≡ writtenOut (writeLayout sheet w v rows text (length u)) o
-  pub output : u′ ≡ outAfter (writeLayout sheet w v rows text (length u)) (printed v rows text) u

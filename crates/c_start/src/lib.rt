@@ -1,37 +1,16 @@
-// C functions for the start of a stream: prelude, block, feed, and its layout, read and written. Nothing here but calls of the layers.
+// C functions for the start of a stream: a block given whole, and feeding. Nothing here but calls of the layers.
 use block::BlockAnswer;
 use block::Fields;
 use block::Optional;
 use feed::Answer;
-use feed::Stage;
 use feed::State;
-use writer::Written;
 ghost use mathlib.Core.Path.{_≡_};
 ghost use Prim.Native.Nat.{_≤_};
 ghost use lib.ListN.{length};
 ghost use lib.Seq.{sets};
-ghost use Rattle.feed.specs.Prelude.{preludeOf};
-ghost use Rattle.feed.specs.Feeding.{stageNumber, answerNumber};
+ghost use Rattle.feed.specs.Feeding.{answerNumber};
 ghost use Rattle.c_texts.specs.Numbers.{bit};
-ghost use Rattle.c_start.specs.Numbers.{preludeOut, valueOf, isPresent, presence, fieldsOut, answerOut, BlockC, FeedC, LayoutC, LayoutPlainC, WriteC};
-
-// The verdict on a prelude: 10, 11, 12, or 0 with {missing, 0, 0, 0} below eight bytes and {0, version, block length, 0} from eight on.
-#[no_mangle]
-pub extern "C" fn dbn_prelude(s: &[u8], out: &mut [u64; 4]) -> u32
-    ensures { λ r. ⌜ (r ≡ stageNumber (preludeOf (now (s .entry)))) × (now (out .exit) ≡ preludeOut (preludeOf (now (s .entry))) (now (out .entry))) ⌝ }
-{
-    match feed::prelude(s) {
-        Stage::Needs(n) => {
-            *out = [n as u64, 0, 0, 0];
-            0
-        }
-        Stage::Refused(e) => e,
-        Stage::Whole { version, len } => {
-            *out = [0, version as u64, len as u64, 0];
-            0
-        }
-    }
-}
+ghost use Rattle.c_start.specs.Numbers.{valueOf, isPresent, presence, fieldsOut, answerOut, BlockC, FeedC};
 
 // Reads a block given whole: its rows go into the tables, its fields into `out`. With 3 the rows needed are at 10 and 11.
 #[no_mangle]
@@ -86,75 +65,6 @@ pub extern "C" fn dbn_feed(
     out[18] = 0;
     let answer = fed.answer;
     put_answer(answer, out)
-}
-
-// Reads a layout given with a symbol width, its rows into the table. `out` gets the version at 9 and the rows at 11; with 3 the rows
-// needed at 11.
-#[no_mangle]
-pub extern "C" fn dbn_layout(
-    layout: &[u8],
-    width: u16,
-    sheet: &[u16; 520],
-    rows: &mut [u32],
-    out: &mut [u64; 16],
-) -> u32
-    ensures { λ r. ⌜ LayoutC (now (layout .entry)) width (now (sheet .entry)) (now (rows .entry)) (now (out .entry)) r (now (rows .exit)) (now (out .exit)) ⌝ }
-{
-    match block::read_layout(layout, width, sheet, rows) {
-        layout::Answer::Read { version, rows: n } => {
-            out[9] = version as u64;
-            out[11] = n as u64;
-            0
-        }
-        layout::Answer::Short(n) => {
-            out[11] = n as u64;
-            refusal::TABLE_SHORT
-        }
-        layout::Answer::Refused(e) => e,
-    }
-}
-
-// The verdict on a layout given with a symbol width, with 81 to 83 by the plain engine: the answer of dbn_layout, without a table.
-// `out` gets the version at 9 and the rows at 11.
-#[no_mangle]
-pub extern "C" fn dbn_layout_plain(
-    layout: &[u8],
-    width: u16,
-    sheet: &[u16; 520],
-    out: &mut [u64; 16],
-) -> u32
-    ensures { λ r. ⌜ LayoutPlainC (now (layout .entry)) width (now (sheet .entry)) (now (out .entry)) r (now (out .exit)) ⌝ }
-{
-    match engines::check_layout_plain(layout, width, sheet) {
-        layout::Verdict::Accepted { version, rows } => {
-            out[9] = version as u64;
-            out[11] = rows as u64;
-            0
-        }
-        layout::Verdict::Refused(e) => e,
-    }
-}
-
-// Writes layout rows, whose names are parts of the text, as a layout of a version; `out` gets the length written at 0.
-#[no_mangle]
-pub extern "C" fn dbn_write_layout(
-    rows: &[u32],
-    text: &[u8],
-    version: u16,
-    width: u16,
-    sheet: &[u16; 520],
-    output: &mut [u8],
-    out: &mut [u64; 16],
-) -> u32
-    ensures { λ r. ⌜ WriteC (now (rows .entry)) (now (text .entry)) version width (now (sheet .entry)) (now (output .entry)) (now (out .entry)) r (now (output .exit)) (now (out .exit)) ⌝ }
-{
-    match writer::write_layout(rows, text, version, width, sheet, output) {
-        Written::Length(n) => {
-            out[0] = n as u64;
-            0
-        }
-        Written::Refused(e) => e,
-    }
 }
 
 // What an answer gives: its number, and its values in `out`.

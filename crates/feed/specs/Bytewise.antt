@@ -11,8 +11,8 @@ use lib.Seq.{take-suc, paste, paste-zero, paste-suc}
 use Rattle.feed.specs.Feeding.{stageOf, needOf, poured, takenOf}
 use Rattle.feed.specs.Laws.{below-or, ForPrelude, ForBlock, needing, paste-paste, poured-most, poured-fits}
 use Rattle.feed.specs.Stages.{needs-room, needs-rest, needs-whole}
-use Rattle.feed.specs.declared.Stage.{Stage}
-use Rattle.feed.specs.declared.Stage.the-variants.{Needs, Refused, Whole}
+use Rattle.prelude.specs.declared.Stage.{Stage}
+use Rattle.prelude.specs.declared.Stage.the-variants.{Needs, Refused, Whole}
 
 -- held count and store
 abbrev pub Place : Type 0

@@ -7,13 +7,13 @@ use borrow.Author.Tests.{le-ltb}
 use lib.ListN.{length, take}
 use lib.Seq.{paste, take-all, take-paste}
 use Rattle.codec.specs.Codec.{_then_, named, checked, byte, num, raw}
-use Rattle.feed.specs.Prelude.{magic, prelude, preludeOf}
+use Rattle.prelude.specs.Prelude.{magic, prelude, preludeOf}
 use Rattle.feed.specs.Feeding.{bounded, stageOf, needOf, poured, takenOf, answerAt, Feeding}
 use Rattle.feed.specs.Laws.{stage-prelude, stage-eight, paste-length}
 use Rattle.feed.specs.declared.Answer.{Answer}
 use Rattle.feed.specs.declared.Answer.the-variants.{Needs, Refused}
 use Rattle.feed.specs.declared.Fed.{Fed}
-use Rattle.feed.specs.declared.Stage.{Stage}
+use Rattle.prelude.specs.declared.Stage.{Stage}
 
 -- fed p from the start, any store of n bytes or more answers r, whatever else is lent; and the whole of p is taken
 pub record Gives (n : ℕ) (p : List ℕ) (r : Answer) : Type 0 where

@@ -10,9 +10,9 @@ use lib.Dec.{ltb}
 use Rattle.block.specs.Read.{blockAnswer, blockSymbology, blockLayout}
 use Rattle.block.specs.declared.BlockAnswer.{BlockAnswer}
 use Rattle.block.specs.declared.BlockAnswer.the-variants.{Read}
-use Rattle.feed.specs.Prelude.{preludeOf}
-use Rattle.feed.specs.declared.Stage.{Stage}
-use Rattle.feed.specs.declared.Stage.the-variants.{Whole}
+use Rattle.prelude.specs.Prelude.{preludeOf}
+use Rattle.prelude.specs.declared.Stage.{Stage}
+use Rattle.prelude.specs.declared.Stage.the-variants.{Whole}
 use Rattle.feed.specs.declared.Answer.{Answer}
 use Rattle.feed.specs.declared.Answer.the-variants.{Done}
 use Rattle.feed.specs.declared.Fed.{Fed}
@@ -104,12 +104,6 @@ pub record Feeding (k : ℕ) (st p t s l : List ℕ) (r : Fed) (st′ s′ l′ 
   pub verdict : Judgement (heldAfter k st p) (storeAfter k st p) t s l (r .answer) s′ l′
 
 -- ---- the numbers of document 01
-
--- a stage's refusal number; 0 where it is none
-abbrev pub stageNumber : Stage → ℕ
-stageNumber (Stage.Needs n) = 0
-stageNumber (Stage.Refused e) = e
-stageNumber (Whole v len) = 0
 
 -- an answer's refusal number; 3 for short tables, 0 where it is none
 abbrev pub answerNumber : Answer → ℕ

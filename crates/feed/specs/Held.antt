@@ -8,11 +8,11 @@ use lib.ListN.{length, take, drop}
 use lib.Seq.{take-add, drop-at, length-take-le}
 use lib.Dec.{ltb}
 use Rattle.block.specs.Read.{blockAnswer, blockSymbology, blockLayout}
-use Rattle.feed.specs.Prelude.{preludeOf}
+use Rattle.prelude.specs.Prelude.{preludeOf}
 use Rattle.feed.specs.Feeding.{bounded, stageOf, blockSays, blockIn, answerAt, symbologyAt, layoutAt}
 use Rattle.feed.specs.Laws.{is-whole}
-use Rattle.feed.specs.declared.Stage.{Stage}
-use Rattle.feed.specs.declared.Stage.the-variants.{Needs, Refused, Whole}
+use Rattle.prelude.specs.declared.Stage.{Stage}
+use Rattle.prelude.specs.declared.Stage.the-variants.{Needs, Refused, Whole}
 
 -- the block is what is held past the prelude
 pub block-held : (st : List ℕ) (n : ℕ) → 8 ≤ length st → blockIn st n ≡ drop 8 (take (8 + n) st)

@@ -10,14 +10,14 @@ use borrow.Author.Tests.{lt-ltb, le-ltb, ltb-true, ltb-false}
 use lib.ListN.{length, take, drop, length-drop}
 use lib.Seq.{take-all, take-take, length-take-le, take-add, drop-drop, paste, paste-zero, length-paste, take-paste, drop-paste}
 use lib.Dec.{ltb}
-use Rattle.feed.specs.Prelude.{preludeOf}
-use Rattle.feed.specs.PreludeLaws.{prelude-few, prelude-first, prelude-never}
+use Rattle.prelude.specs.Prelude.{preludeOf}
+use Rattle.prelude.specs.PreludeLaws.{prelude-few, prelude-first, prelude-never}
 use Rattle.feed.specs.Feeding.{bounded, stageOf, needOf, poured, takenOf, blockSays, Judgement, Feeding}
 use Rattle.block.specs.Read.{Promise}
 use Rattle.block.specs.declared.BlockAnswer.{BlockAnswer}
 use Rattle.feed.specs.declared.Answer.{Answer}
-use Rattle.feed.specs.declared.Stage.{Stage}
-use Rattle.feed.specs.declared.Stage.the-variants.{Needs, Refused, Whole}
+use Rattle.prelude.specs.declared.Stage.{Stage}
+use Rattle.prelude.specs.declared.Stage.the-variants.{Needs, Refused, Whole}
 
 -- one number is below another, or it is not
 pub below-or : (a b : ℕ) → (a < b) ⊎ (b ≤ a)

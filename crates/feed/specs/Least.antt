@@ -12,8 +12,8 @@ use Rattle.feed.specs.Feeding.{stageOf, needOf, poured, takenOf, blockSa
 use Rattle.feed.specs.Stages.{needs-rest, needs-eight, needs-whole}
 use Rattle.feed.specs.declared.Answer.{Answer}
 use Rattle.feed.specs.declared.Fed.{Fed}
-use Rattle.feed.specs.declared.Stage.{Stage}
-use Rattle.feed.specs.declared.Stage.the-variants.{Needs, Refused, Whole}
+use Rattle.prelude.specs.declared.Stage.{Stage}
+use Rattle.prelude.specs.declared.Stage.the-variants.{Needs, Refused, Whole}
 
 block-never : (a : BlockAnswer) (n : ℕ) → blockSays a ≡ Answer.Needs n → ⊥
 block-never (Read f) n e = let z : _≡_ {A = ℕ} 0 1 = cc in omega arith

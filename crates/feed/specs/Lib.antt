@@ -1,5 +1,3 @@
-pub mod Prelude
-pub mod PreludeLaws
 pub mod Feeding
 pub mod Laws
 pub mod Stages

@@ -8,7 +8,7 @@ use mathlib.Core.Path.{_≡_, refl, sym, ap, subst, subst₂, _∙_}
 use mathlib.Core.List.{List, [], _∷_, _++_}
 use lib.ListN.{take, drop, set}
 use lib.Seq.{take-set-le, paste, paste-zero}
-use Rattle.feed.specs.Prelude.{preludeOf}
+use Rattle.prelude.specs.Prelude.{preludeOf}
 use Rattle.feed.specs.Feeding.{stageOf, needOf, takenOf, answerAt, Judgement, Feeding}
 use Rattle.feed.specs.Laws.{needing}
 use Rattle.feed.specs.Stages.{needs-room}
@@ -17,8 +17,8 @@ use Rattle.feed.specs.Pieces.{taken-none, join}
 use Rattle.feed.specs.Single.{Same, one-feed}
 use Rattle.feed.specs.declared.Answer.{Answer}
 use Rattle.feed.specs.declared.Fed.{Fed}
-use Rattle.feed.specs.declared.Stage.{Stage}
-use Rattle.feed.specs.declared.Stage.the-variants.{Needs, Refused, Whole}
+use Rattle.prelude.specs.declared.Stage.{Stage}
+use Rattle.prelude.specs.declared.Stage.the-variants.{Needs, Refused, Whole}
 
 -- so many held bytes do not reach past the prelude, or past the block that it announces
 abbrev pub Inside : ℕ → List ℕ → Type 0

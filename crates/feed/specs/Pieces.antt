@@ -12,8 +12,8 @@ use Rattle.feed.specs.Single.{Same, one-feed}
 use Rattle.block.specs.Read.{again}
 use Rattle.feed.specs.declared.Answer.{Answer}
 use Rattle.feed.specs.declared.Fed.{Fed}
-use Rattle.feed.specs.declared.Stage.{Stage}
-use Rattle.feed.specs.declared.Stage.the-variants.{Needs, Refused, Whole}
+use Rattle.prelude.specs.declared.Stage.{Stage}
+use Rattle.prelude.specs.declared.Stage.the-variants.{Needs, Refused, Whole}
 
 -- what two feeds come to
 abbrev pub joined : Fed → Fed → Fed

@@ -3,15 +3,9 @@
 use Prim.Native.Nat.{ℕ}
 use mathlib.Core.Path.{_≡_, sym, ap, ap₂, _∙_}
 use mathlib.Core.List.{List}
-use Rattle.feed.specs.Prelude.{preludeOf}
 use Rattle.feed.specs.Feeding.{Feeding}
 use Rattle.feed.specs.declared.Answer.{Answer}
 use Rattle.feed.specs.declared.Fed.{Fed}
-use Rattle.feed.specs.declared.Stage.{Stage}
-
--- of `prelude`
-pub one-prelude : (s : List ℕ) (x y : Stage) → x ≡ preludeOf s → y ≡ preludeOf s → x ≡ y
-one-prelude s x y f g = f ∙ sym g
 
 -- of `feed`: what it returns, the store and both tables
 pub record Same (x y : Fed) (st1 s1 l1 st2 s2 l2 : List ℕ) : Type 0 where

@@ -6,10 +6,10 @@ use mathlib.Core.Path.{_≡_, ap, _∙_}
 use mathlib.Core.List.{List, _++_}
 use lib.ListN.{length, take, drop, length-append}
 use lib.Seq.{take-take, take-append-le, length-take-le, paste}
-use Rattle.feed.specs.Prelude.{preludeOf}
+use Rattle.prelude.specs.Prelude.{preludeOf}
 use Rattle.feed.specs.Feeding.{stageOf}
 use Rattle.feed.specs.Laws.{ForPrelude, ForBlock, needing, stage-prelude, stage-block, stage-whole, paste-length}
-use Rattle.feed.specs.declared.Stage.the-variants.{Needs, Whole}
+use Rattle.prelude.specs.declared.Stage.the-variants.{Needs, Whole}
 
 -- what lies before a paste is kept
 pub paste-front : (d : List ℕ) (at : ℕ) (s : List ℕ) (n m : ℕ) → m ≤ at → at ≤ length d → take m (paste d at s n) ≡ take m d

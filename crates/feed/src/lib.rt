@@ -1,25 +1,15 @@
 // Feeding: the start of a stream comes in pieces, is held in a store that the caller lends, and is read once its block is whole.
 use block::BlockAnswer;
 use block::Fields;
+use prelude::Stage;
 ghost use mathlib.Core.Path.{_≡_};
 ghost use Prim.Native.Nat.{_+_, _-_, _≤_, min};
 ghost use lib.ListN.{length};
 ghost use lib.Seq.{paste};
-ghost use Rattle.feed.specs.Prelude.{preludeOf};
-ghost use Rattle.feed.specs.PreludeLaws.{lengthOf};
 ghost use Rattle.feed.specs.Feeding.{stageOf, needOf, poured, Judgement, Feeding};
 
-// The bytes of a prelude, and the least block that it may announce.
+// The bytes of a prelude.
 const METADATA_PRELUDE_LEN: usize = 8;
-
-const METADATA_FIXED_LEN: usize = 100;
-
-// How far bytes have come: so many more are needed, or they are refused, or there is a block of this version and length.
-pub enum Stage {
-    Needs(usize),
-    Refused(u32),
-    Whole { version: u8, len: usize },
-}
 
 // How many bytes of the store are held. The caller hands it back with the store, both unaltered.
 pub struct State {
@@ -39,37 +29,6 @@ pub struct Fed {
     pub taken: usize,
     pub state: State,
     pub answer: Answer,
-}
-
-// The verdict on a prelude: the bytes missing, 10, 11, 12, or its version and block length. Bytes past the eighth are not looked at.
-pub fn prelude(s: &[u8]) -> Stage
-    ensures { λ r. ⌜ r ≡ preludeOf (now (s .entry)) ⌝ }
-{
-    let n = s.len();
-    if n < METADATA_PRELUDE_LEN {
-        return Stage::Needs(METADATA_PRELUDE_LEN - n);
-    }
-    if s[0] != b'D' {
-        return Stage::Refused(refusal::MAGIC);
-    }
-    if s[1] != b'B' {
-        return Stage::Refused(refusal::MAGIC);
-    }
-    if s[2] != b'N' {
-        return Stage::Refused(refusal::MAGIC);
-    }
-    let version = s[3];
-    if version < 1 {
-        return Stage::Refused(refusal::VERSION);
-    }
-    if 4 < version {
-        return Stage::Refused(refusal::VERSION);
-    }
-    let len = block_len(s);
-    if len < METADATA_FIXED_LEN {
-        return Stage::Refused(refusal::BLOCK_LENGTH);
-    }
-    Stage::Whole { version, len }
 }
 
 // A piece is fed: what the prelude, then the block, still needs is taken into the store right after the held bytes. The answer is the
@@ -108,7 +67,7 @@ fn stage_of(held: usize, store: &[u8]) -> Stage
     if room < METADATA_PRELUDE_LEN {
         return Stage::Refused(refusal::STORE_SHORT);
     }
-    match prelude(&store[..held]) {
+    match prelude::prelude(&store[..held]) {
         Stage::Needs(k) => Stage::Needs(k),
         Stage::Refused(e) => Stage::Refused(e),
         Stage::Whole { version, len } => {
@@ -192,18 +151,4 @@ fn copy(store: &mut [u8], at: usize, piece: &[u8], n: usize)
         store[at + j] = piece[j];
         j += 1;
     }
-}
-
-// The block length that eight bytes state.
-fn block_len(s: &[u8]) -> usize
-    requires { ⌜ 8 ≤ length (now s) ⌝ }
-    ensures { λ r. ⌜ r ≡ lengthOf (now (s .entry)) ⌝ }
-{
-    wide(s[4]) + 256 * (wide(s[5]) + 256 * (wide(s[6]) + 256 * wide(s[7])))
-}
-
-fn wide(x: u8) -> usize
-    ensures { λ r. ⌜ (r ≡ x) × (r ≤ 255) ⌝ }
-{
-    x as usize
 }

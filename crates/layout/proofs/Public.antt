@@ -144,7 +144,7 @@ module _ {l : List ℕ} {v n : ℕ} (a : Accepts l v n) where
         leaves = rw (a .is, le-leb (length (rows T)) (length t / 9) h1) (i ∙ fill-rows 9 (omega arith) (rows T) t (rows-nine T) h1);
       }
 
-  pub ans-short : {t : List ℕ} → length t / 9 < n → Answers l t t (Short n)
+  pub ans-short : {t : List ℕ} → length t / 9 < n → Answers l t t (Short v n)
   ans-short {t} h =
       let T : Layout.Layout = toLayout ((v, a .z), drop (a .k) l) in
       let e = a .many in

@@ -1,11 +1,12 @@
 -- What the public readers answer, and what they leave in the table.
 -- Assumes nothing.
 use Prim.Native.Nat.{ℕ, _*_, _/_}
-use mathlib.Core.Path.{_≡_}
+use mathlib.Core.Path.{_≡_, ap, _∙_}
 use mathlib.Core.List.{List, _++_}
 use lib.ListN.{length, drop}
 use lib.Dec.{leb}
 use Rattle.codec.specs.Codec.{Res, ok, refuse}
+use Rattle.codec.specs.Cases.{by-bool}
 use Rattle.numbers.specs.Pick.{pick}
 use Rattle.table.specs.Out.{flat}
 use Rattle.layout.specs.Layout.{Layout}
@@ -24,8 +25,14 @@ verdict (refuse k) = Verdict'.Refused k
 
 -- a table of cap rows is long enough, or short
 abbrev pub judge : ℕ → Res Layout → Answer
-judge cap (ok l j) = pick (leb (length (rows l)) cap) (Read (l .version) (length (rows l))) (Short (length (rows l)))
+judge cap (ok l j) = pick (leb (length (rows l)) cap) (Read (l .version) (length (rows l))) (Short (l .version) (length (rows l)))
 judge cap (refuse k) = Refused k
+
+-- an answer's verdict, whatever the table
+abbrev pub verdictIn : Answer → Verdict
+verdictIn (Read v n) = Accepted v n
+verdictIn (Short v n) = Accepted v n
+verdictIn (Refused k) = Verdict'.Refused k
 
 -- the rows stand at the front of the table, and the rest of it is as it was
 abbrev pub leave : List ℕ → Res Layout → List ℕ
@@ -36,3 +43,21 @@ leave t (refuse k) = t
 pub record Answers (s t t′ : List ℕ) (r : Answer) : Type 0 where
   pub is : r ≡ judge (length t / 9) (layoutOf s)
   pub leaves : t′ ≡ leave t (layoutOf s)
+
+-- reading into any table gives the verdict
+pub answer-verdict : (cap : ℕ) (r : Res Layout) {a : Answer} → a ≡ judge cap r → verdictIn a ≡ verdict r
+answer-verdict cap (ok l j) e = by-bool (leb (length (rows l)) cap) (λ q. ap verdictIn e ∙ rw q) (λ q. ap verdictIn e ∙ rw q)
+answer-verdict cap (refuse k) e = ap verdictIn e
+
+-- ---- the numbers of document 01
+
+-- 3 for a short table, 0 for an accepted layout
+abbrev pub layoutNumber : Answer → ℕ
+layoutNumber (Read v n) = 0
+layoutNumber (Short v n) = 3
+layoutNumber (Refused e) = e
+
+-- 0 for an accepted layout
+abbrev pub verdictNumber : Verdict → ℕ
+verdictNumber (Accepted v n) = 0
+verdictNumber (Verdict'.Refused e) = e

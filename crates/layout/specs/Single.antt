@@ -2,14 +2,9 @@
 use Prim.Native.Nat.{ℕ}
 use mathlib.Core.Path.{_≡_, sym, _∙_}
 use mathlib.Core.List.{List}
-use Rattle.layout.specs.Given.{layoutOf}
-use Rattle.layout.specs.Answers.{verdict, Answers}
-use Rattle.layout.specs.declared.Verdict.{Verdict}
+use Rattle.layout.specs.Answers.{Answers}
 use Rattle.layout.specs.declared.Answer.{Answer}
 
 module _ (s : List ℕ) where
-  pub layout-verdict : (r r′ : Verdict) → r ≡ verdict (layoutOf s) → r′ ≡ verdict (layoutOf s) → r ≡ r′
-  layout-verdict r r′ e f = e ∙ sym f
-
   pub read-layout-rows : (t t₁ t₂ : List ℕ) (r₁ r₂ : Answer) → Answers s t t₁ r₁ → Answers s t t₂ r₂ → (t₁ ≡ t₂) × (r₁ ≡ r₂)
   read-layout-rows t t₁ t₂ r₁ r₂ a b = (a .leaves ∙ sym (b .leaves), a .is ∙ sym (b .is))

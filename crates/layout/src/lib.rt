@@ -18,16 +18,33 @@ pub enum Verdict {
     Refused(u32),
 }
 
-// What reading into a table answers: the version and the rows written; the rows needed where the table is short; or
-// the refusal.
+// What reading into a table answers: the version and the rows written; the version and the rows needed where the table
+// is short; or the refusal.
 pub enum Answer {
     Read { version: usize, rows: usize },
-    Short(usize),
+    Short { version: usize, rows: usize },
     Refused(u32),
 }
 
+// The rows of a layout in the table, which is written only where all is accepted and it is long enough.
+pub fn read_layout_rows(layout: &[u8], table: &mut [u32]) -> Answer
+    ensures { λ r. ⌜ Answers (now (layout .entry)) (now (table .entry)) (now (table .exit)) r ⌝ }
+{
+    match layout_verdict(layout) {
+        Verdict::Accepted { version, rows } => {
+            if rows <= table.len() / 9 {
+                sections::groups(layout, 2, table);
+                Answer::Read { version, rows }
+            } else {
+                Answer::Short { version, rows }
+            }
+        }
+        Verdict::Refused(why) => Answer::Refused(why),
+    }
+}
+
 // The verdict on a layout: its version and how many rows it has, or the refusal.
-pub fn layout_verdict(layout: &[u8]) -> Verdict
+fn layout_verdict(layout: &[u8]) -> Verdict
     ensures { λ r. ⌜ r ≡ verdict (layoutOf (now (layout .entry))) ⌝ }
 {
     if layout.len() > 4294967295 {
@@ -48,22 +65,5 @@ pub fn layout_verdict(layout: &[u8]) -> Verdict
             }
         }
         Got::Refused(why) => Verdict::Refused(why),
-    }
-}
-
-// The rows of a layout in the table, which is written only where all is accepted and it is long enough.
-pub fn read_layout_rows(layout: &[u8], table: &mut [u32]) -> Answer
-    ensures { λ r. ⌜ Answers (now (layout .entry)) (now (table .entry)) (now (table .exit)) r ⌝ }
-{
-    match layout_verdict(layout) {
-        Verdict::Accepted { version, rows } => {
-            if rows <= table.len() / 9 {
-                sections::groups(layout, 2, table);
-                Answer::Read { version, rows }
-            } else {
-                Answer::Short(rows)
-            }
-        }
-        Verdict::Refused(why) => Answer::Refused(why),
     }
 }

@@ -149,7 +149,7 @@ fn layout_case(s: &[u8], sheet: &[u16; 520], table: &mut [u32]) -> bool {
     let width = bytes::u16_at(s, 1);
     let n = bytes::u32_at(s, 3) as usize;
     let number = bytes::u32_at(s, 7 + n);
-    match block::read_layout(part(s, 7, n), width, sheet, table) {
+    match given_layout::read_layout(part(s, 7, n), width, sheet, table) {
         Answer::Read { version, rows } => {
             if number != 0 {
                 return false;

@@ -11,13 +11,11 @@ use lib.Seq.{getD-take, getD-drop}
 use lib.Dec.{lit<}
 use Rattle.rules.specs.declared.Source.{Source}
 use Rattle.entry.specs.Entry.{entryBytes}
-use Rattle.rules.specs.RowRules.{lo, hi, rowHead}
+use Rattle.rules.specs.RowRules.{eleven, rowHead}
 
 -- the row at a of a table, as an entry's eleven bytes
 unfoldable pub rowAt : List ℕ → ℕ → List ℕ
-rowAt t a =
-    lo (getD t (a + 1) 0) ∷ hi (getD t (a + 1) 0) ∷ lo (getD t (a + 2) 0) ∷ hi (getD t (a + 2) 0) ∷ lo (getD t (a + 3) 0) ∷ hi (getD t (a + 3) 0)
-    ∷ lo (getD t (a + 4) 0) ∷ lo (getD t (a + 5) 0) ∷ lo (getD t (a + 6) 0) ∷ hi (getD t (a + 6) 0) ∷ lo (getD t (a + 7) 0) ∷ []
+rowAt t a = eleven (getD t (a + 1) 0) (getD t (a + 2) 0) (getD t (a + 3) 0) (getD t (a + 4) 0) (getD t (a + 5) 0) (getD t (a + 6) 0) (getD t (a + 7) 0)
 
 pub row-at : (t : List ℕ) (a : ℕ) → rowHead (take 9 (drop a t)) ≡ rowAt t a
 unfolding rowHead rowAt

@@ -6,6 +6,7 @@ pub mod Sequence
 pub mod Walk
 pub mod Whole
 pub mod RowLaws
+pub mod Ruling
 pub mod Single
 pub mod Told
 pub mod Engines

@@ -17,7 +17,7 @@ use Rattle.layout.specs.Layout.{Entry, Fields, RecordL, StructL, Label, LabelDe
 use Rattle.layout.specs.Rows.{headRow, entryRow, nameRow, fieldRows, recordRows, structRows, labelRow, labelDefRows, rows}
 use Rattle.entry.specs.Entry.{entryBytes}
 use Rattle.rules.specs.Rules.{Seq, seqOf, structSeq, recordSeq, seqsFault, rulesOf}
-use Rattle.rules.specs.RowRules.{lo, hi, column, rowsOf, rowHead, rowCount, rowSeq, seqsIn, kindRows, rowsRules}
+use Rattle.rules.specs.RowRules.{lo, hi, eleven, column, rowsOf, rowHead, rowCount, rowSeq, seqsIn, kindRows, rowsRules}
 use Rattle.layout.specs.Standing.{bytes-11, rows-parts}
 
 abbrev pub AllOf : {A : Type 0} → (A → Type 0) → List A → Type 0
@@ -76,7 +76,7 @@ lo-one : (a : ℕ) → a < 256 → lo a ≡ a
 lo-one a h = omega arith
 
 head-back : (h : List ℕ) → length h ≡ 11 → Bytes h → rowHead (headRow h) ≡ h
-unfolding rowHead
+unfolding rowHead eleven
 head-back h n b =
     let e : entryBytes h 0 ≡ h = bytes-11 h 0 (omega arith) ∙ take-all 11 h (omega arith) in
     rw (

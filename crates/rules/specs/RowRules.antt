@@ -21,11 +21,14 @@ lo x = x % 256
 abbrev pub hi : ℕ → ℕ
 hi x = x / 256 % 256
 
--- a field row as an entry's eleven bytes, each number modulo its width on the wire
+-- id, offset, size, type, flags, def index and scale byte as an entry's eleven bytes, each number modulo its width on the wire
+unfoldable pub eleven : ℕ → ℕ → ℕ → ℕ → ℕ → ℕ → ℕ → List ℕ
+eleven id off size type flags def scale =
+    lo id ∷ hi id ∷ lo off ∷ hi off ∷ lo size ∷ hi size ∷ lo type ∷ lo flags ∷ lo def ∷ hi def ∷ lo scale ∷ []
+
+-- a field row as an entry's eleven bytes
 unfoldable pub rowHead : List ℕ → List ℕ
-rowHead r =
-    lo (getD r 1 0) ∷ hi (getD r 1 0) ∷ lo (getD r 2 0) ∷ hi (getD r 2 0) ∷ lo (getD r 3 0) ∷ hi (getD r 3 0)
-    ∷ lo (getD r 4 0) ∷ lo (getD r 5 0) ∷ lo (getD r 6 0) ∷ hi (getD r 6 0) ∷ lo (getD r 7 0) ∷ []
+rowHead r = eleven (getD r 1 0) (getD r 2 0) (getD r 3 0) (getD r 4 0) (getD r 5 0) (getD r 6 0) (getD r 7 0)
 
 -- a record's column, or a struct's: 10 record (name start, length, rtype, schema, base, field count, ..), 13 struct (start, length,
 -- size, field count), whose last column is 0

@@ -1,14 +1,10 @@
--- Two answers that meet a public promise are equal. Assumes nothing.
+-- Two answers that meet the public promise are equal. Assumes nothing.
 use Prim.Native.Nat.{ℕ}
 use mathlib.Core.Path.{_≡_, sym, _∙_}
+use mathlib.Core.Bool.{Bool}
 use mathlib.Core.List.{List}
-use Rattle.layout.specs.Answers.{verdict}
 use Rattle.layout.specs.declared.Verdict.{Verdict}
-use Rattle.rules.specs.Rules.{ruledOf}
-use Rattle.rules.specs.RowRules.{rowsRules}
+use Rattle.rules.specs.Ruling.{ruling}
 
-pub check-layout-one : (sheet : List ℕ) (width : ℕ) (s : List ℕ) {r r′ : Verdict} → r ≡ verdict (ruledOf sheet width s) → r′ ≡ verdict (ruledOf sheet width s) → r ≡ r′
-check-layout-one sheet width s e f = e ∙ sym f
-
-pub check-rows-one : (sheet : List ℕ) (width : ℕ) (t : List ℕ) {r r′ : ℕ} → r ≡ rowsRules sheet width t → r′ ≡ rowsRules sheet width t → r ≡ r′
-check-rows-one sheet width t e f = e ∙ sym f
+pub check-one : (sheet : List ℕ) (width : ℕ) (s t : List ℕ) (ofRows : Bool) {r r′ : Verdict} → r ≡ ruling sheet width s t ofRows → r′ ≡ ruling sheet width s t ofRows → r ≡ r′
+check-one sheet width s t ofRows e f = e ∙ sym f

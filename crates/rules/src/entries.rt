@@ -3,7 +3,7 @@ use crate::Source;
 ghost use mathlib.Core.Path.{_≡_};
 ghost use Prim.Native.Nat.{_+_, _*_, _<_, _≤_};
 ghost use lib.ListN.{length};
-ghost use Rattle.rules.specs.RowRules.{lo, hi};
+ghost use Rattle.rules.specs.RowRules.{lo, hi, eleven};
 ghost use Rattle.rules.specs.Entries.{rowAt, entryOf, restOf, Room};
 
 fn low(x: u32) -> u8
@@ -18,15 +18,10 @@ fn high(x: u32) -> u8
     (x / 256 % 256) as u8
 }
 
-// The field row that starts at `a`, as the first eleven bytes of an entry.
-fn in_rows(rows: &[u32], a: usize) -> [u8; 11]
-    requires { ⌜ a + 9 ≤ length (now rows) ⌝ }
-    ensures { λ r. ⌜ r ≡ rowAt (now (rows .entry)) a ⌝ }
+// The first eleven bytes of an entry: each number modulo its width on the wire.
+fn eleven_of(id: u32, off: u32, size: u32, ty: u32, flags: u32, def: u32, scale: u32) -> [u8; 11]
+    ensures { λ r. ⌜ r ≡ eleven id off size ty flags def scale ⌝ }
 {
-    let id = rows[a + 1];
-    let off = rows[a + 2];
-    let size = rows[a + 3];
-    let def = rows[a + 6];
     [
         low(id),
         high(id),
@@ -34,12 +29,28 @@ fn in_rows(rows: &[u32], a: usize) -> [u8; 11]
         high(off),
         low(size),
         high(size),
-        low(rows[a + 4]),
-        low(rows[a + 5]),
+        low(ty),
+        low(flags),
         low(def),
         high(def),
-        low(rows[a + 7]),
+        low(scale),
     ]
+}
+
+// The field row that starts at `a`, as the first eleven bytes of an entry.
+fn in_rows(rows: &[u32], a: usize) -> [u8; 11]
+    requires { ⌜ a + 9 ≤ length (now rows) ⌝ }
+    ensures { λ r. ⌜ r ≡ rowAt (now (rows .entry)) a ⌝ }
+{
+    eleven_of(
+        rows[a + 1],
+        rows[a + 2],
+        rows[a + 3],
+        rows[a + 4],
+        rows[a + 5],
+        rows[a + 6],
+        rows[a + 7],
+    )
 }
 
 // The first entry of a source that has one.

@@ -1,4 +1,5 @@
 // The rules of a layout, numbers 60 to 83, over a layout's bytes or over rows.
+use layout::Answer;
 use layout::Verdict;
 ghost use mathlib.Core.Path.{_≡_};
 ghost use Prim.Native.Nat.{_<_, _≤_, _/_};
@@ -6,6 +7,7 @@ ghost use lib.ListN.{length};
 ghost use Rattle.layout.specs.Answers.{verdict};
 ghost use Rattle.layout.specs.Given.{layoutOf};
 ghost use Rattle.rules.specs.Rules.{ruledOf};
+ghost use Rattle.rules.specs.Ruling.{passed, ruling};
 ghost use Rattle.rules.specs.RowRules.{rowsOf, kindRows, rowsRules};
 ghost use Rattle.layout.specs.Standing.{skipTo};
 ghost use Rattle.rules.specs.Whole.{Accepted, Skips, rulesIn, isKind};
@@ -88,6 +90,51 @@ pub enum Next {
 // The answer where a search has looked too often and there are no owners to go on with: no number of document 01.
 pub(crate) const GAVE_UP: u32 = 65536;
 
+// The verdict on the rules, of a layout or of a table of rows. Of a layout given with a symbol width: 13, then the layout,
+// then its rules; its version and how many rows it has, or the refusal. Of rows: the first number that their rules give, or
+// accepted, of version 0 and 0 rows. The answer is the same by either engine: where `plain` holds all of 81 to 83 are found by
+// marks.
+pub fn check(
+    layout: &[u8],
+    rows: &[u32],
+    of_rows: bool,
+    width: u16,
+    sheet: &[u16; 520],
+    plain: bool,
+) -> Verdict
+    ensures { λ r. ⌜ r ≡ ruling (now (sheet .entry)) width (now (layout .entry)) (now (rows .entry)) «of_rows» ⌝ }
+{
+    if of_rows {
+        return pass(check_rows(rows, width, sheet, plain));
+    }
+    check_layout(layout, width, sheet, plain)
+}
+
+// Accepted where the number is 0, else the refusal.
+fn pass(why: u32) -> Verdict
+    ensures { λ r. ⌜ r ≡ passed why ⌝ }
+{
+    if why == 0 {
+        return Verdict::Accepted {
+            version: 0,
+            rows: 0,
+        };
+    }
+    Verdict::Refused(why)
+}
+
+// The verdict on a layout before its rules.
+fn layout_verdict(layout: &[u8]) -> Verdict
+    ensures { λ r. ⌜ r ≡ verdict (layoutOf (now (layout .entry))) ⌝ }
+{
+    let mut none = [0u32; 1];
+    match layout::read_layout_rows(layout, &mut none) {
+        Answer::Read { version, rows } => Verdict::Accepted { version, rows },
+        Answer::Short { version, rows } => Verdict::Accepted { version, rows },
+        Answer::Refused(why) => Verdict::Refused(why),
+    }
+}
+
 // The place after n sections from `at` on.
 fn skip(layout: &[u8], at: usize, n: usize) -> usize
     requires { ⌜ Skips (now layout) at n ⌝ }
@@ -136,10 +183,10 @@ fn layout_rules(layout: &[u8], sheet: &[u16; 520], width: usize, plain: bool) ->
 
 // The verdict on a layout given with a symbol width: 13, then the layout, then its rules. Its version and how many rows
 // it has, or the refusal. The answer is the same by either engine: where `plain` holds all of 81 to 83 are found by marks.
-pub fn check_layout(layout: &[u8], width: u16, sheet: &[u16; 520], plain: bool) -> Verdict
+fn check_layout(layout: &[u8], width: u16, sheet: &[u16; 520], plain: bool) -> Verdict
     ensures { λ r. ⌜ r ≡ verdict (ruledOf (now (sheet .entry)) width (now (layout .entry))) ⌝ }
 {
-    match layout::layout_verdict(layout) {
+    match layout_verdict(layout) {
         Verdict::Accepted { version, rows } => {
             let why = layout_rules(layout, sheet, width as usize, plain);
             if why == 0 {
@@ -175,7 +222,7 @@ fn label_rows(rows: &[u32]) -> usize
 
 // The rules of the records and structs in a table of rows: the first number that they give, or 0; 91 where there are more
 // than 65,535 structs. The answer is the same by either engine: where `plain` holds all of 81 to 83 are found by marks.
-pub fn check_rows(rows: &[u32], width: u16, sheet: &[u16; 520], plain: bool) -> u32
+fn check_rows(rows: &[u32], width: u16, sheet: &[u16; 520], plain: bool) -> u32
     ensures { λ r. ⌜ r ≡ rowsRules (now (sheet .entry)) width (now (rows .entry)) ⌝ }
 {
     let none = [0u8; 1];

@@ -23,7 +23,7 @@ fn show_layout(s: &[u8]) {
 
 // A label def with one label, from its section's own part.
 fn show_label_def(s: &[u8]) {
-    let name = byte_reader::name_in(s, 0);
+    let name = wire::name_at(s, 0);
     io::write_all(STDOUT_FILENO, b"name ");
     show_text(s, 0, name);
     match name {
@@ -53,7 +53,7 @@ fn show_label(s: &[u8], at: usize) {
 // The number at `at`, and the place after it; `at` itself where there is none.
 fn show_u16(what: &[u8], s: &[u8], at: usize) -> usize {
     io::write_all(STDOUT_FILENO, what);
-    match byte_reader::u16_in(s, at, refusal::LAYOUT_TRUNCATED) {
+    match numbers::u16_at(s, at, refusal::LAYOUT_TRUNCATED) {
         Got::Value { value, next } => {
             io::print_decimal(STDOUT_FILENO, value as u64);
             io::write_all(STDOUT_FILENO, b"\n");

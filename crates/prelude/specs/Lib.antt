@@ -1,0 +1,3 @@
+pub mod Prelude
+pub mod PreludeLaws
+pub mod Single
