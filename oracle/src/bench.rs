@@ -3,12 +3,14 @@ use crate::{
     bench_shapes::{beside, shapes},
     of_crate::dbn::Fsm,
 };
-use relay::{ffi, Layout};
+use dbn_start::{ffi, Layout};
 use std::hint::black_box;
 
 pub fn run() {
-    let sheet = shapes::sheet();
-    ::dbn::v4::fields::install(|id| (Some(sheet[id as usize]).filter(|&size| size > 0), sheet[256 + id as usize] != 0));
+    let numbers = *shapes::sheet().numbers();
+    ::dbn::v4::fields::install(|id| {
+        (Some(numbers[id as usize]).filter(|&size| size > 0), numbers[256 + id as usize] != 0)
+    });
     println!("here, crate dbn 0.73.0, and here as a part of the crate's time");
     let (v3, v1) = (shapes::symbology(71, 1000, 100, 4), shapes::symbology(22, 1000, 100, 4));
     let inner = shapes::daily();
@@ -48,7 +50,7 @@ fn read(what: &str, version: u8, block: &[u8]) {
                 version,
                 block.as_ptr(),
                 block.len(),
-                &sheet,
+                sheet.numbers(),
                 symbology.as_mut_ptr(),
                 symbology.len(),
                 layout.as_mut_ptr(),
@@ -72,7 +74,7 @@ fn read(what: &str, version: u8, block: &[u8]) {
                     store.len(),
                     stream.as_ptr(),
                     stream.len(),
-                    &sheet,
+                    sheet.numbers(),
                     symbology.as_mut_ptr(),
                     symbology.len(),
                     layout.as_mut_ptr(),
@@ -101,19 +103,19 @@ fn layouts(bytes: &[u8]) {
             let bytes = black_box(bytes);
             // SAFETY: every pointer is to a buffer of the given length, and no two overlap.
             let number = unsafe {
-                ffi::dbn_layout(bytes.as_ptr(), bytes.len(), 71, &sheet, table.as_mut_ptr(), table.len(), &mut out)
+                ffi::dbn_layout(bytes.as_ptr(), bytes.len(), 71, sheet.numbers(), table.as_mut_ptr(), table.len(), &mut out)
             };
             assert_eq!(number, 0);
         },
         || ::dbn::layout_decode(black_box(bytes), 71).expect("the crate reads it"),
     );
     tell("dbn_layout and wire::decode: that layout", bytes.len(), both);
-    let mut table = Vec::new();
+    let mut table = dbn_start::Tables::default();
     let read = Layout::read(bytes, 71, &sheet, &mut table).expect("an accepted layout");
     let theirs = ::dbn::layout_decode(bytes, 71).expect("the crate reads it");
     let (mut output, mut written) = (vec![0; bytes.len()], Vec::with_capacity(bytes.len()));
     let both = beside(
-        || relay::write_layout(black_box(read.numbers()), bytes, read.version(), 71, &sheet, &mut output),
+        || dbn_start::write_layout(black_box(read.numbers()), bytes, read.version(), 71, &sheet, &mut output),
         || {
             written.clear();
             ::dbn::layout_encode(&mut written, black_box(&theirs)).expect("the crate writes it");

@@ -3,7 +3,7 @@
 //! Each call copies what is lent into a buffer with guard words on both sides, calls, sees that no guard word and nothing
 //! that was lent for reading has changed, and gives back the number and every buffer that was lent for writing.
 #![allow(dead_code)]
-use relay::ffi;
+use dbn_start::ffi;
 
 /// Guard words on each side of a buffer.
 const GUARD: usize = 8;

@@ -274,7 +274,7 @@ fn names(r: &mut Rng, bytes: &[u8], rows: &[u32], width: usize) {
                 assert_eq!(number, 0, "the name of row {index}");
                 assert_eq!([start, length], [row[1] as u64, row[2] as u64], "the span of row {index}");
                 let text = &bytes[start as usize..(start + length) as usize];
-                assert!(relay::is_text(text) && std::str::from_utf8(text).is_ok(), "a name that is no text");
+                assert!(dbn_start::is_text(text) && std::str::from_utf8(text).is_ok(), "a name that is no text");
             }
             _ => assert_eq!((number, [start, length]), (90, [0, 0]), "row {index} has no name"),
         }

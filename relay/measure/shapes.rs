@@ -1,5 +1,5 @@
 //! Blocks and layouts of stated sizes: what a relay meets every day, and what a hostile sender would make.
-use relay::Sheet;
+use dbn_start::{Sheet, SheetIds};
 
 pub const STRUCT: u8 = 1;
 pub const TEXT: u8 = 3;
@@ -12,13 +12,17 @@ pub const HEADER: u16 = 24;
 
 /// A made sheet.
 pub fn sheet() -> Sheet {
-    let mut sheet = [0; 520];
-    for (id, size) in [(DECIMAL, 8), (U8, 1), (6, 2), (7, 4), (U64, 8), (ENUM, 1)] {
-        sheet[id as usize] = size;
-    }
-    sheet[256 + ENUM as usize] = 1;
-    sheet[512..519].copy_from_slice(&[STRUCT as u16, 2, DECIMAL as u16, 0, 64, 65535, HEADER]);
-    sheet
+    let ids = SheetIds {
+        struct_id: STRUCT,
+        symbol_id: 2,
+        decimal_id: DECIMAL,
+        padding_id: 0,
+        extension_weight: 64,
+        no_label_def: 65535,
+        header_size: HEADER,
+    };
+    let types = [(DECIMAL, 8), (U8, 1), (6, 2), (7, 4), (U64, 8)];
+    types.into_iter().fold(Sheet::new(ids).with_label_type(ENUM, 1), |sheet, (id, size)| sheet.with_type(id, size))
 }
 
 /// The fixed part of a block.

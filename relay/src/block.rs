@@ -1,107 +1,116 @@
-use crate::{ffi, Layout, Refusal, Sheet};
+use crate::{
+    ffi, named, part, promise,
+    tables::{rows, LAYOUT_ROW, SYMBOLOGY_ROW},
+    text, Layout, Refusal, Sheet, Tables,
+};
+use std::fmt;
 
-/// Numbers in one row of symbology, and in one row of a layout.
-const SYMBOLOGY_ROW: usize = 5;
-const LAYOUT_ROW: usize = 9;
 /// The refusal of tables that are too short.
-const TABLE_SHORT: u32 = 3;
+pub(crate) const TABLE_SHORT: u32 = Refusal::TableShort as u32;
+/// The first version that has a layout.
+const WITH_LAYOUT: u8 = 4;
+/// What is lent where a stream has no layout to judge.
+const NO_TYPES: &[u16; ffi::SHEET] = &[0; ffi::SHEET];
 
-/// Row tables to read into. They grow to what a block needs and can be used again.
-#[derive(Debug, Clone, Default)]
-pub struct Tables {
-    pub(crate) symbology: Vec<u32>,
-    pub(crate) layout: Vec<u32>,
-}
-
-impl Tables {
-    /// Makes room for so many rows of each kind.
-    pub(crate) fn grow(&mut self, symbology: u64, layout: u64) {
-        grow(&mut self.symbology, symbology, SYMBOLOGY_ROW);
-        grow(&mut self.layout, layout, LAYOUT_ROW);
-    }
-}
-
-/// Makes room for so many rows of `width` numbers.
-pub(crate) fn grow(table: &mut Vec<u32>, rows: u64, width: usize) {
-    let numbers = rows as usize * width;
-    if table.len() < numbers {
-        table.resize(numbers, 0);
+/// The sheet to lend for a version. Below version 4 any will do, since nothing is judged by it.
+pub(crate) fn lent(version: u8, sheet: Option<&Sheet>) -> Result<&[u16; ffi::SHEET], Refusal> {
+    match sheet {
+        Some(sheet) => Ok(sheet.numbers()),
+        None if version == WITH_LAYOUT => Err(Refusal::NoSheet),
+        None => Ok(NO_TYPES),
     }
 }
 
 /// The fields of a block. What the stream leaves absent is `None`.
 #[derive(Debug, Clone, Copy, PartialEq, Eq)]
 pub struct Fields {
+    /// The schema's code.
     pub schema: Option<u16>,
+    /// The start of the query's range, in nanoseconds since 1970.
     pub start: u64,
+    /// The end of the query's range, in nanoseconds since 1970.
     pub end: Option<u64>,
+    /// The most records that were asked for.
     pub limit: Option<u64>,
+    /// The code of the symbol type that was asked in.
     pub stype_in: Option<u8>,
+    /// The code of the symbol type that is answered in.
     pub stype_out: u8,
+    /// Whether each record has the time at which it was sent.
     pub ts_out: bool,
+    /// The width of a symbol in bytes, 22 in version 1.
     pub symbol_cstr_len: usize,
-    pub layout_version: u16,
+    /// The version of the layout, which version 4 has.
+    pub layout_version: Option<u16>,
 }
 
 /// An accepted block: its fields, its symbology and its layout, with every name a part of the block's own bytes.
-#[derive(Debug, Clone, Copy)]
+#[derive(Clone, Copy)]
 pub struct Block<'a> {
+    version: u8,
     bytes: &'a [u8],
     fields: Fields,
-    dataset_len: usize,
+    dataset: &'a str,
     symbology: &'a [u32],
     layout: &'a [u32],
 }
 
 impl<'a> Block<'a> {
-    /// Reads a whole block (the bytes after the prelude). The tables grow as needed.
-    pub fn read(version: u8, bytes: &'a [u8], sheet: &Sheet, tables: &'a mut Tables) -> Result<Self, Refusal> {
+    /// Reads a whole block (the bytes after the prelude). The tables grow as needed, up to their limit. Below version 4 the sheet
+    /// may be `None`.
+    pub fn read<'s>(
+        version: u8,
+        bytes: &'a [u8],
+        sheet: impl Into<Option<&'s Sheet>>,
+        tables: &'a mut Tables,
+    ) -> Result<Self, Refusal> {
+        let sheet = lent(version, sheet.into())?;
         let mut out = [0; 16];
-        loop {
-            let (symbology, layout) = (&mut tables.symbology, &mut tables.layout);
-            // SAFETY: each pointer and length are those of a slice, and no two of them overlap.
-            let number = unsafe {
-                ffi::dbn_block(
-                    version,
-                    bytes.as_ptr(),
-                    bytes.len(),
-                    sheet,
-                    symbology.as_mut_ptr(),
-                    symbology.len(),
-                    layout.as_mut_ptr(),
-                    layout.len(),
-                    &mut out,
-                )
-            };
-            match number {
-                0 => return Ok(Self::accepted(bytes, &out, tables)),
-                TABLE_SHORT => tables.grow(out[10], out[11]),
-                _ => return Err(Refusal::new(number)),
-            }
+        let mut number = call(version, bytes, sheet, tables, &mut out);
+        if number == TABLE_SHORT {
+            tables.grow(out[10], out[11])?;
+            number = call(version, bytes, sheet, tables, &mut out);
+            assert_ne!(number, TABLE_SHORT, "the library dbn_c broke its promise: the rows it needs are not enough");
         }
+        Refusal::unless_accepted(number)?;
+        Ok(Self::accepted(version, bytes, &out, tables))
     }
 
     /// The block that the numbers in `out` and the tables tell of.
-    pub(crate) fn accepted(bytes: &'a [u8], out: &[u64], tables: &'a Tables) -> Self {
+    pub(crate) fn accepted(version: u8, bytes: &'a [u8], out: &[u64; 16], tables: &'a Tables) -> Self {
         let present = |bit: u64, value: u64| (out[12] & bit != 0).then_some(value);
         let fields = Fields {
-            schema: present(1, out[1]).map(|x| x as u16),
+            schema: present(1, out[1]).map(|x| promise(x, "a schema")),
             start: out[2],
             end: present(2, out[3]),
             limit: present(4, out[4]),
-            stype_in: present(8, out[5]).map(|x| x as u8),
-            stype_out: out[6] as u8,
+            stype_in: present(8, out[5]).map(|x| promise(x, "an input symbol type")),
+            stype_out: promise(out[6], "an output symbol type"),
             ts_out: out[7] != 0,
-            symbol_cstr_len: out[8] as usize,
-            layout_version: out[9] as u16,
+            symbol_cstr_len: promise(out[8], "a symbol width"),
+            layout_version: (version == WITH_LAYOUT).then(|| promise(out[9], "a layout version")),
         };
+        let [dataset, symbology, layout] =
+            [(out[0], "a dataset's length"), (out[10], "the symbology rows"), (out[11], "the layout rows")]
+                .map(|(number, what)| promise::<usize, u64>(number, what));
         Self {
+            version,
             bytes,
             fields,
-            dataset_len: out[0] as usize,
-            symbology: &tables.symbology[..out[10] as usize * SYMBOLOGY_ROW],
-            layout: &tables.layout[..out[11] as usize * LAYOUT_ROW],
+            dataset: text(&bytes[..dataset]),
+            symbology: &tables.symbology[..symbology * SYMBOLOGY_ROW],
+            layout: &tables.layout[..layout * LAYOUT_ROW],
         }
+    }
+
+    /// The stream's version, 1 to 4.
+    pub fn version(&self) -> u8 {
+        self.version
+    }
+
+    /// The block's own bytes.
+    pub fn bytes(&self) -> &'a [u8] {
+        self.bytes
     }
 
     /// The block's fields.
@@ -111,11 +120,11 @@ impl<'a> Block<'a> {
 
     /// The dataset's name.
     pub fn dataset(&self) -> &'a str {
-        text(&self.bytes[..self.dataset_len]).unwrap_or_default()
+        self.dataset
     }
 
     /// The symbology rows, five numbers each.
-    pub fn rows(&self) -> impl ExactSizeIterator<Item = &'a [u32; SYMBOLOGY_ROW]> + '_ {
+    pub fn rows(&self) -> impl ExactSizeIterator<Item = &'a [u32; 5]> + use<'a> {
         rows(self.symbology)
     }
 
@@ -131,26 +140,26 @@ impl<'a> Block<'a> {
     }
 
     /// The symbols that were asked for.
-    pub fn symbols(&self) -> impl Iterator<Item = &'a str> + '_ {
+    pub fn symbols(&self) -> impl Iterator<Item = &'a str> + use<'a> {
         self.list(0)
     }
 
     /// The symbols that resolved for a part of the time.
-    pub fn partial(&self) -> impl Iterator<Item = &'a str> + '_ {
+    pub fn partial(&self) -> impl Iterator<Item = &'a str> + use<'a> {
         self.list(1)
     }
 
     /// The symbols that did not resolve.
-    pub fn not_found(&self) -> impl Iterator<Item = &'a str> + '_ {
+    pub fn not_found(&self) -> impl Iterator<Item = &'a str> + use<'a> {
         self.list(2)
     }
 
     /// Each mapping with its intervals.
-    pub fn mappings(&self) -> impl Iterator<Item = Mapping<'a>> + '_ {
-        let whole = *self;
-        self.rows().enumerate().filter(|(_, row)| row[0] == 3).map(move |(at, row)| Mapping {
-            block: whole,
-            raw_symbol: whole.name(at).unwrap_or_default(),
+    pub fn mappings(&self) -> impl Iterator<Item = Mapping<'a>> + use<'a> {
+        let block = *self;
+        self.of_kind(3).map(move |(at, row)| Mapping {
+            block,
+            raw_symbol: named(block.name(at)),
             first: at + 1,
             count: row[3] as usize,
         })
@@ -158,21 +167,53 @@ impl<'a> Block<'a> {
 
     /// The layout, which version 4 has.
     pub fn layout(&self) -> Option<Layout<'a>> {
-        let length = u32::from_le_bytes(self.bytes[100..104].try_into().ok()?) as usize;
-        let bytes = &self.bytes[104..104 + length];
-        (length > 0).then(|| Layout::accepted(bytes, self.fields.layout_version, self.layout))
+        let version = self.fields.layout_version?;
+        let length = u32::from_le_bytes(self.bytes[100..104].try_into().expect("four bytes"));
+        Some(Layout::accepted(&self.bytes[104..][..length as usize], version, self.layout))
     }
 
-    fn list(&self, kind: u32) -> impl Iterator<Item = &'a str> + '_ {
-        let named = move |(at, _)| self.name(at).unwrap_or_default();
-        self.rows().enumerate().filter(move |(_, row)| row[0] == kind).map(named)
+    fn list(&self, kind: u32) -> impl Iterator<Item = &'a str> + use<'a> {
+        let block = *self;
+        self.of_kind(kind).map(move |(at, _)| named(block.name(at)))
+    }
+
+    fn of_kind(&self, kind: u32) -> impl Iterator<Item = (usize, &'a [u32; SYMBOLOGY_ROW])> + use<'a> {
+        self.rows().enumerate().filter(move |(_, row)| row[0] == kind)
+    }
+}
+
+impl fmt::Debug for Block<'_> {
+    fn fmt(&self, f: &mut fmt::Formatter<'_>) -> fmt::Result {
+        let mut shown = f.debug_struct("Block");
+        shown.field("version", &self.version).field("dataset", &self.dataset).field("fields", &self.fields);
+        shown.field("rows", &self.rows().len()).finish_non_exhaustive()
+    }
+}
+
+/// One reading of a block with the tables as they are.
+fn call(version: u8, bytes: &[u8], sheet: &[u16; ffi::SHEET], tables: &mut Tables, out: &mut [u64; 16]) -> u32 {
+    let Tables { symbology, layout, .. } = tables;
+    // SAFETY: each pointer and length are those of a slice, and no two of them overlap.
+    unsafe {
+        ffi::dbn_block(
+            version,
+            bytes.as_ptr(),
+            bytes.len(),
+            sheet,
+            symbology.as_mut_ptr(),
+            symbology.len(),
+            layout.as_mut_ptr(),
+            layout.len(),
+            out,
+        )
     }
 }
 
 /// A symbol, and what it stood for at which time.
-#[derive(Debug, Clone, Copy)]
+#[derive(Clone, Copy)]
 pub struct Mapping<'a> {
     block: Block<'a>,
+    /// The symbol that was asked for.
     pub raw_symbol: &'a str,
     first: usize,
     count: usize,
@@ -181,35 +222,30 @@ pub struct Mapping<'a> {
 /// One interval of a mapping. Dates are year x 10000 + month x 100 + day.
 #[derive(Debug, Clone, Copy, PartialEq, Eq)]
 pub struct Interval<'a> {
+    /// The first day.
     pub start_date: u32,
+    /// The day after the last.
     pub end_date: u32,
+    /// What the symbol stood for.
     pub symbol: &'a str,
 }
 
 impl<'a> Mapping<'a> {
     /// The mapping's intervals, in the stream's order.
-    pub fn intervals(&self) -> impl Iterator<Item = Interval<'a>> + '_ {
-        let own = &self.block.symbology[self.first * SYMBOLOGY_ROW..][..self.count * SYMBOLOGY_ROW];
-        (self.first..).zip(rows::<SYMBOLOGY_ROW>(own)).map(|(at, row)| Interval {
+    pub fn intervals(&self) -> impl Iterator<Item = Interval<'a>> + use<'a> {
+        let block = self.block;
+        let own = &block.symbology[self.first * SYMBOLOGY_ROW..][..self.count * SYMBOLOGY_ROW];
+        (self.first..).zip(rows::<SYMBOLOGY_ROW>(own)).map(move |(at, row)| Interval {
             start_date: row[3],
             end_date: row[4],
-            symbol: self.block.name(at).unwrap_or_default(),
+            symbol: named(block.name(at)),
         })
     }
 }
 
-/// The numbers of a table as rows.
-pub(crate) fn rows<const N: usize>(table: &[u32]) -> impl ExactSizeIterator<Item = &[u32; N]> {
-    table.chunks_exact(N).map(|row| row.try_into().expect("a chunk of N"))
-}
-
-/// The part of `bytes` that a name function answered.
-pub(crate) fn part(bytes: &[u8], number: u32, [start, length]: [u64; 2]) -> Result<&str, Refusal> {
-    Refusal::unless_accepted(number)?;
-    text(&bytes[start as usize..(start + length) as usize]).ok_or(Refusal::new(90))
-}
-
-/// Accepted texts are UTF-8, so this gives them all.
-fn text(bytes: &[u8]) -> Option<&str> {
-    std::str::from_utf8(bytes).ok()
+impl fmt::Debug for Mapping<'_> {
+    fn fmt(&self, f: &mut fmt::Formatter<'_>) -> fmt::Result {
+        let intervals: Vec<_> = self.intervals().collect();
+        f.debug_struct("Mapping").field("raw_symbol", &self.raw_symbol).field("intervals", &intervals).finish()
+    }
 }

@@ -1,23 +1,37 @@
-use crate::{ffi, prelude, Block, Prelude, Refusal, Sheet, Tables};
+use crate::{
+    block::{lent, TABLE_SHORT},
+    ffi, prelude, Block, Limits, Prelude, Refusal, Sheet, Tables,
+};
+use std::fmt;
 
 /// The length of a prelude.
 const PRELUDE: usize = 8;
-/// The refusals that a longer store, or longer tables, can lift.
-const STORE_SHORT: u32 = 2;
-const TABLE_SHORT: u32 = 3;
 
 /// A stream start that arrives in pieces, cut anywhere.
 ///
-/// It holds the bytes that came so far and lends them, with row tables, to the proved reader. The store grows to what the
-/// prelude announces, up to a limit of the caller's, and the tables to what the block needs.
-#[derive(Debug, Clone)]
+/// It holds the bytes that came so far, and once the block is whole it lends them, with row tables, to the proved reader. What it
+/// holds grows with what arrives, up to the caller's [`Limits`]. A block is read once: after [`Step::Done`], or after a refusal, a
+/// feed takes nothing more and gives the same answer until [`Feed::reset`].
+#[derive(Clone)]
 pub struct Feed {
-    sheet: Box<Sheet>,
-    limit: usize,
+    sheet: Option<Box<Sheet>>,
+    limits: Limits,
     store: Vec<u8>,
-    held: u64,
     tables: Tables,
-    done: Option<[u64; 16]>,
+    stage: Stage,
+}
+
+/// Where a feed stands.
+#[derive(Clone, Copy)]
+enum Stage {
+    /// The prelude is not whole.
+    Prelude,
+    /// The prelude announces a start of so many bytes, its own eight among them, which are not all there.
+    Block(usize),
+    /// The block was read, and these are its numbers.
+    Done([u64; 16]),
+    /// What came was refused.
+    Refused(Refusal),
 }
 
 /// How far a stream start has come.
@@ -29,80 +43,152 @@ pub enum Step {
     Done,
 }
 
-/// What a piece came to: how many of its bytes belong to the stream's start, and how far that is.
+/// What a piece came to.
 #[derive(Debug, Clone, Copy, PartialEq, Eq)]
 pub struct Fed {
+    /// How many of its bytes belong to the stream's start.
     pub taken: usize,
+    /// How far that is.
     pub step: Step,
 }
 
 impl Feed {
-    /// A start of which nothing has come yet. A stream start of more than `limit` bytes is refused by 2.
-    pub fn new(sheet: &Sheet, limit: usize) -> Self {
-        let store = vec![0; PRELUDE];
-        Self { sheet: Box::new(*sheet), limit, store, held: 0, tables: Tables::default(), done: None }
+    /// A start of which nothing has come yet. Without a sheet a version 4 stream is refused by [`Refusal::NoSheet`].
+    pub fn new(limits: Limits) -> Self {
+        Self { sheet: None, limits, store: Vec::new(), tables: Tables::new(limits.rows), stage: Stage::Prelude }
     }
 
-    /// Takes what the start still needs of a piece. Bytes that it does not take come after the start.
+    /// The feed with a type sheet, which version 4 streams are judged by.
+    #[must_use]
+    pub fn with_sheet(self, sheet: Sheet) -> Self {
+        Self { sheet: Some(Box::new(sheet)), ..self }
+    }
+
+    /// Takes what the start still needs of a piece. Bytes that it does not take come after the start. Where it is refused,
+    /// [`Feed::held`] has what it took.
     pub fn feed(&mut self, piece: &[u8]) -> Result<Fed, Refusal> {
-        let mut taken = 0;
-        loop {
-            let mut out = [0; 20];
-            let number = self.call(&piece[taken..], &mut out);
-            taken += out[16] as usize;
-            self.held = out[17];
-            match number {
-                0 if out[18] > 0 => return Ok(Fed { taken, step: Step::Needs(out[18] as usize) }),
-                0 => {
-                    self.done = out[..16].try_into().ok();
-                    return Ok(Fed { taken, step: Step::Done });
-                }
-                STORE_SHORT if self.grow_store() => {}
-                TABLE_SHORT => self.tables.grow(out[10], out[11]),
-                _ => return Err(Refusal::new(number)),
+        let mut rest = piece;
+        let mut step = self.step()?;
+        while let (Step::Needs(needed), false) = (step, rest.is_empty()) {
+            let (now, later) = rest.split_at(needed.min(rest.len()));
+            rest = later;
+            if let Err(refusal) = self.take(now) {
+                self.stage = Stage::Refused(refusal);
             }
+            step = self.step()?;
+        }
+        Ok(Fed { taken: piece.len() - rest.len(), step })
+    }
+
+    /// How far the start has come. Nothing is read for that.
+    pub fn step(&self) -> Result<Step, Refusal> {
+        match self.stage {
+            Stage::Prelude => Ok(Step::Needs(PRELUDE - self.store.len())),
+            Stage::Block(whole) => Ok(Step::Needs(whole - self.store.len())),
+            Stage::Done(_) => Ok(Step::Done),
+            Stage::Refused(refusal) => Err(refusal),
         }
     }
 
     /// The block, once [`Step::Done`] was answered.
     pub fn block(&self) -> Option<Block<'_>> {
-        let out = self.done.as_ref()?;
-        Some(Block::accepted(&self.store[PRELUDE..self.held as usize], out, &self.tables))
+        let Stage::Done(out) = &self.stage else { return None };
+        Some(Block::accepted(self.store[3], &self.store[PRELUDE..], out, &self.tables))
     }
 
-    /// The bytes held so far.
+    /// The bytes held so far, the prelude's among them.
     pub fn held(&self) -> &[u8] {
-        &self.store[..self.held as usize]
+        &self.store
     }
 
-    fn call(&mut self, piece: &[u8], out: &mut [u64; 20]) -> u32 {
-        let Tables { symbology, layout } = &mut self.tables;
+    /// Hands over the bytes held so far, the prelude's among them, and begins anew.
+    pub fn take_held(&mut self) -> Vec<u8> {
+        self.stage = Stage::Prelude;
+        std::mem::take(&mut self.store)
+    }
+
+    /// Begins anew, for another stream. Sheet, limits and memory stay.
+    pub fn reset(&mut self) {
+        self.stage = Stage::Prelude;
+        self.store.clear();
+    }
+
+    /// Holds bytes of the present stage, and goes on to the next where they end it.
+    fn take(&mut self, bytes: &[u8]) -> Result<(), Refusal> {
+        let whole = if let Stage::Block(whole) = self.stage { whole } else { PRELUDE };
+        hold(&mut self.store, bytes, whole)?;
+        if self.store.len() == whole {
+            self.stage = if whole == PRELUDE { self.announced()? } else { self.read()? };
+        }
+        Ok(())
+    }
+
+    /// The stage after a whole prelude.
+    fn announced(&self) -> Result<Stage, Refusal> {
+        let Prelude::Whole { version, length } = prelude(&self.store)? else {
+            panic!("the library dbn_c broke its promise: eight bytes are no whole prelude")
+        };
+        lent(version, self.sheet.as_deref())?;
+        match PRELUDE.checked_add(length as usize) {
+            Some(whole) if whole <= self.limits.bytes => Ok(Stage::Block(whole)),
+            _ => Err(Refusal::StoreShort),
+        }
+    }
+
+    /// The stage after a whole block, whose bytes are all held.
+    fn read(&mut self) -> Result<Stage, Refusal> {
+        let mut out = [0; 20];
+        let mut number = self.call(&mut out)?;
+        if number == TABLE_SHORT {
+            self.tables.grow(out[10], out[11])?;
+            number = self.call(&mut out)?;
+            assert_ne!(number, TABLE_SHORT, "the library dbn_c broke its promise: the rows it needs are not enough");
+        }
+        Refusal::unless_accepted(number)?;
+        let whole = self.store.len() as u64;
+        assert_eq!(out[16..19], [0, whole, 0], "the library dbn_c broke its promise: a whole start is not done");
+        Ok(Stage::Done(*out.first_chunk().expect("sixteen of twenty numbers")))
+    }
+
+    /// The reader's answer on a store that is all held.
+    fn call(&mut self, out: &mut [u64; 20]) -> Result<u32, Refusal> {
+        let sheet = lent(self.store[3], self.sheet.as_deref())?;
+        let Tables { symbology, layout, .. } = &mut self.tables;
+        let (store, nothing) = (&mut self.store, [0u8; 0]);
         // SAFETY: each pointer and length are those of a slice, and no two of them overlap.
-        unsafe {
+        Ok(unsafe {
             ffi::dbn_feed(
-                self.held,
-                self.store.as_mut_ptr(),
-                self.store.len(),
-                piece.as_ptr(),
-                piece.len(),
-                &*self.sheet,
+                store.len() as u64,
+                store.as_mut_ptr(),
+                store.len(),
+                nothing.as_ptr(),
+                0,
+                sheet,
                 symbology.as_mut_ptr(),
                 symbology.len(),
                 layout.as_mut_ptr(),
                 layout.len(),
                 out,
             )
-        }
+        })
     }
+}
 
-    /// Makes room for the block that a whole prelude announces. False where it passes the limit.
-    fn grow_store(&mut self) -> bool {
-        let Ok(Prelude::Whole { length, .. }) = prelude(self.held()) else { return false };
-        let whole = PRELUDE + length as usize;
-        let fits = whole <= self.limit && self.store.len() < whole;
-        if fits {
-            self.store.resize(whole, 0);
-        }
-        fits
+impl fmt::Debug for Feed {
+    fn fmt(&self, f: &mut fmt::Formatter<'_>) -> fmt::Result {
+        let mut shown = f.debug_struct("Feed");
+        shown.field("held", &self.store.len()).field("step", &self.step()).field("limits", &self.limits);
+        shown.field("sheet", &self.sheet.is_some()).finish_non_exhaustive()
     }
+}
+
+/// Puts bytes after those that are held. The room doubles as they come, and never passes `whole`.
+fn hold(store: &mut Vec<u8>, bytes: &[u8], whole: usize) -> Result<(), Refusal> {
+    let wanted = store.len() + bytes.len();
+    if wanted > store.capacity() {
+        let room = (2 * store.capacity()).clamp(wanted, whole);
+        store.try_reserve_exact(room - store.len()).map_err(|_| Refusal::NoMemory)?;
+    }
+    store.extend_from_slice(bytes);
+    Ok(())
 }

@@ -1,15 +1,13 @@
 use crate::{
-    block::{grow, part, rows},
-    ffi, Refusal, Sheet,
+    block::TABLE_SHORT,
+    ffi, named, part, promise,
+    tables::{rows, LAYOUT_ROW as ROW},
+    Refusal, Sheet, Tables,
 };
-
-/// Numbers in one row.
-const ROW: usize = 9;
-/// The refusal of a table that is too short.
-const TABLE_SHORT: u32 = 3;
+use std::fmt;
 
 /// An accepted layout, with every name a part of the layout's own bytes.
-#[derive(Debug, Clone, Copy)]
+#[derive(Clone, Copy)]
 pub struct Layout<'a> {
     bytes: &'a [u8],
     version: u16,
@@ -17,20 +15,18 @@ pub struct Layout<'a> {
 }
 
 impl<'a> Layout<'a> {
-    /// Reads a layout for a stream of that symbol width. The table grows as needed.
-    pub fn read(bytes: &'a [u8], width: u16, sheet: &Sheet, table: &'a mut Vec<u32>) -> Result<Self, Refusal> {
+    /// Reads a layout for a stream of that symbol width. The table grows as needed, up to its limit.
+    pub fn read(bytes: &'a [u8], width: u16, sheet: &Sheet, tables: &'a mut Tables) -> Result<Self, Refusal> {
         let mut out = [0; 16];
-        loop {
-            // SAFETY: each pointer and length are those of a slice, and no two of them overlap.
-            let number = unsafe {
-                ffi::dbn_layout(bytes.as_ptr(), bytes.len(), width, sheet, table.as_mut_ptr(), table.len(), &mut out)
-            };
-            match number {
-                0 => return Ok(Self::accepted(bytes, out[9] as u16, &table[..out[11] as usize * ROW])),
-                TABLE_SHORT => grow(table, out[11], ROW),
-                _ => return Err(Refusal::new(number)),
-            }
+        let mut number = call(bytes, width, sheet, tables, &mut out);
+        if number == TABLE_SHORT {
+            tables.grow(0, out[11])?;
+            number = call(bytes, width, sheet, tables, &mut out);
+            assert_ne!(number, TABLE_SHORT, "the library dbn_c broke its promise: the rows it needs are not enough");
         }
+        Refusal::unless_accepted(number)?;
+        let count: usize = promise(out[11], "the layout rows");
+        Ok(Self::accepted(bytes, promise(out[9], "a layout version"), &tables.layout[..count * ROW]))
     }
 
     /// The layout that these rows tell of.
@@ -54,7 +50,7 @@ impl<'a> Layout<'a> {
     }
 
     /// The rows, nine numbers each.
-    pub fn rows(&self) -> impl ExactSizeIterator<Item = &'a [u32; ROW]> + '_ {
+    pub fn rows(&self) -> impl ExactSizeIterator<Item = &'a [u32; 9]> + use<'a> {
         rows(self.rows)
     }
 
@@ -70,13 +66,14 @@ impl<'a> Layout<'a> {
     }
 
     /// The record layouts.
-    pub fn record_layouts(&self) -> impl Iterator<Item = RecordLayout<'a>> + '_ {
-        self.of_kind(10).map(|(at, row)| RecordLayout {
-            layout: *self,
-            name: self.name(at).unwrap_or_default(),
-            rtype: row[3] as u16,
-            schema: row[4] as u16,
-            base_record_size: row[5] as u16,
+    pub fn record_layouts(&self) -> impl Iterator<Item = RecordLayout<'a>> + use<'a> {
+        let layout = *self;
+        self.of_kind(10).map(move |(at, row)| RecordLayout {
+            layout,
+            name: named(layout.name(at)),
+            rtype: promise(row[3], "an rtype"),
+            schema: promise(row[4], "a record's schema"),
+            base_record_size: promise(row[5], "a base size"),
             layout_hash: row[7] as u64 | (row[8] as u64) << 32,
             first: at + 1,
             count: row[6] as usize,
@@ -84,47 +81,66 @@ impl<'a> Layout<'a> {
     }
 
     /// The struct layouts.
-    pub fn struct_layouts(&self) -> impl Iterator<Item = StructLayout<'a>> + '_ {
-        self.of_kind(13).map(|(at, row)| StructLayout {
-            layout: *self,
-            name: self.name(at).unwrap_or_default(),
-            size: row[3] as u16,
+    pub fn struct_layouts(&self) -> impl Iterator<Item = StructLayout<'a>> + use<'a> {
+        let layout = *self;
+        self.of_kind(13).map(move |(at, row)| StructLayout {
+            layout,
+            name: named(layout.name(at)),
+            size: promise(row[3], "a struct's size"),
             first: at + 1,
             count: row[4] as usize,
         })
     }
 
     /// The label defs.
-    pub fn label_defs(&self) -> impl Iterator<Item = LabelDef<'a>> + '_ {
-        self.of_kind(14).map(|(at, row)| LabelDef {
-            layout: *self,
-            name: self.name(at).unwrap_or_default(),
+    pub fn label_defs(&self) -> impl Iterator<Item = LabelDef<'a>> + use<'a> {
+        let layout = *self;
+        self.of_kind(14).map(move |(at, row)| LabelDef {
+            layout,
+            name: named(layout.name(at)),
             first: at + 1,
             count: row[3] as usize,
         })
     }
 
-    fn of_kind(&self, kind: u32) -> impl Iterator<Item = (usize, &'a [u32; ROW])> + '_ {
+    fn of_kind(&self, kind: u32) -> impl Iterator<Item = (usize, &'a [u32; ROW])> + use<'a> {
         self.rows().enumerate().filter(move |(_, row)| row[0] == kind)
     }
 
     /// `count` rows from `first` on, each with its index.
-    fn some(&self, first: usize, count: usize) -> impl Iterator<Item = (usize, &'a [u32; ROW])> {
+    fn some(&self, first: usize, count: usize) -> impl Iterator<Item = (usize, &'a [u32; ROW])> + use<'a> {
         (first..).zip(rows(&self.rows[first * ROW..][..count * ROW]))
     }
 
     /// The fields whose entries begin at a row: `count` entries, then as many names.
-    fn fields(&self, first: usize, count: usize) -> impl Iterator<Item = Field<'a>> + '_ {
+    fn fields(&self, first: usize, count: usize) -> impl Iterator<Item = Field<'a>> + use<'a> {
+        let layout = *self;
         self.some(first, count).map(move |(at, row)| Field {
-            name: self.name(at + count).unwrap_or_default(),
-            field_id: row[1] as u16,
-            offset: row[2] as u16,
-            size: row[3] as u16,
-            type_id: row[4] as u8,
-            flags: row[5] as u8,
-            def_index: row[6] as u16,
-            scale: row[7] as u8 as i8,
+            name: named(layout.name(at + count)),
+            field_id: promise(row[1], "a field id"),
+            offset: promise(row[2], "an offset"),
+            size: promise(row[3], "a field's size"),
+            type_id: promise(row[4], "a type id"),
+            flags: promise(row[5], "a field's flags"),
+            def_index: promise(row[6], "a def index"),
+            scale: promise::<u8, u32>(row[7], "a scale byte") as i8,
         })
+    }
+}
+
+impl fmt::Debug for Layout<'_> {
+    fn fmt(&self, f: &mut fmt::Formatter<'_>) -> fmt::Result {
+        let mut shown = f.debug_struct("Layout");
+        shown.field("version", &self.version).field("rows", &self.rows().len()).finish_non_exhaustive()
+    }
+}
+
+/// One reading of a layout with the table as it is.
+fn call(bytes: &[u8], width: u16, sheet: &Sheet, tables: &mut Tables, out: &mut [u64; 16]) -> u32 {
+    let table = &mut tables.layout;
+    // SAFETY: each pointer and length are those of a slice, and no two of them overlap.
+    unsafe {
+        ffi::dbn_layout(bytes.as_ptr(), bytes.len(), width, sheet.numbers(), table.as_mut_ptr(), table.len(), out)
     }
 }
 
@@ -132,10 +148,15 @@ impl<'a> Layout<'a> {
 #[derive(Debug, Clone, Copy)]
 pub struct RecordLayout<'a> {
     layout: Layout<'a>,
+    /// The record's name.
     pub name: &'a str,
+    /// The record's type.
     pub rtype: u16,
+    /// The code of the record's schema.
     pub schema: u16,
+    /// The size of the record without its extensions.
     pub base_record_size: u16,
+    /// The hash that the stream gives for the record, as stored.
     pub layout_hash: u64,
     first: usize,
     count: usize,
@@ -143,7 +164,7 @@ pub struct RecordLayout<'a> {
 
 impl<'a> RecordLayout<'a> {
     /// The record's fields.
-    pub fn fields(&self) -> impl Iterator<Item = Field<'a>> + '_ {
+    pub fn fields(&self) -> impl Iterator<Item = Field<'a>> + use<'a> {
         self.layout.fields(self.first, self.count)
     }
 }
@@ -152,7 +173,9 @@ impl<'a> RecordLayout<'a> {
 #[derive(Debug, Clone, Copy)]
 pub struct StructLayout<'a> {
     layout: Layout<'a>,
+    /// The struct's name.
     pub name: &'a str,
+    /// Its size in bytes.
     pub size: u16,
     first: usize,
     count: usize,
@@ -160,7 +183,7 @@ pub struct StructLayout<'a> {
 
 impl<'a> StructLayout<'a> {
     /// The struct's fields.
-    pub fn fields(&self) -> impl Iterator<Item = Field<'a>> + '_ {
+    pub fn fields(&self) -> impl Iterator<Item = Field<'a>> + use<'a> {
         self.layout.fields(self.first, self.count)
     }
 }
@@ -168,13 +191,21 @@ impl<'a> StructLayout<'a> {
 /// One field of a record or a struct.
 #[derive(Debug, Clone, Copy, PartialEq, Eq)]
 pub struct Field<'a> {
+    /// The field's name.
     pub name: &'a str,
+    /// Its id, which stands once in a record or struct; padding may have any.
     pub field_id: u16,
+    /// Where it begins in the record or struct.
     pub offset: u16,
+    /// Its size in bytes.
     pub size: u16,
+    /// Its type, as the type sheet has it.
     pub type_id: u8,
+    /// Its flags, of which the type sheet names the extension bit.
     pub flags: u8,
+    /// Which struct or label def it names, for the types that name one.
     pub def_index: u16,
+    /// The scale of a decimal, -9.
     pub scale: i8,
 }
 
@@ -182,6 +213,7 @@ pub struct Field<'a> {
 #[derive(Debug, Clone, Copy)]
 pub struct LabelDef<'a> {
     layout: Layout<'a>,
+    /// The def's name.
     pub name: &'a str,
     first: usize,
     count: usize,
@@ -190,16 +222,21 @@ pub struct LabelDef<'a> {
 /// One label.
 #[derive(Debug, Clone, Copy, PartialEq, Eq)]
 pub struct Label<'a> {
+    /// The label's code.
     pub code: u16,
+    /// Its name.
     pub name: &'a str,
 }
 
 impl<'a> LabelDef<'a> {
     /// The labels, in the layout's order.
-    pub fn labels(&self) -> impl Iterator<Item = Label<'a>> + '_ {
-        self.layout
-            .some(self.first, self.count)
-            .map(|(at, row)| Label { code: row[3] as u16, name: self.layout.name(at).unwrap_or_default() })
+    pub fn labels(&self) -> impl Iterator<Item = Label<'a>> + use<'a> {
+        let layout = self.layout;
+        let label = move |(at, row): (usize, &[u32; ROW])| Label {
+            code: promise(row[3], "a label code"),
+            name: named(layout.name(at)),
+        };
+        layout.some(self.first, self.count).map(label)
     }
 }
 
@@ -208,9 +245,9 @@ impl<'a> LabelDef<'a> {
 pub fn check_layout_plain(bytes: &[u8], width: u16, sheet: &Sheet) -> Result<(u16, usize), Refusal> {
     let mut out = [0; 16];
     // SAFETY: the pointer and length are those of a slice, and `out` is ours.
-    let number = unsafe { ffi::dbn_layout_plain(bytes.as_ptr(), bytes.len(), width, sheet, &mut out) };
+    let number = unsafe { ffi::dbn_layout_plain(bytes.as_ptr(), bytes.len(), width, sheet.numbers(), &mut out) };
     Refusal::unless_accepted(number)?;
-    Ok((out[9] as u16, out[11] as usize))
+    Ok((promise(out[9], "a layout version"), promise(out[11], "the layout rows")))
 }
 
 /// Writes the layout that `rows` tell of, with names from `text`, to the start of `output`. Gives the written length.
@@ -233,12 +270,12 @@ pub fn write_layout(
             text.len(),
             version,
             width,
-            sheet,
+            sheet.numbers(),
             output.as_mut_ptr(),
             output.len(),
             &mut out,
         )
     };
     Refusal::unless_accepted(number)?;
-    Ok(out[0] as usize)
+    Ok(promise(out[0], "the written length"))
 }

@@ -1,8 +1,14 @@
 //! The start of a DBN stream: prelude, metadata, symbology and layout, read by proved code.
 //!
-//! The reading itself is done by the C functions of the library `dbn_c` ([`ffi`]), whose promises are proved. This module lends
+//! The reading itself is done by the C functions of the library `dbn_c` ([`ffi`]), whose promises are proved. This package lends
 //! them their buffers and gives back names as parts of the caller's own bytes. [`Feed`] takes a stream in pieces,
-//! [`Block`] and [`Layout`] take what is already whole, and [`Refusal`] is the number, with a sentence, of what was refused.
+//! [`Block`] and [`Layout`] take what is already whole, and [`Refusal`] names what was refused.
+//!
+//! Nothing here stands in for what is missing: where the library broke its promise, the call panics and says which promise.
+#![warn(missing_docs)]
+
+#[cfg(not(target_pointer_width = "64"))]
+compile_error!("the library dbn_c is for machines whose size_t has 64 bits");
 
 /// The README's example compiles.
 #[cfg(doctest)]
@@ -14,23 +20,28 @@ mod feed;
 pub mod ffi;
 mod layout;
 mod refusal;
+mod sheet;
+mod tables;
 
-pub use block::{Block, Fields, Interval, Mapping, Tables};
+pub use block::{Block, Fields, Interval, Mapping};
 pub use feed::{Fed, Feed, Step};
 pub use layout::{check_layout_plain, write_layout, Field, Label, LabelDef, Layout, RecordLayout, StructLayout};
 pub use refusal::Refusal;
-
-/// The type sheet: 0 to 255 natural sizes (0: none), 256 to 511 nonzero for users of label defs, then the ids of struct,
-/// symbol, decimal and padding, the weight of the extension bit, the def index that means none, the header size, unused.
-pub type Sheet = [u16; ffi::SHEET];
+pub use sheet::{Sheet, SheetIds};
+pub use tables::{Limits, Tables};
 
 /// What the first bytes of a stream say.
 #[derive(Debug, Clone, Copy, PartialEq, Eq)]
 pub enum Prelude {
     /// So many bytes are missing from the prelude.
     Needs(usize),
-    /// The stream's version, and the length of the block that follows.
-    Whole { version: u8, length: u32 },
+    /// The prelude is whole.
+    Whole {
+        /// The stream's version, 1 to 4.
+        version: u8,
+        /// The length of the block that follows.
+        length: u32,
+    },
 }
 
 /// Judges the first 8 bytes of a stream. Bytes past them are not looked at.
@@ -40,8 +51,11 @@ pub fn prelude(bytes: &[u8]) -> Result<Prelude, Refusal> {
     let number = unsafe { ffi::dbn_prelude(bytes.as_ptr(), bytes.len(), &mut out) };
     Refusal::unless_accepted(number)?;
     Ok(match out {
-        [0, version, length, _] => Prelude::Whole { version: version as u8, length: length as u32 },
-        [missing, ..] => Prelude::Needs(missing as usize),
+        [0, version, length, _] => Prelude::Whole {
+            version: promise(version, "a prelude's version"),
+            length: promise(length, "a block's length"),
+        },
+        [missing, ..] => Prelude::Needs(promise(missing, "bytes missing from a prelude")),
     })
 }
 
@@ -55,4 +69,38 @@ pub fn is_text(bytes: &[u8]) -> bool {
 pub fn is_date(yyyymmdd: u32) -> bool {
     // SAFETY: a call on a number.
     unsafe { ffi::dbn_date(yyyymmdd) == 1 }
+}
+
+/// A number of the library's as the type that it is promised to fit.
+pub(crate) fn promise<T: TryFrom<N>, N: Copy + std::fmt::Display>(number: N, what: &str) -> T {
+    match T::try_from(number) {
+        Ok(number) => number,
+        Err(_) => panic!("the library dbn_c broke its promise: {what} is {number}"),
+    }
+}
+
+/// The part of `bytes` that a name function answered.
+pub(crate) fn part(bytes: &[u8], number: u32, [start, length]: [u64; 2]) -> Result<&str, Refusal> {
+    Refusal::unless_accepted(number)?;
+    let (start, length): (usize, usize) = (promise(start, "a name's start"), promise(length, "a name's length"));
+    match bytes.get(start..).and_then(|rest| rest.get(..length)) {
+        Some(name) => Ok(text(name)),
+        None => panic!("the library dbn_c broke its promise: a name of {length} bytes at {start} of {}", bytes.len()),
+    }
+}
+
+/// An accepted text, which is UTF-8.
+pub(crate) fn text(bytes: &[u8]) -> &str {
+    match std::str::from_utf8(bytes) {
+        Ok(text) => text,
+        Err(error) => panic!("the library dbn_c broke its promise: an accepted text is not UTF-8 ({error})"),
+    }
+}
+
+/// The name of a row that has one.
+pub(crate) fn named(name: Result<&str, Refusal>) -> &str {
+    match name {
+        Ok(name) => name,
+        Err(refusal) => panic!("the library dbn_c broke its promise: a row that has a name was {refusal}"),
+    }
 }

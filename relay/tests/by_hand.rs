@@ -1,11 +1,11 @@
 //! Document 01's table P, checked by hand, and the examples beside it.
 mod common;
 use common::{hex, p10, plain, stream_of};
-use relay::{is_date, is_text, prelude, Block, Feed, Layout, Prelude, Refusal, Step, Tables};
+use dbn_start::{is_date, is_text, prelude, Block, Feed, Layout, Limits, Prelude, Refusal, Step, Tables};
 
 /// What a whole stream start comes to when it is fed at once.
 fn fed(bytes: &[u8]) -> Result<Step, Refusal> {
-    Feed::new(&plain(), 1 << 20).feed(bytes).map(|fed| fed.step)
+    Feed::new(Limits::default()).with_sheet(plain()).feed(bytes).map(|fed| fed.step)
 }
 
 fn refused<T: std::fmt::Debug>(answer: Result<T, Refusal>) -> u32 {
@@ -16,7 +16,7 @@ const P7: &str = "0100 0000 0000 0100 0E00 01 53 00 0100 4200 03 426964 00";
 
 /// The rows of a layout, as numbers.
 fn rows(bytes: &[u8]) -> Result<Vec<u32>, Refusal> {
-    Ok(Layout::read(bytes, 71, &plain(), &mut Vec::new())?.numbers().to_vec())
+    Ok(Layout::read(bytes, 71, &plain(), &mut Tables::default())?.numbers().to_vec())
 }
 
 #[test]
@@ -58,7 +58,7 @@ fn the_magic_is_judged_with_eight_bytes() {
 #[test]
 fn p6_an_empty_layout() {
     let bytes = hex("0100 000000000000");
-    let mut table = Vec::new();
+    let mut table = Tables::default();
     let layout = Layout::read(&bytes, 71, &plain(), &mut table).unwrap();
     assert_eq!((layout.version(), layout.rows().len()), (1, 0));
 }
@@ -66,7 +66,7 @@ fn p6_an_empty_layout() {
 #[test]
 fn p7_one_label() {
     assert_eq!(rows(&hex(P7)), Ok(vec![14, 11, 1, 1, 0, 0, 0, 0, 0, 15, 18, 3, 66, 0, 0, 0, 0, 0]));
-    let (bytes, mut table) = (hex(P7), Vec::new());
+    let (bytes, mut table) = (hex(P7), Tables::default());
     let layout = Layout::read(&bytes, 71, &plain(), &mut table).unwrap();
     let def = layout.label_defs().next().unwrap();
     let label = def.labels().next().unwrap();

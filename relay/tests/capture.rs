@@ -1,16 +1,16 @@
 //! The trader's complaint: one continuous symbol with four intervals must come back as one, however the stream is cut.
 mod common;
-use common::{capture, plain, INTERVALS};
-use relay::{Fed, Feed, Step};
+use common::{capture, INTERVALS};
+use dbn_start::{Fed, Feed, Limits, Refusal, Step};
 
 /// Holds a finished feed to what the stream carries.
 fn one_contract(feed: &Feed) {
     let block = feed.block().expect("a block");
-    assert_eq!(block.dataset(), "GLBX.MDP3");
+    assert_eq!((block.version(), block.dataset()), (2, "GLBX.MDP3"));
     let fields = block.fields();
     assert_eq!((fields.schema, fields.stype_in, fields.stype_out), (Some(0), Some(6), 0));
     assert_eq!((fields.start, fields.end), (1_672_531_200_000_000_000, Some(1_700_000_000_000_000_000)));
-    assert_eq!((fields.limit, fields.ts_out, fields.symbol_cstr_len, fields.layout_version), (None, false, 71, 0));
+    assert_eq!((fields.limit, fields.ts_out, fields.symbol_cstr_len, fields.layout_version), (None, false, 71, None));
     assert_eq!(block.symbols().collect::<Vec<_>>(), ["ES.c.0"]);
     assert_eq!((block.partial().count(), block.not_found().count()), (0, 0));
     assert!(block.layout().is_none());
@@ -23,7 +23,7 @@ fn one_contract(feed: &Feed) {
 
 /// Feeds the pieces between the cuts. Every count needed is what is left of the stage.
 fn fed(bytes: &[u8], cuts: &[usize]) -> Feed {
-    let mut feed = Feed::new(&plain(), 4096);
+    let mut feed = Feed::new(Limits { bytes: 4096, rows: 6 });
     let mut at = 0;
     for &cut in cuts.iter().chain([&bytes.len()]) {
         let piece = &bytes[at..cut];
@@ -76,7 +76,7 @@ fn bytes_after_the_block_are_not_taken() {
     let (mut bytes, _) = capture();
     let whole = bytes.len();
     bytes.extend([7; 40]);
-    let mut feed = Feed::new(&plain(), 4096);
+    let mut feed = Feed::new(Limits { bytes: 4096, rows: 6 });
     assert_eq!(feed.feed(&bytes), Ok(Fed { taken: whole, step: Step::Done }));
     one_contract(&feed);
     assert_eq!(feed.feed(&bytes[whole..]), Ok(Fed { taken: 0, step: Step::Done }));
@@ -86,12 +86,13 @@ fn bytes_after_the_block_are_not_taken() {
 #[test]
 fn a_start_beyond_the_limit_is_refused_before_its_bytes_come() {
     let (bytes, _) = capture();
-    let mut feed = Feed::new(&plain(), bytes.len() - 1);
-    assert_eq!(feed.feed(&bytes[..8]).expect_err("a refusal").number(), 2);
-    assert_eq!(
-        Feed::new(&plain(), bytes.len()).feed(&bytes[..8]).map(|fed| fed.step),
-        Ok(Step::Needs(bytes.len() - 8))
-    );
+    let told = |bytes: &[u8], limit: usize| {
+        let mut feed = Feed::new(Limits { bytes: limit, rows: 6 });
+        feed.feed(bytes).map(|fed| fed.step)
+    };
+    assert_eq!(told(&bytes[..8], bytes.len() - 1), Err(Refusal::StoreShort));
+    assert_eq!(told(&bytes[..8], bytes.len()), Ok(Step::Needs(bytes.len() - 8)));
     let huge = [0x44, 0x42, 0x4E, 2, 255, 255, 255, 255];
-    assert_eq!(Feed::new(&plain(), 1 << 20).feed(&huge).expect_err("a refusal").number(), 2);
+    assert_eq!(told(&huge, 1 << 20), Err(Refusal::StoreShort));
+    assert_eq!(told(&huge, usize::MAX), Ok(Step::Needs(u32::MAX as usize)));
 }

@@ -1,7 +1,7 @@
 //! A layout with every kind of part: read, named, written back, refused.
 mod common;
 use common::{plain, stream_of, DECIMAL, PADDING, STRUCT, SYMBOL, TEXT, U64};
-use relay::{write_layout, Block, Field, Layout, Refusal, Tables};
+use dbn_start::{write_layout, Block, Field, Layout, Refusal, Tables};
 
 fn name(out: &mut Vec<u8>, text: &str) {
     out.push(text.len() as u8);
@@ -68,12 +68,12 @@ fn layout(record: &[(Entry, &str)]) -> Vec<u8> {
 }
 
 fn verdict(bytes: &[u8], width: u16) -> Result<(), Refusal> {
-    Layout::read(bytes, width, &plain(), &mut Vec::new()).map(|_| ())
+    Layout::read(bytes, width, &plain(), &mut Tables::default()).map(|_| ())
 }
 
 #[test]
 fn every_part_is_read_with_its_name() {
-    let (bytes, mut table) = (layout(&RECORD), Vec::new());
+    let (bytes, mut table) = (layout(&RECORD), Tables::default());
     let layout = Layout::read(&bytes, 8, &plain(), &mut table).unwrap();
     assert_eq!((layout.version(), layout.rows().len()), (7, 1 + 12 + 1 + 4 + 1 + 2));
     let record = layout.record_layouts().next().unwrap();
@@ -96,7 +96,7 @@ fn every_part_is_read_with_its_name() {
 
 #[test]
 fn names_are_parts_of_the_layout_itself() {
-    let (bytes, mut table) = (layout(&RECORD), Vec::new());
+    let (bytes, mut table) = (layout(&RECORD), Tables::default());
     let layout = Layout::read(&bytes, 8, &plain(), &mut table).unwrap();
     let own = bytes.as_ptr_range();
     let mut named = 0;
@@ -118,7 +118,7 @@ fn names_are_parts_of_the_layout_itself() {
 
 #[test]
 fn what_is_read_is_written_back() {
-    let (bytes, mut table) = (layout(&RECORD), Vec::new());
+    let (bytes, mut table) = (layout(&RECORD), Tables::default());
     let layout = Layout::read(&bytes, 8, &plain(), &mut table).unwrap();
     let mut output = vec![0xEE; bytes.len() + 3];
     let length = write_layout(layout.numbers(), &bytes, layout.version(), 8, &plain(), &mut output).unwrap();
@@ -134,7 +134,7 @@ fn what_is_read_is_written_back() {
 
 #[test]
 fn the_writer_refuses_each_kind_of_bad_rows_and_leaves_the_output() {
-    let (bytes, mut table) = (layout(&RECORD), Vec::new());
+    let (bytes, mut table) = (layout(&RECORD), Tables::default());
     let good = Layout::read(&bytes, 8, &plain(), &mut table).unwrap().numbers().to_vec();
     let row = |kind: u32| good.chunks(9).position(|r| r[0] == kind).unwrap() * 9;
     let mut text = bytes.clone();
@@ -245,7 +245,7 @@ fn a_version_4_block_has_a_layout() {
     let fields = block.fields();
     assert_eq!(block.dataset(), "XNAS.ITCH");
     assert_eq!((fields.schema, fields.end, fields.limit, fields.stype_in), (None, None, None, None));
-    assert_eq!((fields.ts_out, fields.symbol_cstr_len, fields.layout_version), (true, 8, 7));
+    assert_eq!((fields.ts_out, fields.symbol_cstr_len, fields.layout_version), (true, 8, Some(7)));
     let layout = block.layout().unwrap();
     assert_eq!((layout.bytes(), layout.version()), (&inner[..], 7));
     assert_eq!(layout.record_layouts().map(|r| r.name).collect::<Vec<_>>(), ["TradeMsg"]);

@@ -1,7 +1,7 @@
 //! Counts and sections at their largest, and one beyond.
 mod common;
 use common::{plain, TEXT};
-use relay::{write_layout, Block, Layout, Refusal, Tables};
+use dbn_start::{write_layout, Block, Layout, Refusal, Tables};
 
 fn written(rows: &[u32], text: &[u8], output: &mut [u8]) -> Result<usize, u32> {
     write_layout(rows, text, 1, 71, &plain(), output).map_err(Refusal::number)
@@ -44,7 +44,7 @@ fn a_count_over_65535_is_91() {
     structs.truncate(65535 * 9);
     (structs[0], structs[2]) = (13, 0);
     assert_eq!(written(&structs, b"", &mut output), Ok(8 + 8 * 65535));
-    let mut table = Vec::new();
+    let mut table = Tables::default();
     let back = Layout::read(&output[..8 + 8 * 65535], 71, &plain(), &mut table).unwrap();
     assert_eq!(back.struct_layouts().count(), 65535);
 }
@@ -61,7 +61,7 @@ fn a_section_over_65535_is_94() {
     assert!(output.iter().all(|&byte| byte == 0xEE));
     rows[9 + 2] = 1;
     assert_eq!(written(&rows, b"x", &mut output), Ok(8 + 65_535));
-    let mut table = Vec::new();
+    let mut table = Tables::default();
     let back = Layout::read(&output[..8 + 65_535], 71, &plain(), &mut table).unwrap();
     assert_eq!(back.label_defs().next().unwrap().labels().count(), 16_382);
     assert_eq!(back.label_defs().next().unwrap().labels().next().unwrap().name, "x");
@@ -72,7 +72,7 @@ fn a_record_of_3600_fields_is_written_and_read() {
     let mut output = vec![0; 1 << 17];
     let rows = record(3600);
     let length = written(&rows, b"", &mut output).unwrap();
-    let mut table = Vec::new();
+    let mut table = Tables::default();
     let back = Layout::read(&output[..length], 71, &plain(), &mut table).unwrap();
     assert_eq!(back.record_layouts().next().unwrap().fields().count(), 3600);
     assert_eq!(back.rows().len(), 1 + 2 * 3600);

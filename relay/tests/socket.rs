@@ -1,7 +1,7 @@
 //! Reading from something like a socket, which gives what it likes of what was asked for.
 mod common;
-use common::{capture, plain};
-use relay::{Feed, Step};
+use common::capture;
+use dbn_start::{Feed, Limits, Step};
 use std::io::{self, Read};
 
 /// Gives at most `most` bytes at a time.
@@ -21,8 +21,8 @@ impl Read for Socket<'_> {
 
 /// The loop of the README.
 fn start(socket: &mut impl Read) -> io::Result<Feed> {
-    let (mut feed, mut buffer) = (Feed::new(&plain(), 1 << 24), [0; 4096]);
-    while let Step::Needs(n) = feed.feed(&[]).map_err(io::Error::other)?.step {
+    let (mut feed, mut buffer) = (Feed::new(Limits::default()), [0; 4096]);
+    while let Step::Needs(n) = feed.step().map_err(io::Error::other)? {
         let n = socket.read(&mut buffer[..n.min(4096)])?;
         if n == 0 {
             return Err(io::ErrorKind::UnexpectedEof.into());

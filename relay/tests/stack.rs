@@ -5,7 +5,7 @@ mod common;
 #[path = "../measure/shapes.rs"]
 mod shapes;
 
-use relay::{check_layout_plain, ffi, write_layout, Layout};
+use dbn_start::{check_layout_plain, ffi, write_layout, Layout, Tables};
 use shapes::{sheet, tiled, Order};
 use std::ffi::c_void;
 
@@ -69,19 +69,19 @@ fn block(layout: &[u8]) -> impl FnMut() {
         // SAFETY: every pointer is to a buffer of the given length, and no two overlap.
         let number = unsafe {
             let (none, rows) = (std::ptr::NonNull::dangling().as_ptr(), table.as_mut_ptr());
-            ffi::dbn_block(4, block.as_ptr(), block.len(), &sheet, none, 0, rows, table.len(), &mut out)
+            ffi::dbn_block(4, block.as_ptr(), block.len(), sheet.numbers(), none, 0, rows, table.len(), &mut out)
         };
         assert_eq!(number, 0);
     }
 }
 
 fn read(layout: &[u8]) -> impl FnMut() + '_ {
-    let (sheet, mut table) = (sheet(), vec![0; 9 * layout.len()]);
+    let (sheet, mut table) = (sheet(), Tables::new(layout.len()));
     move || assert!(Layout::read(layout, 71, &sheet, &mut table).is_ok())
 }
 
 fn write(layout: &[u8]) -> impl FnMut() + '_ {
-    let (sheet, mut table) = (sheet(), Vec::new());
+    let (sheet, mut table) = (sheet(), Tables::default());
     let rows = Layout::read(layout, 71, &sheet, &mut table).expect("an accepted layout").numbers().to_vec();
     let mut output = vec![0; layout.len()];
     move || assert!(write_layout(&rows, layout, 1, 71, &sheet, &mut output).is_ok())

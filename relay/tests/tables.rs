@@ -1,7 +1,7 @@
 //! Lent tables and outputs: a refusal leaves them as they were, and rows past the last are untouched.
 mod common;
 use common::{capture, p10, plain};
-use relay::ffi;
+use dbn_start::ffi;
 
 const MARK: u32 = 0xA5A5_5A5A;
 
@@ -14,7 +14,7 @@ fn block(version: u8, bytes: &[u8], sn: usize, ln: usize) -> (u32, [u64; 16], Ve
             version,
             bytes.as_ptr(),
             bytes.len(),
-            &plain(),
+            plain().numbers(),
             symbology.as_mut_ptr(),
             sn,
             layout.as_mut_ptr(),
@@ -94,7 +94,7 @@ fn a_feed_that_is_refused_keeps_only_the_bytes_it_took() {
             store.len(),
             bytes.as_ptr(),
             bytes.len(),
-            &plain(),
+            plain().numbers(),
             symbology.as_mut_ptr(),
             symbology.len(),
             layout.as_mut_ptr(),
@@ -123,7 +123,7 @@ fn held_counts_and_stores_that_do_not_fit() {
                 length,
                 [].as_ptr(),
                 0,
-                &plain(),
+                plain().numbers(),
                 [0u32; 0].as_mut_ptr(),
                 0,
                 [0u32; 0].as_mut_ptr(),

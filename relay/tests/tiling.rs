@@ -4,14 +4,14 @@ mod common;
 #[path = "../measure/shapes.rs"]
 mod shapes;
 
-use relay::{check_layout_plain, write_layout, Layout, Refusal};
+use dbn_start::{check_layout_plain, write_layout, Layout, Refusal, Tables};
 use shapes::{sheet, spanned, tiled, Order, HEADER};
 
 const ORDERS: [Order; 3] = [Order::Rising, Order::Reverse, Order::Shuffled];
 
 /// The answer of the search, which the plain engine gives too: 0, or the number that refuses.
 fn number(bytes: &[u8]) -> u32 {
-    let (sheet, mut table) = (sheet(), Vec::new());
+    let (sheet, mut table) = (sheet(), Tables::default());
     let read = Layout::read(bytes, 71, &sheet, &mut table).map(|layout| (layout.version(), layout.rows().len()));
     assert_eq!(check_layout_plain(bytes, 71, &sheet), read);
     read.map_or_else(Refusal::number, |_| 0)

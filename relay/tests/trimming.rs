@@ -1,7 +1,7 @@
 //! Names without the NULs at their end, at every width from 0 to 80 and with the last letter at every place.
 mod common;
 use common::plain;
-use relay::{Block, Tables};
+use dbn_start::{Block, Tables};
 
 /// A version 2 block of this width: as many symbols in the first list, and one mapping for each, without intervals.
 fn block(width: usize, symbols: &[Vec<u8>]) -> Vec<u8> {

@@ -10,7 +10,7 @@ use bench::{
     alone, beside,
     shapes::{self, Order},
 };
-use relay::ffi;
+use dbn_start::ffi;
 use std::hint::black_box;
 
 fn main() {
@@ -30,9 +30,9 @@ fn texts() {
             symbol.pop();
         }
         symbol.resize(width, 0);
-        assert!(relay::is_text(&symbol));
+        assert!(dbn_start::is_text(&symbol));
         let (here, std) =
-            beside(|| relay::is_text(black_box(&symbol)), || std::str::from_utf8(black_box(&symbol)).is_ok());
+            beside(|| dbn_start::is_text(black_box(&symbol)), || std::str::from_utf8(black_box(&symbol)).is_ok());
         println!("  {width} bytes, {letters:?} and NULs: {here:.1} ns, std {std:.1} ns, {:.2} of std", here / std);
     }
 }
@@ -48,7 +48,7 @@ fn block(version: u8, bytes: &[u8]) -> f64 {
                 version,
                 black_box(bytes).as_ptr(),
                 bytes.len(),
-                &sheet,
+                sheet.numbers(),
                 symbology.as_mut_ptr(),
                 symbology.len(),
                 layout.as_mut_ptr(),
@@ -73,7 +73,7 @@ fn layout(bytes: &[u8]) -> (f64, u32) {
         // SAFETY: every pointer is to a buffer of the given length, and no two overlap.
         let number = unsafe {
             let bytes = black_box(bytes);
-            ffi::dbn_layout(bytes.as_ptr(), bytes.len(), 71, &sheet, rows.as_mut_ptr(), rows.len(), &mut out)
+            ffi::dbn_layout(bytes.as_ptr(), bytes.len(), 71, sheet.numbers(), rows.as_mut_ptr(), rows.len(), &mut out)
         };
         (number, out[11] as usize)
     };
@@ -85,10 +85,10 @@ fn layout(bytes: &[u8]) -> (f64, u32) {
 
 /// The time of `dbn_write_layout` for the rows of a layout.
 fn write(bytes: &[u8]) -> f64 {
-    let (sheet, mut table) = (shapes::sheet(), Vec::new());
-    let read = relay::Layout::read(bytes, 71, &sheet, &mut table).expect("an accepted layout");
+    let (sheet, mut table) = (shapes::sheet(), dbn_start::Tables::default());
+    let read = dbn_start::Layout::read(bytes, 71, &sheet, &mut table).expect("an accepted layout");
     let mut output = vec![0; bytes.len()];
-    let mut call = || relay::write_layout(black_box(read.numbers()), bytes, 1, 71, &sheet, &mut output);
+    let mut call = || dbn_start::write_layout(black_box(read.numbers()), bytes, 1, 71, &sheet, &mut output);
     assert_eq!(call(), Ok(bytes.len()));
     alone(call)
 }

@@ -1,6 +1,6 @@
 //! Bytes that several tests use.
 #![allow(dead_code)]
-use relay::Sheet;
+use dbn_start::{Sheet, SheetIds};
 
 /// Bytes from hexadecimal digits; blanks are skipped.
 pub fn hex(digits: &str) -> Vec<u8> {
@@ -18,13 +18,19 @@ pub const U64: u8 = 8;
 
 /// A made sheet: ids 5 to 8 are integers of 1, 2, 4 and 8 bytes, 13 an enum of one byte, and the header has 24 bytes.
 pub fn plain() -> Sheet {
-    let mut sheet = [0; 520];
-    for (id, size) in [(4, 8), (5, 1), (6, 2), (7, 4), (8, 8), (13, 1)] {
-        sheet[id] = size;
-    }
-    sheet[256 + 13] = 1;
-    sheet[512..519].copy_from_slice(&[STRUCT as u16, SYMBOL as u16, DECIMAL as u16, PADDING as u16, 64, 65535, 24]);
-    sheet
+    let ids = SheetIds {
+        struct_id: STRUCT,
+        symbol_id: SYMBOL,
+        decimal_id: DECIMAL,
+        padding_id: PADDING,
+        extension_weight: 64,
+        no_label_def: 65535,
+        header_size: 24,
+    };
+    let sheet = Sheet::new(ids).with_label_type(13, 1);
+    [(DECIMAL, 8), (5, 1), (6, 2), (7, 4), (U64, 8)]
+        .into_iter()
+        .fold(sheet, |sheet, (id, size)| sheet.with_type(id, size))
 }
 
 /// A prelude and its block.

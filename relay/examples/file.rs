@@ -1,0 +1,53 @@
+//! file FILE: shows the start of a DBN file below version 4, and tells why where it is refused.
+use dbn_start::{Feed, Limits, Step};
+use std::{error::Error, fs::File, io::Read, process::ExitCode};
+
+/// Reads the start of a file, and nothing past it.
+fn start(file: &mut File) -> Result<Feed, Box<dyn Error>> {
+    // A version 4 file also wants a type sheet: Feed::new(limits).with_sheet(sheet).
+    let mut feed = Feed::new(Limits::default());
+    let mut buffer = vec![0; 1 << 16];
+    while let Step::Needs(needed) = feed.step()? {
+        let most = needed.min(buffer.len());
+        match file.read(&mut buffer[..most])? {
+            0 => return Err(format!("the file ends {needed} bytes before the start does").into()),
+            n => feed.feed(&buffer[..n])?,
+        };
+    }
+    Ok(feed)
+}
+
+/// Prints what a start says.
+fn show(feed: &Feed) {
+    let block = feed.block().expect("a feed that needs nothing has a block");
+    let fields = block.fields();
+    println!("version {}, dataset {:?}, schema {:?}", block.version(), block.dataset(), fields.schema);
+    println!("from {} to {:?}, {} bytes", fields.start, fields.end, feed.held().len());
+    for (what, count) in [("symbols", block.symbols().count()), ("partly found", block.partial().count())] {
+        println!("{what}: {count}");
+    }
+    println!("not found: {}", block.not_found().count());
+    for mapping in block.mappings() {
+        println!("{:?}", mapping.raw_symbol);
+        for interval in mapping.intervals() {
+            println!("  {} to {}: {:?}", interval.start_date, interval.end_date, interval.symbol);
+        }
+    }
+}
+
+fn run() -> Result<(), Box<dyn Error>> {
+    let name = std::env::args_os().nth(1).ok_or("file FILE: no file was named")?;
+    let mut file = File::open(&name).map_err(|error| format!("{}: {error}", name.to_string_lossy()))?;
+    show(&start(&mut file)?);
+    Ok(())
+}
+
+fn main() -> ExitCode {
+    match run() {
+        Ok(()) => ExitCode::SUCCESS,
+        Err(error) => {
+            eprintln!("file: {error}");
+            ExitCode::FAILURE
+        }
+    }
+}

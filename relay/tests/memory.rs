@@ -1,0 +1,142 @@
+//! What a feed takes of the machine: it grows with what arrives, stays below the stated bound, and is told where there is none.
+use dbn_start::{Feed, Limits, Refusal, Step};
+use std::{
+    alloc::{GlobalAlloc, Layout, System},
+    cell::Cell,
+    ptr::null_mut,
+};
+
+/// Counts what this thread has, and the most it had, and gives no more than it may. A buffer that grows is there twice while it moves.
+struct Counting;
+
+thread_local! {
+    static HAS: Cell<usize> = const { Cell::new(0) };
+    static MOST: Cell<usize> = const { Cell::new(0) };
+    static MAY: Cell<usize> = const { Cell::new(usize::MAX) };
+}
+
+// SAFETY: memory is the system's, whose promises these are; the counts need no memory.
+unsafe impl GlobalAlloc for Counting {
+    unsafe fn alloc(&self, layout: Layout) -> *mut u8 {
+        let has = HAS.get().wrapping_add(layout.size());
+        if has > MAY.get() {
+            return null_mut();
+        }
+        HAS.set(has);
+        MOST.set(MOST.get().max(has));
+        // SAFETY: as the caller promises.
+        unsafe { System.alloc(layout) }
+    }
+
+    unsafe fn dealloc(&self, at: *mut u8, layout: Layout) {
+        HAS.set(HAS.get().wrapping_sub(layout.size()));
+        // SAFETY: as the caller promises.
+        unsafe { System.dealloc(at, layout) }
+    }
+}
+
+#[global_allocator]
+static COUNTING: Counting = Counting;
+
+/// What the work gives, and the most memory that it had beyond what was there before.
+fn most<A>(work: impl FnOnce() -> A) -> (A, usize) {
+    let before = HAS.get();
+    MOST.set(before);
+    let answer = work();
+    (answer, MOST.get() - before)
+}
+
+/// The most that a feed takes with these limits, as src/tables.rs and the README state it.
+fn bound(limits: Limits) -> usize {
+    2 * limits.bytes + 36 * limits.rows + 4096
+}
+
+/// A version 3 start with `count` symbols of one byte.
+fn one_byte_symbols(count: usize) -> Vec<u8> {
+    let mut block = vec![0; 104];
+    block[45] = 1;
+    block.extend((count as u32).to_le_bytes());
+    block.resize(108 + count, b'A');
+    block.extend([0; 12]);
+    let mut stream = b"DBN\x03".to_vec();
+    stream.extend((block.len() as u32).to_le_bytes());
+    stream.extend(block);
+    stream
+}
+
+/// Feeds a stream in pieces of 4,096 bytes.
+fn fed(stream: &[u8], limits: Limits) -> (Result<Step, Refusal>, Feed) {
+    let mut feed = Feed::new(limits);
+    for piece in stream.chunks(4096) {
+        if feed.feed(piece).is_err() {
+            break;
+        }
+    }
+    (feed.step(), feed)
+}
+
+#[test]
+fn eight_bytes_that_claim_the_limit_take_less_than_64_kib() {
+    let limits = Limits { bytes: 1 << 32, rows: 1 << 30 };
+    let claim = [0x44, 0x42, 0x4E, 3, 0xF8, 0xFF, 0xFF, 0xFF];
+    let ((step, _), took) = most(|| fed(&claim, limits));
+    assert_eq!(step, Ok(Step::Needs((1 << 32) - 8)));
+    assert!(took < 64 << 10, "{took} bytes");
+    // And so on: never more than a few times what came.
+    for came in [100, 10_000, 1_000_000] {
+        let mut bytes = claim.to_vec();
+        bytes.resize(came, 0);
+        let ((step, _), took) = most(|| fed(&bytes, limits));
+        assert_eq!(step, Ok(Step::Needs((1 << 32) - came)));
+        assert!(took < 3 * came + 4096, "{took} bytes for {came}");
+    }
+}
+
+#[test]
+fn sixteen_mib_of_one_byte_symbols_stay_below_the_bound() {
+    let limits = Limits::default();
+    let stream = one_byte_symbols(limits.bytes - 8 - 120);
+    assert_eq!(stream.len(), limits.bytes);
+    let ((step, _), took) = most(|| fed(&stream, limits));
+    assert_eq!(step, Err(Refusal::TableShort), "more rows than the limit");
+    assert!(took < bound(limits), "{took} bytes");
+    println!("16 MiB of one-byte symbols: {took} bytes, the bound is {}", bound(limits));
+    // As many rows as the limit has are accepted, within the same bound.
+    let stream = one_byte_symbols(limits.rows);
+    let ((step, feed), took) = most(|| fed(&stream, limits));
+    assert_eq!((step, feed.block().map(|block| block.rows().len())), (Ok(Step::Done), Some(limits.rows)));
+    assert!(took < bound(limits), "{took} bytes");
+    // Where the caller wants all of 16 MiB, the rows are what it takes.
+    let limits = Limits { rows: 1 << 24, ..limits };
+    let stream = one_byte_symbols(limits.bytes - 8 - 120);
+    let ((step, _), took) = most(|| fed(&stream, limits));
+    assert_eq!(step, Ok(Step::Done));
+    assert!(took < 2 * limits.bytes + 20 * limits.rows + 4096 && took < bound(limits), "{took} bytes");
+}
+
+#[test]
+fn no_memory_is_a_refusal() {
+    let stream = one_byte_symbols(100_000);
+    let told = |may: usize| {
+        MAY.set(HAS.get() + may);
+        let answer = fed(&stream, Limits::default()).0;
+        MAY.set(usize::MAX);
+        answer
+    };
+    assert_eq!(told(50_000), Err(Refusal::NoMemory), "for the bytes");
+    assert_eq!(told(1_000_000), Err(Refusal::NoMemory), "for the rows");
+    assert_eq!(told(3_000_000), Ok(Step::Done));
+}
+
+#[test]
+fn a_feed_that_begins_anew_takes_no_more() {
+    let stream = one_byte_symbols(100_000);
+    let mut feed = fed(&stream, Limits::default()).1;
+    let (_, took) = most(|| {
+        for _ in 0..3 {
+            feed.reset();
+            assert_eq!(feed.feed(&stream).map(|fed| fed.step), Ok(Step::Done));
+        }
+    });
+    assert_eq!(took, 0);
+}
