@@ -8,7 +8,7 @@ fn one_contract(feed: &Feed) {
     let block = feed.block().expect("a block");
     assert_eq!((block.version(), block.dataset()), (2, "GLBX.MDP3"));
     let fields = block.fields();
-    assert_eq!((fields.schema, fields.stype_in, fields.stype_out), (Some(0), Some(6), 0));
+    assert_eq!((fields.schema, fields.stype_in, fields.stype_out), (Some(0), Some(3), 0));
     assert_eq!((fields.start, fields.end), (1_672_531_200_000_000_000, Some(1_700_000_000_000_000_000)));
     assert_eq!((fields.limit, fields.ts_out, fields.symbol_cstr_len, fields.layout_version), (None, false, 71, None));
     assert_eq!(block.symbols().collect::<Vec<_>>(), ["ES.c.0"]);

@@ -72,7 +72,7 @@ pub fn capture() -> (Vec<u8>, [usize; 3]) {
     block.extend(1_672_531_200_000_000_000u64.to_le_bytes());
     block.extend(1_700_000_000_000_000_000u64.to_le_bytes());
     block.extend(0u64.to_le_bytes());
-    block.extend([6, 0, 0]);
+    block.extend([3, 0, 0]);
     block.extend(71u16.to_le_bytes());
     block.resize(104, 0);
     block.extend(1u32.to_le_bytes());
