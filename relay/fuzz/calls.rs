@@ -1,63 +1,13 @@
-//! Calls of the C functions with guard words around every lent buffer.
+//! Calls of the C functions with guarded buffers.
 //!
-//! Each call copies what is lent into a buffer with guard words on both sides, calls, sees that no guard word and nothing
-//! that was lent for reading has changed, and gives back the number and every buffer that was lent for writing.
+//! Each call copies what is lent into a buffer between two pages that nobody may touch (`lent.rs`), calls, sees that no guard byte and
+//! nothing that was lent for reading has changed, and gives back the number and every buffer that was lent for writing.
 #![allow(dead_code)]
+#[path = "lent.rs"]
+pub mod lent;
+
 use dbn_start::ffi;
-
-/// Guard words on each side of a buffer.
-const GUARD: usize = 8;
-
-/// Numbers that a buffer can hold.
-pub trait Word: Copy + PartialEq + std::fmt::Debug {
-    /// The guard word at a place.
-    fn guard(place: usize) -> Self;
-}
-
-macro_rules! words {
-    ($($t:ty)*) => { $(impl Word for $t {
-        fn guard(place: usize) -> Self {
-            (0x9E37_79B9_7F4A_7C15u64.wrapping_mul(place as u64 + 3) >> 7) as $t
-        }
-    })* };
-}
-words! { u8 u16 u32 u64 }
-
-/// A buffer between guard words.
-struct Lent<T> {
-    words: Vec<T>,
-    length: usize,
-}
-
-impl<T: Word> Lent<T> {
-    fn new(content: &[T]) -> Self {
-        let mut words = Vec::with_capacity(content.len() + 2 * GUARD);
-        words.extend((0..GUARD).map(T::guard));
-        words.extend_from_slice(content);
-        words.extend((GUARD..2 * GUARD).map(T::guard));
-        Self { words, length: content.len() }
-    }
-
-    fn at(&self) -> *const T {
-        self.words[GUARD..].as_ptr()
-    }
-
-    fn at_mut(&mut self) -> *mut T {
-        self.words[GUARD..].as_mut_ptr()
-    }
-
-    /// The content, once the guard words are seen to be whole.
-    fn content(&self, what: &str) -> &[T] {
-        let end = GUARD + self.length;
-        let whole = (0..GUARD).all(|i| self.words[i] == T::guard(i) && self.words[end + i] == T::guard(GUARD + i));
-        assert!(whole, "a guard word beside {what} was changed");
-        &self.words[GUARD..end]
-    }
-
-    fn unchanged(&self, what: &str, before: &[T]) {
-        assert!(self.content(what) == before, "{what}, lent for reading, was changed");
-    }
-}
+use lent::Lent;
 
 /// A reading of a block.
 #[derive(Debug, Clone, PartialEq)]

@@ -1,6 +1,6 @@
 //! The fuzz loop: made and damaged inputs through every C function.
 //!
-//! What is checked needs no second reader: no guard word is touched; a refusal is a number of the table, and leaves tables
+//! What is checked needs no second reader: nothing outside what is lent is read or written; a refusal is a number of the table, and leaves tables
 //! and output as they were, and `out` too but for what is named; the answer is the same however a stream is cut; the count
 //! needed is the least that ends the stage; a block, its stream and its layout get the same answer; names lie within the
 //! bytes; what is read is written back, and what is written is read back.
@@ -39,6 +39,7 @@ pub fn run(first: u64, end: u64, seed: u64) -> Count {
     let mut count = Count::default();
     for input in first..end {
         let at = At { seed, input };
+        calls::lent::begin(input);
         let mut r = Rng::new(seed.wrapping_mul(1_000_003).wrapping_add(input.wrapping_mul(0x5851_F42D_4C95_7F2D)));
         let sheet = match r.below(4) {
             0 => gen::other_sheet(),

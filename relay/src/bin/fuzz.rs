@@ -19,5 +19,7 @@ fn main() {
         let fuzz::Count { inputs, calls, accepted, refused, waiting } = total;
         println!("{inputs} inputs of seed {seed}: {calls} counted calls, {accepted} accepted, {refused} refused, {waiting} waiting for bytes");
     }
-    println!("no guard word was touched, and every check held");
+    let pages =
+        if fuzz::calls::lent::GUARDED { "no page beside a lent buffer and no guard byte" } else { "no guard byte" };
+    println!("{pages} was touched, and every check held");
 }
