@@ -103,7 +103,15 @@ fn layouts(bytes: &[u8]) {
             let bytes = black_box(bytes);
             // SAFETY: every pointer is to a buffer of the given length, and no two overlap.
             let number = unsafe {
-                ffi::dbn_layout(bytes.as_ptr(), bytes.len(), 71, sheet.numbers(), table.as_mut_ptr(), table.len(), &mut out)
+                ffi::dbn_layout(
+                    bytes.as_ptr(),
+                    bytes.len(),
+                    71,
+                    sheet.numbers(),
+                    table.as_mut_ptr(),
+                    table.len(),
+                    &mut out,
+                )
             };
             assert_eq!(number, 0);
         },

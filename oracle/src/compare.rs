@@ -1,87 +1,11 @@
 //! The comparison: generated, damaged and cut inputs, the C functions' answers beside the crate's.
 use crate::{
-    calls,
+    aimed, calls,
     gen::{self, Rng, Sheet},
     of_crate::{Answer, Build, BUILDS},
     ours, paper,
+    tally::{told, Beside, Kind, Tally},
 };
-use std::collections::BTreeMap;
-
-/// What an input came to.
-#[derive(Debug)]
-enum Kind {
-    Agreed,
-    /// A difference that docs/DIFFERENCES.md lists.
-    Listed(String),
-    /// Refused by a check that is not in the part taken, and otherwise the same.
-    Apart(&'static str),
-    Unexplained(String),
-}
-
-/// Counts of a run.
-#[derive(Default)]
-pub struct Tally {
-    inputs: BTreeMap<&'static str, u64>,
-    answers: BTreeMap<String, u64>,
-    agreed: u64,
-    listed: BTreeMap<String, u64>,
-    apart: BTreeMap<&'static str, u64>,
-    unexplained: Vec<String>,
-}
-
-impl Tally {
-    fn add(&mut self, what: &'static str, answer: &Answer, kind: Kind) {
-        *self.inputs.entry(what).or_default() += 1;
-        *self.answers.entry(told(answer)).or_default() += 1;
-        match kind {
-            Kind::Agreed => self.agreed += 1,
-            Kind::Listed(why) => *self.listed.entry(why).or_default() += 1,
-            Kind::Apart(why) => *self.apart.entry(why).or_default() += 1,
-            Kind::Unexplained(text) => {
-                if self.unexplained.len() < 20 {
-                    eprintln!("unexplained, {what}: {text}");
-                }
-                self.unexplained.push(text);
-            }
-        }
-    }
-
-    /// Prints the counts. True where nothing is unexplained.
-    pub fn print(&self) -> bool {
-        let inputs: u64 = self.inputs.values().sum();
-        println!("inputs {inputs}");
-        for (what, count) in &self.inputs {
-            println!("  {what} {count}");
-        }
-        println!("agreed {}", self.agreed);
-        println!("listed differences {}", self.listed.values().sum::<u64>());
-        for (why, count) in &self.listed {
-            println!("  {why} {count}");
-        }
-        println!("counted apart {}", self.apart.values().sum::<u64>());
-        for (why, count) in &self.apart {
-            println!("  {why} {count}");
-        }
-        println!("  hash, compiled rtypes, required fields 0 (the text at hand lacks them)");
-        print!("answers");
-        for (answer, count) in &self.answers {
-            print!(" {answer}:{count}");
-        }
-        println!();
-        println!("unexplained {}", self.unexplained.len());
-        self.unexplained.is_empty()
-    }
-}
-
-fn told(answer: &Answer) -> String {
-    match answer {
-        Answer::Needs(_) => "needs".into(),
-        Answer::Refused(number) => number.to_string(),
-        Answer::Accepted(_) => "accepted".into(),
-        Answer::CheckSize => "check_size".into(),
-        Answer::Odd(text) => format!("odd ({text})"),
-    }
-}
 
 /// A made sheet: which of the two builds it is for, its lent form, and which sizes of 0 the crate is told as `Some(0)`.
 struct Made {
@@ -136,14 +60,20 @@ pub fn run(inputs: u64, seed: u64) -> Tally {
             made = Made::new(&mut r);
             made.install();
         }
-        match r.below(12) {
+        // Tables of more rows than can be counted take long, so they come seldom.
+        if i % 150 == 0 {
+            long_rows(&mut r, &made.sheet, &mut tally);
+            continue;
+        }
+        match r.below(13) {
             0..=3 => stream(&mut r, &made, &mut tally),
             4 => block(&mut r, &made, &mut tally),
             5..=7 => layout(&mut r, &made, &mut tally),
             8 => written(&mut r, &made, &mut tally),
             9 => rows(&mut r, &made.sheet, &mut tally),
             10 => lent(&mut r, &made.sheet, &mut tally),
-            _ => any_sheet(&mut r, &mut tally),
+            11 => any_sheet(&mut r, &mut tally),
+            _ => aimed(&mut r, &made, &mut tally),
         }
     }
     tally
@@ -191,12 +121,27 @@ fn with_input(kind: Kind, input: impl Fn() -> String) -> Kind {
 /// A stream start, damaged or not, cut at random places.
 fn stream(r: &mut Rng, made: &Made, tally: &mut Tally) {
     let bytes = some_stream(r, &made.sheet);
+    cut_stream(r, made, tally, &bytes, "streams");
+}
+
+/// A stream start or a layout aimed at a number that is seldom given.
+fn aimed(r: &mut Rng, made: &Made, tally: &mut Tally) {
+    if r.one_in(2) {
+        let bytes = aimed::stream(r, &made.sheet);
+        cut_stream(r, made, tally, &bytes, "aimed streams");
+    } else {
+        let (bytes, width) = aimed::layout(r, &made.sheet);
+        one_layout(r, made, tally, &bytes, width, "aimed layouts");
+    }
+}
+
+fn cut_stream(r: &mut Rng, made: &Made, tally: &mut Tally, bytes: &[u8], what: &'static str) {
     let mut cuts: Vec<usize> = (0..r.pick(&[0, 0, 1, 2, 3, 5])).map(|_| r.below(bytes.len() + 1)).collect();
     cuts.sort();
-    let answers = ours::feed(r, &bytes, &cuts, &made.sheet);
-    let kind = judge(&answers, &BUILDS[made.build], |build| (build.feed)(&bytes, &cuts));
-    let kind = with_input(kind, || format!("stream {} cut at {cuts:?}", hex(&bytes)));
-    tally.add("streams", answers.last().unwrap(), kind);
+    let answers = ours::feed(r, bytes, &cuts, &made.sheet);
+    let kind = judge(&answers, &BUILDS[made.build], |build| (build.feed)(bytes, &cuts));
+    let kind = with_input(kind, || format!("stream {} cut at {cuts:?}", hex(bytes)));
+    tally.add(Beside::Crate, what, answers.last().unwrap(), kind);
 }
 
 /// A block given whole with a version. The crate is asked with a prelude before it; it has no word for 11 and 13 here.
@@ -210,16 +155,17 @@ fn block(r: &mut Rng, made: &Made, tally: &mut Tally) {
     let answer = ours::block(r, version, &block, &made.sheet);
     let wanted =
         |number| if answer == Answer::Refused(number) { Kind::Agreed } else { Kind::Unexplained(told(&answer)) };
-    let kind = if !(1..=4).contains(&version) {
-        wanted(11)
+    let (beside, kind) = if !(1..=4).contains(&version) {
+        (Beside::Paper, wanted(11))
     } else if block.len() < 100 {
-        wanted(13)
+        (Beside::Paper, wanted(13))
     } else {
         let stream = gen::stream_of(version, &block);
-        judge(std::slice::from_ref(&answer), &BUILDS[made.build], |build| (build.feed)(&stream, &[]))
+        let ours = std::slice::from_ref(&answer);
+        (Beside::Crate, judge(ours, &BUILDS[made.build], |build| (build.feed)(&stream, &[])))
     };
     let kind = with_input(kind, || format!("block {} version {version}", hex(&block)));
-    tally.add("blocks", &answer, kind);
+    tally.add(beside, "blocks", &answer, kind);
 }
 
 /// A stream start whose declared length a machine can hold.
@@ -242,10 +188,14 @@ fn some_layout(r: &mut Rng, sheet: &Sheet) -> (Vec<u8>, u16) {
 
 fn layout(r: &mut Rng, made: &Made, tally: &mut Tally) {
     let (bytes, width) = some_layout(r, &made.sheet);
-    let answer = [ours::layout(r, &bytes, width, &made.sheet)];
-    let kind = judge(&answer, &BUILDS[made.build], |build| vec![(build.layout)(&bytes, width)]);
-    let kind = with_input(kind, || format!("layout {} width {width}", hex(&bytes)));
-    tally.add("layouts", &answer[0], kind);
+    one_layout(r, made, tally, &bytes, width, "layouts");
+}
+
+fn one_layout(r: &mut Rng, made: &Made, tally: &mut Tally, bytes: &[u8], width: u16, what: &'static str) {
+    let answer = [ours::layout(r, bytes, width, &made.sheet)];
+    let kind = judge(&answer, &BUILDS[made.build], |build| vec![(build.layout)(bytes, width)]);
+    let kind = with_input(kind, || format!("layout {} width {width}", hex(bytes)));
+    tally.add(Beside::Crate, what, &answer[0], kind);
 }
 
 /// An accepted layout through both writers, its names in a text area of their own: the same bytes, which the crate reads back.
@@ -257,7 +207,12 @@ fn written(r: &mut Rng, made: &Made, tally: &mut Tally) {
     let Answer::Accepted(values) = &answer else {
         let build = &BUILDS[made.build];
         let kind = judge(std::slice::from_ref(&answer), build, |build| vec![(build.layout)(&bytes, width)]);
-        tally.add("layouts", &answer, with_input(kind, || format!("layout {} width {width}", hex(&bytes))));
+        tally.add(
+            Beside::Crate,
+            "layouts",
+            &answer,
+            with_input(kind, || format!("layout {} width {width}", hex(&bytes))),
+        );
         return;
     };
     // The build with document 01's alignment reads whatever is read here.
@@ -276,7 +231,7 @@ fn written(r: &mut Rng, made: &Made, tally: &mut Tally) {
             }
         }
     };
-    tally.add("written", &answer, with_input(kind, || format!("layout {} width {width}", hex(&bytes))));
+    tally.add(Beside::Crate, "written", &answer, with_input(kind, || format!("layout {} width {width}", hex(&bytes))));
 }
 
 #[allow(clippy::too_many_arguments)]
@@ -359,12 +314,30 @@ fn rows(r: &mut Rng, sheet: &Sheet, tally: &mut Tally) {
     for _ in 0..r.pick(&[0, 1, 1, 2]) {
         bend_rows(r, &mut rows, text.len());
     }
+    write_rows(r, sheet, tally, &rows, &text, width, "rows");
+}
+
+/// Rows of sections and tables that are too long, held to document 01's program.
+fn long_rows(r: &mut Rng, sheet: &Sheet, tally: &mut Tally) {
+    let (rows, text) = aimed::rows(r);
+    write_rows(r, sheet, tally, &rows, &text, 8, "long rows");
+}
+
+fn write_rows(
+    r: &mut Rng,
+    sheet: &Sheet,
+    tally: &mut Tally,
+    rows: &[u32],
+    text: &[u8],
+    width: u16,
+    what: &'static str,
+) {
     let version = r.next() as u16;
-    let wanted = paper::write(&rows, &text, version, width as usize, &sheet.0);
+    let wanted = paper::write(rows, text, version, width as usize, &sheet.0);
     let length = wanted.as_ref().map_or(60, Vec::len);
     let room = if r.one_in(6) { r.below(length + 1) } else { length + r.below(9) };
     let wanted = wanted.and_then(|bytes| if bytes.len() > room { Err(96) } else { Ok(bytes) });
-    let got = ours::write(r, &rows, &text, version, width, sheet, room);
+    let got = ours::write(r, rows, text, version, width, sheet, room);
     let answer = match &wanted {
         Ok(_) => Answer::Accepted(Box::default()),
         Err(number) => Answer::Refused(*number),
@@ -372,9 +345,9 @@ fn rows(r: &mut Rng, sheet: &Sheet, tally: &mut Tally) {
     let kind = if got == Ok(wanted.clone()) {
         Kind::Agreed
     } else {
-        Kind::Unexplained(format!("paper {wanted:?}, here {got:?}; rows {rows:?} text {} width {width}", hex(&text)))
+        Kind::Unexplained(format!("paper {wanted:?}, here {got:?}; rows {rows:?} text {} width {width}", hex(text)))
     };
-    tally.add("rows (document 01's program)", &answer, kind);
+    tally.add(Beside::Paper, what, &answer, kind);
 }
 
 fn bend_rows(r: &mut Rng, rows: &mut Vec<u32>, text: usize) {
@@ -472,7 +445,7 @@ fn lent(r: &mut Rng, sheet: &Sheet, tally: &mut Tally) {
         let text = format!("paper {} {:?}, here {} {:?}", wanted.number, &wanted.out[10..], got.number, &got.out[10..]);
         Kind::Unexplained(format!("{text}; held {held}, store {}, piece {}", hex(&store), hex(piece)))
     };
-    tally.add("stores and tables (document 01's program)", &answer, kind);
+    tally.add(Beside::Paper, "stores and tables", &answer, kind);
 }
 
 /// Layouts with sheets of random numbers, special ids that coincide among them, held to document 01's program.
@@ -498,5 +471,5 @@ fn any_sheet(r: &mut Rng, tally: &mut Tally) {
             hex(&bytes)
         ))
     };
-    tally.add("layouts of any sheet (document 01's program)", &answer, kind);
+    tally.add(Beside::Paper, "layouts of any sheet", &answer, kind);
 }

@@ -1,10 +1,12 @@
 //! oracle compare N SEED | sample FOLDER | bench
+mod aimed;
 mod bench;
 mod compare;
 mod of_crate;
 mod ours;
 mod paper;
 mod sample;
+mod tally;
 mod walk;
 
 #[path = "../../relay/measure/mod.rs"]

@@ -1,0 +1,142 @@
+//! What a run came to: counts, beside the crate and beside the plain program apart, and a floor for each number.
+use crate::of_crate::Answer;
+use std::collections::BTreeMap;
+
+/// What an answer was held to.
+#[derive(Debug, Clone, Copy, PartialEq, Eq, PartialOrd, Ord)]
+pub enum Beside {
+    /// The crate's own text.
+    Crate,
+    /// Document 01 as a plain program (`paper.rs`), where the crate has no such thing.
+    Paper,
+}
+
+/// What an input came to.
+#[derive(Debug)]
+pub enum Kind {
+    Agreed,
+    /// A difference that docs/DIFFERENCES.md lists.
+    Listed(String),
+    /// Refused by a check that is not in the part taken, and otherwise the same.
+    Apart(&'static str),
+    Unexplained(String),
+}
+
+/// The numbers that the crate can give, and those that the plain program alone gives. 70 cannot come from a reader or a writer.
+const OF_CRATE: [std::ops::RangeInclusive<u32>; 6] = [10..=12, 20..=28, 30..=40, 50..=55, 60..=64, 71..=83];
+const OF_PAPER: [std::ops::RangeInclusive<u32>; 3] = [1..=3, 13..=13, 90..=96];
+
+/// Each number is to be agreed on once in so many inputs, or more often. Shorter runs than this many floors have none.
+const FLOOR: u64 = 4_000;
+const SHORT: u64 = 5;
+
+/// Counts of what was held to one of the two.
+#[derive(Default)]
+struct Counts {
+    inputs: BTreeMap<&'static str, u64>,
+    answers: BTreeMap<String, u64>,
+    /// How often each number was agreed on.
+    hits: BTreeMap<u32, u64>,
+    agreed: u64,
+    listed: BTreeMap<String, u64>,
+    apart: BTreeMap<&'static str, u64>,
+}
+
+/// Counts of a run.
+#[derive(Default)]
+pub struct Tally {
+    counts: BTreeMap<Beside, Counts>,
+    unexplained: Vec<String>,
+}
+
+impl Tally {
+    pub fn add(&mut self, beside: Beside, what: &'static str, answer: &Answer, kind: Kind) {
+        let counts = self.counts.entry(beside).or_default();
+        *counts.inputs.entry(what).or_default() += 1;
+        *counts.answers.entry(told(answer)).or_default() += 1;
+        match kind {
+            Kind::Agreed => {
+                counts.agreed += 1;
+                if let Answer::Refused(number) = answer {
+                    *counts.hits.entry(*number).or_default() += 1;
+                }
+            }
+            Kind::Listed(why) => *counts.listed.entry(why).or_default() += 1,
+            Kind::Apart(why) => *counts.apart.entry(why).or_default() += 1,
+            Kind::Unexplained(text) => {
+                if self.unexplained.len() < 20 {
+                    eprintln!("unexplained, {what}: {text}");
+                }
+                self.unexplained.push(text);
+            }
+        }
+    }
+
+    /// Prints the counts. True where nothing is unexplained and every number was agreed on often enough.
+    pub fn print(&self) -> bool {
+        let inputs = self.counts.values().map(Counts::total).sum::<u64>();
+        println!("inputs {inputs}");
+        let mut enough = true;
+        for (beside, counts) in &self.counts {
+            match beside {
+                Beside::Crate => println!("beside the crate {}", counts.total()),
+                Beside::Paper => println!("beside the plain program of document 01 {}", counts.total()),
+            }
+            counts.print(*beside == Beside::Crate);
+            let numbers = if *beside == Beside::Crate { &OF_CRATE[..] } else { &OF_PAPER[..] };
+            enough &= counts.floor(numbers, if inputs < SHORT * FLOOR { 0 } else { inputs / FLOOR });
+        }
+        println!("unexplained {}", self.unexplained.len());
+        enough && self.unexplained.is_empty()
+    }
+}
+
+impl Counts {
+    fn total(&self) -> u64 {
+        self.inputs.values().sum()
+    }
+
+    fn print(&self, of_crate: bool) {
+        let tell = |what: &str, counts: Vec<(&str, u64)>| {
+            println!("  {what} {}", counts.iter().map(|(_, count)| count).sum::<u64>());
+            for (why, count) in counts {
+                println!("    {why} {count}");
+            }
+        };
+        tell("inputs", self.inputs.iter().map(|(&what, &count)| (what, count)).collect());
+        println!("  agreed {}", self.agreed);
+        if of_crate {
+            tell("listed differences", self.listed.iter().map(|(why, &count)| (why.as_str(), count)).collect());
+            tell("counted apart", self.apart.iter().map(|(&why, &count)| (why, count)).collect());
+            println!("    hash, compiled rtypes, required fields 0 (the text at hand lacks them)");
+        }
+        let answers: Vec<String> = self.answers.iter().map(|(answer, count)| format!("{answer}:{count}")).collect();
+        println!("  answers {}", answers.join(" "));
+    }
+
+    /// Whether each of the numbers was agreed on so often. Prints the one that was least.
+    fn floor(&self, numbers: &[std::ops::RangeInclusive<u32>], floor: u64) -> bool {
+        let hits = |number: u32| self.hits.get(&number).copied().unwrap_or(0);
+        let all: Vec<u32> = numbers.iter().cloned().flatten().collect();
+        for &number in all.iter().filter(|&&number| hits(number) < floor) {
+            eprintln!("too seldom: {number} was agreed on {} times, and the floor is {floor}", hits(number));
+        }
+        let least = all.iter().copied().min_by_key(|&number| hits(number)).expect("some numbers");
+        println!(
+            "  each of {} numbers agreed on {} times or more ({least} least; the floor is {floor})",
+            all.len(),
+            hits(least)
+        );
+        hits(least) >= floor
+    }
+}
+
+pub fn told(answer: &Answer) -> String {
+    match answer {
+        Answer::Needs(_) => "needs".into(),
+        Answer::Refused(number) => number.to_string(),
+        Answer::Accepted(_) => "accepted".into(),
+        Answer::CheckSize => "check_size".into(),
+        Answer::Odd(text) => format!("odd ({text})"),
+    }
+}
