@@ -1,14 +1,23 @@
-/* The start of DBN streams: C functions of the library dbn_c.
+/* The start of DBN streams: C functions of the library dbn_c, for C99 and C++11. examples/c has a program that calls them.
  *
- * Every function answers a refusal number, 0 for accepted, unless it says yes or no. A slice is a pointer and a length; a pointer of
- * length 0 is not read. `out` is written only as said here, and what is not named keeps its value. A refusal leaves tables and output
- * bytes as they were; only the store of dbn_feed keeps the bytes it took. Rows are five numbers for the symbology and nine for the
- * layout. `sheet` is the type sheet, 520 numbers: 0 to 255 the natural sizes of the type ids (0: none), 256 to 511 nonzero for label
- * users, 512 the struct id, 513 the symbol id, 514 the decimal id, 515 the padding id, 516 the weight of the extension bit in the
- * flags, 517 the def index that means no label def, 518 the header size, 519 unused.
+ * Answers. Every function answers a refusal number, 0 for accepted, unless it says yes or no. dbn_sentence tells a number in words.
  *
- * Stack: a call needs less than 32 KiB. A call that meets a layout of more than 4,096 structs, or a record or struct whose fields stand
- * far from the order of their offsets, needs less than 320 KiB, and so does dbn_layout_plain always.
+ * Buffers. A slice is a pointer and a length in elements. It may be NULL where the length is 0, and is not read then; `sheet` and `out` are
+ * never NULL. A pointer is aligned for its element: 2 bytes for uint16_t, 4 for uint32_t, 8 for uint64_t. A buffer that is lent for
+ * writing (store, symbology, layout, rows, output, out, where they are not const) overlaps no other buffer of the call; two that are
+ * only read may. size_t has 64 bits. Nothing is kept after a call, nothing is allocated, and any number of threads may call at once.
+ *
+ * What is written. Rows past the last one, output past the written length and the store past the bytes held are untouched. `out` is
+ * written only as said here, and what is not named keeps its value. A refusal leaves tables and output as they were; only the
+ * store of dbn_feed keeps the bytes it took, and a refusal by 3 tells the rows needed.
+ *
+ * Stack, in bytes that a call needs at the most:
+ *     dbn_text, dbn_date, dbn_prelude, dbn_symbology_name, dbn_layout_name     4 KiB
+ *     dbn_block, dbn_feed, dbn_layout, dbn_write_layout                       32 KiB
+ *     the same for a layout of more than 4,096 structs, or with a record
+ *     or struct whose fields stand far from the order of their offsets       320 KiB
+ *     dbn_layout_plain                                                       320 KiB
+ * So 64 KiB do for streams below version 4 and for layouts in order, and 320 KiB for anything that a stranger sends.
  */
 #ifndef DBN_START_H
 #define DBN_START_H
@@ -16,9 +25,185 @@
 #include <stddef.h>
 #include <stdint.h>
 
+#if defined(SIZE_MAX) && SIZE_MAX < UINT64_MAX
+#error "dbn_start.h: the library dbn_c is for machines whose size_t has 64 bits"
+#endif
+
+/* The version of this header, major x 10000 + minor x 100 + patch. */
+#define DBN_START_VERSION_MAJOR 0
+#define DBN_START_VERSION_MINOR 2
+#define DBN_START_VERSION_PATCH 0
+#define DBN_START_VERSION (DBN_START_VERSION_MAJOR * 10000 + DBN_START_VERSION_MINOR * 100 + DBN_START_VERSION_PATCH)
+
 #ifdef __cplusplus
 extern "C" {
 #endif
+
+/* The refusals: name, number and sentence. The names come out as DBN_REFUSED_MAGIC and so on. */
+#define DBN_REFUSALS(X) \
+    X(HELD_BEYOND, 1, "more bytes are held than the store or the whole block has")                 \
+    X(STORE_SHORT, 2, "the store is too short for the prelude or for the block")                   \
+    X(TABLE_SHORT, 3, "a row table is too short")                                                  \
+    X(MAGIC, 10, "the stream does not begin with DBN")                                             \
+    X(VERSION, 11, "the version is not 1 to 4")                                                    \
+    X(BLOCK_LENGTH, 12, "the block's length is below 100")                                         \
+    X(SIZE, 13, "the block is below 100 bytes, or it or the layout is above 4,294,967,295")        \
+    X(DATASET_NOT_UTF8, 20, "the dataset is not UTF-8")                                            \
+    X(SCHEMA, 21, "the schema is not known")                                                       \
+    X(STYPE_IN, 22, "the input symbol type is not known")                                          \
+    X(STYPE_OUT, 23, "the output symbol type is not known")                                        \
+    X(LAYOUT_PAST_END, 24, "the layout goes past the end of the block")                            \
+    X(LAYOUT_BELOW_4, 25, "a layout below version 4")                                              \
+    X(NO_LAYOUT, 26, "no layout in version 4")                                                     \
+    X(SYMBOLOGY_PAST_END, 27, "the symbology length is missing, or its section goes past the end") \
+    X(SYMBOLOGY_NOT_SPANNED, 28, "the symbology does not span its section")                        \
+    X(LIST_COUNT_MISSING, 30, "the count of a symbol list is missing")                             \
+    X(LIST_COUNT_LARGE, 31, "the count of a symbol list is too large")                             \
+    X(LIST_NOT_UTF8, 32, "a symbol of a list is not UTF-8")                                        \
+    X(MAPPING_COUNT_MISSING, 33, "the count of mappings is missing")                               \
+    X(MAPPING_COUNT_LARGE, 34, "the count of mappings is too large")                               \
+    X(MAPPING_SHORT, 35, "a mapping is cut short")                                                 \
+    X(RAW_SYMBOL_NOT_UTF8, 36, "the raw symbol of a mapping is not UTF-8")                         \
+    X(INTERVAL_COUNT_LARGE, 37, "the count of a mapping's intervals is too large")                 \
+    X(START_DATE, 38, "an interval's start date is no date")                                       \
+    X(END_DATE, 39, "an interval's end date is no date")                                           \
+    X(SYMBOL_NOT_UTF8, 40, "an interval's symbol is not UTF-8")                                    \
+    X(LAYOUT_TRUNCATED, 50, "the layout is cut short")                                             \
+    X(SECTION_SHORT, 51, "a section's length is below 2")                                          \
+    X(NAME_HOLDS_NUL, 52, "a name holds a NUL")                                                    \
+    X(NAME_NOT_UTF8, 53, "a name is not UTF-8")                                                    \
+    X(NAME_NOT_CLOSED, 54, "a name has no closing NUL")                                            \
+    X(LABEL_TWICE, 55, "a label code stands twice in a label def")                                 \
+    X(STRUCT_SIZE, 60, "a struct's size is not a multiple of its alignment")                       \
+    X(RTYPE_TWICE, 61, "an rtype stands twice")                                                    \
+    X(RTYPE_RESERVED, 62, "an rtype's low byte is 4E")                                             \
+    X(BASE_BELOW_HEADER, 63, "a base size is below the header's")                                  \
+    X(BASE_NOT_OF_8, 64, "a base size is not a multiple of 8")                                     \
+    X(NAMES_AND_FIELDS, 70, "names and fields differ in number")                                   \
+    X(ID_TWICE, 71, "a field id stands twice")                                                     \
+    X(STRUCT_IN_STRUCT, 72, "a struct within a struct")                                            \
+    X(DEF_INDEX, 73, "a def index is out of range")                                                \
+    X(MISALIGNED, 74, "a field is misaligned")                                                     \
+    X(SIZE_ZERO, 75, "a field has size 0")                                                         \
+    X(DECIMAL_SCALE, 76, "a decimal's scale is not -9")                                            \
+    X(SYMBOL_WIDTH, 77, "a symbol field's size is not the symbol width")                           \
+    X(FIELD_END, 78, "a field's offset and size are over 65535")                                   \
+    X(EXTENSION_MARK, 79, "a field's extension mark and its place differ")                         \
+    X(PAST_BASE, 80, "a base field goes past the base")                                            \
+    X(BASE_GAP, 81, "a gap or an overlap among the base fields")                                   \
+    X(BASE_UNFILLED, 82, "the base is not covered to its end")                                     \
+    X(EXTENSION_GAP, 83, "a gap among the extension fields")                                       \
+    X(ROWS_MALFORMED, 90, "the rows are malformed, or there is no such name")                      \
+    X(COUNT_LARGE, 91, "a count is over 65535")                                                    \
+    X(NAME_LONG, 92, "a name is over 255 bytes")                                                   \
+    X(NAME_TEXT, 93, "a name holds a NUL or is not UTF-8")                                         \
+    X(SECTION_LARGE, 94, "a section is over 65535 bytes, or the layout over 4,294,967,295")        \
+    X(LABELS_NOT_RISING, 95, "label codes do not rise")                                            \
+    X(OUTPUT_SHORT, 96, "the output is too short")
+
+enum dbn_refusal {
+    DBN_ACCEPTED = 0,
+#define DBN_NAMED(name, number, sentence) DBN_REFUSED_##name = number,
+    DBN_REFUSALS(DBN_NAMED)
+#undef DBN_NAMED
+    DBN_REFUSED_LAST = DBN_REFUSED_OUTPUT_SHORT
+};
+
+/* What a number says, in a few words. */
+static inline const char *dbn_sentence(uint32_t number) {
+    switch (number) {
+    case DBN_ACCEPTED:
+        return "accepted";
+#define DBN_TOLD(name, number, sentence) \
+    case number:                         \
+        return sentence;
+        DBN_REFUSALS(DBN_TOLD)
+#undef DBN_TOLD
+    default:
+        return "no such number";
+    }
+}
+
+/* The type sheet, DBN_SHEET numbers: what the layout of version 4 is judged by. Below version 4 it is not looked at. From
+ * DBN_SHEET_SIZES on stand the natural sizes of the 256 type ids (0: none), from DBN_SHEET_LABEL_USERS on a nonzero number for each id
+ * whose def index names a label def. */
+enum dbn_sheet {
+    DBN_SHEET_SIZES = 0,
+    DBN_SHEET_LABEL_USERS = 256,
+    DBN_SHEET_STRUCT_ID = 512,
+    DBN_SHEET_SYMBOL_ID = 513,
+    DBN_SHEET_DECIMAL_ID = 514,
+    DBN_SHEET_PADDING_ID = 515,
+    DBN_SHEET_EXTENSION_WEIGHT = 516, /* of the extension bit in a field's flags, such as 64 */
+    DBN_SHEET_NO_LABEL_DEF = 517,     /* the def index that means no label def */
+    DBN_SHEET_HEADER_SIZE = 518,
+    DBN_SHEET_UNUSED = 519,
+    DBN_SHEET = 520
+};
+
+/* Numbers in a row, and the kinds of rows, which are a row's first number. Unused numbers are 0. Starts count from the block for
+ * symbology rows and from the layout for layout rows. */
+enum dbn_row { DBN_SYMBOLOGY_ROW = 5, DBN_LAYOUT_ROW = 9 };
+
+enum dbn_symbology_kind {
+    DBN_KIND_SYMBOL = 0,    /* start, length */
+    DBN_KIND_PARTIAL = 1,   /* start, length */
+    DBN_KIND_NOT_FOUND = 2, /* start, length */
+    DBN_KIND_MAPPING = 3,   /* start, length, count of the intervals that follow */
+    DBN_KIND_INTERVAL = 4   /* start, length, start date, end date */
+};
+
+enum dbn_layout_kind {
+    DBN_KIND_RECORD = 10,     /* start, length, rtype, schema, base size, count of fields, hash low, hash high; the fields, then their names, follow */
+    DBN_KIND_FIELD = 11,      /* id, offset, size, type, flags, def index, scale byte; it has no text */
+    DBN_KIND_FIELD_NAME = 12, /* start, length */
+    DBN_KIND_STRUCT = 13,     /* start, length, size, count of fields; the fields, then their names, follow */
+    DBN_KIND_LABEL_DEF = 14,  /* start, length, count of the labels that follow */
+    DBN_KIND_LABEL = 15       /* start, length, code */
+};
+
+/* The places of `out`: of dbn_block and dbn_feed, and in part of dbn_layout and dbn_layout_plain. */
+enum dbn_out {
+    DBN_OUT_DATASET_LENGTH = 0, /* the dataset is the block's first bytes */
+    DBN_OUT_SCHEMA = 1,
+    DBN_OUT_START = 2,
+    DBN_OUT_END = 3,
+    DBN_OUT_LIMIT = 4,
+    DBN_OUT_STYPE_IN = 5,
+    DBN_OUT_STYPE_OUT = 6,
+    DBN_OUT_TS_OUT = 7,
+    DBN_OUT_SYMBOL_WIDTH = 8,
+    DBN_OUT_LAYOUT_VERSION = 9, /* 0 below version 4 */
+    DBN_OUT_SYMBOLOGY_ROWS = 10,
+    DBN_OUT_LAYOUT_ROWS = 11,
+    DBN_OUT_PRESENT = 12, /* the bits of enum dbn_present */
+    DBN_OUT_TAKEN = 16,   /* from here on dbn_feed alone */
+    DBN_OUT_HELD = 17,
+    DBN_OUT_NEEDED = 18
+};
+
+/* The places of `out` of the other functions. */
+enum dbn_prelude_out { DBN_PRELUDE_MISSING = 0, DBN_PRELUDE_VERSION = 1, DBN_PRELUDE_LENGTH = 2 };
+enum dbn_write_out { DBN_WRITE_LENGTH = 0 };
+enum dbn_name_out { DBN_NAME_START = 0, DBN_NAME_LENGTH = 1 };
+
+/* Which fields a block has. What is absent has the value 0. */
+enum dbn_present { DBN_HAS_SCHEMA = 1, DBN_HAS_END = 2, DBN_HAS_LIMIT = 4, DBN_HAS_STYPE_IN = 8 };
+
+/* How far a stream start has come. */
+enum dbn_step {
+    DBN_STEP_NEEDS,  /* out[DBN_OUT_NEEDED] bytes end the present stage, and no fewer do */
+    DBN_STEP_DONE,   /* the block is read */
+    DBN_STEP_REFUSED /* by the number */
+};
+
+/* The step that dbn_feed's number and `out` tell. */
+static inline enum dbn_step dbn_step_of(uint32_t number, const uint64_t out[20]) {
+    if (number != DBN_ACCEPTED) {
+        return DBN_STEP_REFUSED;
+    }
+    return out[DBN_OUT_NEEDED] > 0 ? DBN_STEP_NEEDS : DBN_STEP_DONE;
+}
 
 /* 1 where the n bytes are UTF-8, else 0. */
 uint32_t dbn_text(const uint8_t *s, size_t n);
@@ -30,27 +215,28 @@ uint32_t dbn_date(uint32_t yyyymmdd);
  * out = {0, version, block length, 0}. Bytes past the eighth are not looked at. */
 uint32_t dbn_prelude(const uint8_t *s, size_t n, uint64_t out[4]);
 
-/* Reads a block given whole, its rows into the tables of sn and ln numbers. 0: out = {dataset length, schema, start, end, limit, stype_in,
- * stype_out, ts_out, symbol width, layout version, symbology rows, layout rows, presence bits, 0, 0, 0}, with 0 for what is absent and the
- * bits 1 schema, 2 end, 4 limit, 8 stype_in. 3: out[10] and out[11] are the rows needed. */
+/* Reads a block given whole (the bytes after the prelude), its rows into the tables of sn and ln numbers. 0: out[0] to out[12] as enum
+ * dbn_out names them, and out[13] to out[15] are 0. 3: out[DBN_OUT_SYMBOLOGY_ROWS] and out[DBN_OUT_LAYOUT_ROWS] are the rows needed. */
 uint32_t dbn_block(uint8_t version, const uint8_t *block, size_t n, const uint16_t sheet[520], uint32_t *symbology, size_t sn,
                    uint32_t *layout, size_t ln, uint64_t out[16]);
 
-/* Feeds a piece of a stream after the first `held` bytes of the store. Always: out[16] is the count taken, out[17] the count then held,
- * out[18] the count still needed, 0 when done or refused. Done is 0 with out[18] = 0, and out[0] to out[15] are as those of dbn_block.
- * 3: out[10] and out[11] are the rows needed. */
+/* Feeds a piece of a stream after the first `held` bytes of the store, 0 at the start. Always: out[DBN_OUT_TAKEN] is the count taken,
+ * out[DBN_OUT_HELD] the count then held, out[DBN_OUT_NEEDED] the count still needed, 0 when done or refused. Done is 0 with nothing
+ * needed, and out[0] to out[15] are as those of dbn_block. 3: the rows needed, as dbn_block tells them. With 8 bytes held, 2 means that the store is
+ * below 8 + block length; a call with a longer store that begins with the same bytes goes on, and so does one with longer tables after 3. */
 uint32_t dbn_feed(uint64_t held, uint8_t *store, size_t storelen, const uint8_t *piece, size_t n, const uint16_t sheet[520],
                   uint32_t *symbology, size_t sn, uint32_t *layout, size_t ln, uint64_t out[20]);
 
-/* Reads a layout given with a symbol width, its rows into the table of rn numbers. 0: out[9] is the layout version, out[11] the rows.
- * 3: out[11] is the rows needed. */
+/* Reads a layout given with a symbol width, its rows into the table of rn numbers. 0: out[DBN_OUT_LAYOUT_VERSION] is the layout's version,
+ * out[DBN_OUT_LAYOUT_ROWS] the rows. 3: out[DBN_OUT_LAYOUT_ROWS] is the rows needed. */
 uint32_t dbn_layout(const uint8_t *layout, size_t n, uint16_t width, const uint16_t sheet[520], uint32_t *rows, size_t rn, uint64_t out[16]);
 
 /* The verdict on a layout given with a symbol width, without a table: the answer of dbn_layout, 3 apart, with 81 to 83 found by the plain
- * engine, which marks each byte of a record with the field that owns it. 0: out[9] is the layout version, out[11] the rows. */
+ * engine, which marks each byte of a record with the field that owns it. 0: `out` as that of dbn_layout. */
 uint32_t dbn_layout_plain(const uint8_t *layout, size_t n, uint16_t width, const uint16_t sheet[520], uint64_t out[16]);
 
-/* Writes layout rows, whose names are parts of the text, as a layout of a version, for a symbol width. 0: out[0] is the length written. */
+/* Writes layout rows, whose names are parts of the text, as a layout of a version, for a symbol width. 0: out[DBN_WRITE_LENGTH] is the
+ * length written. */
 uint32_t dbn_write_layout(const uint32_t *rows, size_t rn, const uint8_t *text, size_t tn, uint16_t version, uint16_t width,
                           const uint16_t sheet[520], uint8_t *output, size_t on, uint64_t out[16]);
 

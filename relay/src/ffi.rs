@@ -1,7 +1,8 @@
 //! The C functions of the library `dbn_c`, as `include/dbn_start.h` declares them.
 //!
 //! Each answers a refusal number (0: accepted), but [`dbn_text`] and [`dbn_date`], which answer 1 for yes and 0 for no.
-//! A slice is a pointer and a length. What `out` does not name keeps its value. Lent buffers must not overlap.
+//! A slice is a pointer and a length; the pointer may be null where the length is 0. What `out` does not name keeps its value. A buffer
+//! that is lent for writing overlaps no other. The header says what a call needs of the stack.
 
 /// The length of a type sheet.
 pub const SHEET: usize = 520;

@@ -5,11 +5,12 @@ mod common;
 #[path = "../measure/shapes.rs"]
 mod shapes;
 
-use dbn_start::{check_layout_plain, ffi, write_layout, Layout, Tables};
+use dbn_start::{check_layout_plain, ffi, is_date, is_text, prelude, write_layout, Layout, Sheet, Tables};
 use shapes::{sheet, tiled, Order};
 use std::ffi::c_void;
 
-/// The two bounds of the header.
+/// The three bounds of the header.
+const SMALL: usize = 4 << 10;
 const ORDINARY: usize = 32 << 10;
 const LARGE: usize = 320 << 10;
 
@@ -62,7 +63,7 @@ fn needs(what: &str, most: usize, work: &mut dyn FnMut()) -> usize {
     bytes
 }
 
-fn block(layout: &[u8]) -> impl FnMut() {
+fn block(layout: &[u8]) -> impl FnMut() + use<> {
     let (block, sheet, mut out) = (shapes::block4(layout), sheet(), [0; 16]);
     let mut table = vec![0; 9 * layout.len()];
     move || {
@@ -76,7 +77,9 @@ fn block(layout: &[u8]) -> impl FnMut() {
 }
 
 fn read(layout: &[u8]) -> impl FnMut() + '_ {
-    let (sheet, mut table) = (sheet(), Tables::new(layout.len()));
+    let (sheet, mut table) = (sheet(), Tables::default());
+    // The table grows before it is measured.
+    assert!(Layout::read(layout, 71, &sheet, &mut table).is_ok());
     move || assert!(Layout::read(layout, 71, &sheet, &mut table).is_ok())
 }
 
@@ -87,20 +90,100 @@ fn write(layout: &[u8]) -> impl FnMut() + '_ {
     move || assert!(write_layout(&rows, layout, 1, 71, &sheet, &mut output).is_ok())
 }
 
+/// A whole stream start of a version, fed at once.
+fn feed(version: u8, block: &[u8]) -> impl FnMut() {
+    let (stream, sheet, mut out) = (shapes::stream_of(version, block), sheet(), [0; 20]);
+    let (mut store, mut first, mut second) =
+        (vec![0; stream.len()], vec![0; 5 * block.len()], vec![0; 9 * block.len()]);
+    move || {
+        // SAFETY: every pointer is to a buffer of the given length, and no two overlap.
+        let number = unsafe {
+            ffi::dbn_feed(
+                0,
+                store.as_mut_ptr(),
+                store.len(),
+                stream.as_ptr(),
+                stream.len(),
+                sheet.numbers(),
+                first.as_mut_ptr(),
+                first.len(),
+                second.as_mut_ptr(),
+                second.len(),
+                &mut out,
+            )
+        };
+        assert_eq!((number, out[18]), (0, 0));
+    }
+}
+
+/// The names of made rows: the first bytes of a layout, and the first symbol of a block.
+fn names(layout: &[u8], block: &[u8]) {
+    let (mut one, mut two) = ([0; 2], [0; 2]);
+    // SAFETY: the pointers are to buffers of the given length.
+    let numbers = unsafe {
+        let (of_layout, of_block) = ([14, 0, 2, 0, 0, 0, 0, 0, 0], [0, 108, 4, 0, 0]);
+        [
+            ffi::dbn_layout_name(layout.as_ptr(), layout.len(), of_layout.as_ptr(), 9, 0, &mut one),
+            ffi::dbn_symbology_name(block.as_ptr(), block.len(), of_block.as_ptr(), 5, 0, &mut two),
+        ]
+    };
+    assert_eq!((numbers, one, two), ([0, 0], [0, 2], [108, 4]));
+}
+
+/// A layout, what it is called, and what a call on it may need.
+type Measured = (&'static str, Vec<u8>, usize);
+
+/// A call, what it is called, and what it may need.
+type Call<'a> = (String, usize, Box<dyn FnMut() + Send + 'a>);
+
+/// Each entry on what the header names, with its bound.
+fn calls<'a>(sheet: &'a Sheet, layouts: &'a [Measured], symbols: &'a [u8]) -> Vec<Call<'a>> {
+    let mut calls: Vec<Call> = vec![
+        ("dbn_date".into(), SMALL, Box::new(|| assert!(is_date(20240229)))),
+        ("dbn_text".into(), SMALL, Box::new(|| assert!(is_text("Съешь ещё этих мягких булок".as_bytes())))),
+        ("dbn_prelude".into(), SMALL, Box::new(|| assert!(prelude(b"DBN\x03\x64\0\0\0").is_ok()))),
+        ("the names".into(), SMALL, Box::new(|| names(&layouts[0].1, symbols))),
+        ("dbn_feed, version 3".into(), ORDINARY, Box::new(feed(3, symbols))),
+    ];
+    for (what, layout, most) in layouts {
+        let mut call = |name: &str, most: usize, work| calls.push((format!("{name}, {what}"), most, work));
+        call("dbn_block", *most, Box::new(block(layout)));
+        call("dbn_feed", *most, Box::new(feed(4, &shapes::block4(layout))));
+        call("dbn_layout", *most, Box::new(read(layout)));
+        call("dbn_write_layout", *most, Box::new(write(layout)));
+        call("dbn_layout_plain", LARGE, Box::new(|| assert!(check_layout_plain(layout, 71, sheet).is_ok())));
+    }
+    calls
+}
+
+/// Layouts with their bounds, and a version 3 block that has one letter beyond ASCII.
+fn inputs() -> (Vec<Measured>, Vec<u8>) {
+    let layouts = vec![
+        ("ordinary", shapes::daily(), ORDINARY),
+        ("64 structs", shapes::structs(64), ORDINARY),
+        ("4,096 structs", shapes::structs(4_096), ORDINARY),
+        ("60,000 structs", shapes::structs(60_000), LARGE),
+        ("3,600 fields in reverse", tiled(3_600, 1, 1, Order::Reverse), LARGE),
+    ];
+    (layouts, shapes::block(3, 70, &shapes::foreign(70, 100)))
+}
+
 #[test]
 fn each_call_stays_within_the_header_s_bounds() {
-    let (daily, reversed, structs) = (shapes::daily(), tiled(3_600, 1, 1, Order::Reverse), shapes::structs(60_000));
-    let few = shapes::structs(4_096);
-    for (what, layout, most) in [
-        ("ordinary", &daily, ORDINARY),
-        ("4,096 structs", &few, ORDINARY),
-        ("60,000 structs", &structs, LARGE),
-        ("3,600 fields in reverse", &reversed, LARGE),
-    ] {
-        needs(&format!("dbn_block, {what}"), most, &mut block(layout));
-        needs(&format!("dbn_layout, {what}"), most, &mut read(layout));
-        needs(&format!("dbn_write_layout, {what}"), most, &mut write(layout));
+    let ((layouts, symbols), sheet) = (inputs(), sheet());
+    for (what, most, mut work) in calls(&sheet, &layouts, &symbols) {
+        needs(&what, most, &mut work);
     }
-    let sheet = sheet();
-    needs("dbn_layout_plain", LARGE, &mut || assert!(check_layout_plain(&daily, 71, &sheet).is_ok()));
+}
+
+#[test]
+fn threads_of_64_and_320_kib_are_enough() {
+    let ((layouts, symbols), sheet) = (inputs(), sheet());
+    for (what, most, work) in calls(&sheet, &layouts, &symbols) {
+        let size = if most == LARGE { LARGE } else { 64 << 10 };
+        let done = std::thread::scope(|threads| {
+            std::thread::Builder::new().stack_size(size).spawn_scoped(threads, work).map(|thread| thread.join())
+        });
+        assert!(matches!(done, Ok(Ok(()))), "{what} on a thread of {size} bytes");
+    }
 }

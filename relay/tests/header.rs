@@ -1,0 +1,52 @@
+//! The header says what the library and this package say: its version, and every refusal's name, number and sentence.
+use dbn_start::Refusal;
+
+const HEADER: &str = include_str!("../../include/dbn_start.h");
+/// The names of the numbers in the library's own code.
+const CODE: &str = include_str!("../../crates/refusal/src/lib.rt");
+
+/// The header's X-macro: name, number and sentence of each line.
+fn listed() -> Vec<(String, u32, String)> {
+    let lines = HEADER.lines().map(str::trim).filter_map(|line| line.strip_prefix("X("));
+    let parts = lines.map(|line| {
+        let mut parts =
+            line.trim_end_matches(['\\', ' ']).strip_suffix(')').expect("a closing bracket").splitn(3, ", ");
+        let mut part = || parts.next().expect("three parts");
+        let (name, number, sentence) = (part(), part(), part());
+        (name.to_string(), number.parse().expect("a number"), sentence.trim_matches('"').to_string())
+    });
+    parts.collect()
+}
+
+/// A name such as `NAME_NOT_UTF8` as Rust writes it, `NameNotUtf8`.
+fn as_in_rust(name: &str) -> String {
+    let word = |word: &str| word[..1].to_string() + &word[1..].to_lowercase();
+    name.split('_').map(word).collect()
+}
+
+#[test]
+fn the_header_lists_every_refusal_of_the_library() {
+    let own = Refusal::ALL.iter().filter(|refusal| refusal.number() < 100);
+    let own: Vec<_> = own.map(|r| (format!("{r:?}"), r.number(), r.sentence().to_string())).collect();
+    let listed: Vec<_> = listed().into_iter().map(|(name, number, text)| (as_in_rust(&name), number, text)).collect();
+    assert_eq!(listed, own);
+}
+
+#[test]
+fn names_and_numbers_are_those_of_the_code() {
+    let constants = CODE.lines().filter_map(|line| line.strip_prefix("pub const ")).map(|line| {
+        let (name, number) = line.split_once(": u32 = ").expect("a number's constant");
+        (name.to_string(), number.trim_end_matches(';').parse().expect("a number"))
+    });
+    let listed: Vec<(String, u32)> = listed().into_iter().map(|(name, number, _)| (name, number)).collect();
+    assert_eq!(listed, constants.collect::<Vec<_>>());
+}
+
+#[test]
+fn the_header_has_this_package_s_version() {
+    let part = |name: &str| {
+        let line = HEADER.lines().find_map(|line| line.strip_prefix(&format!("#define DBN_START_VERSION_{name} ")));
+        line.expect("a part of the version").to_string()
+    };
+    assert_eq!(["MAJOR", "MINOR", "PATCH"].map(part).join("."), env!("CARGO_PKG_VERSION"));
+}

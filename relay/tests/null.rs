@@ -1,0 +1,55 @@
+//! A slice of length 0 may be a null pointer.
+mod common;
+use common::{hex, p10, plain, stream_of};
+use dbn_start::ffi;
+use std::ptr::{null, null_mut};
+
+#[test]
+fn every_function_takes_null_at_length_0() {
+    let sheet = plain();
+    let (sheet, mut out, mut name) = (sheet.numbers(), [7; 16], [7; 2]);
+    // SAFETY: every slice has length 0, and its pointer is not read; sheet and out are whole.
+    unsafe {
+        assert_eq!(ffi::dbn_text(null(), 0), 1);
+        let mut told = [7; 4];
+        assert_eq!((ffi::dbn_prelude(null(), 0, &mut told), told), (0, [8, 0, 0, 0]));
+        assert_eq!(ffi::dbn_block(3, null(), 0, sheet, null_mut(), 0, null_mut(), 0, &mut out), 13);
+        assert_eq!(ffi::dbn_layout(null(), 0, 71, sheet, null_mut(), 0, &mut out), 50);
+        assert_eq!(ffi::dbn_layout_plain(null(), 0, 71, sheet, &mut out), 50);
+        assert_eq!(ffi::dbn_write_layout(null(), 0, null(), 0, 1, 71, sheet, null_mut(), 0, &mut out), 96);
+        assert_eq!(out, [7; 16]);
+        assert_eq!((ffi::dbn_symbology_name(null(), 0, null(), 0, 0, &mut name), name), (90, [0, 0]));
+        assert_eq!((ffi::dbn_layout_name(null(), 0, null(), 0, 0, &mut name), name), (90, [0, 0]));
+        let mut fed = [7; 20];
+        let (number, store) = (ffi::dbn_feed, null_mut());
+        assert_eq!(number(0, store, 0, null(), 0, sheet, null_mut(), 0, null_mut(), 0, &mut fed), 2);
+        assert_eq!(fed[16..19], [0, 0, 0]);
+    }
+}
+
+#[test]
+fn null_tables_are_enough_where_there_are_no_rows() {
+    let (sheet, mut out) = (plain(), [7; 16]);
+    let empty = hex("0100 000000000000");
+    let (mut output, mut block) = ([0xEE; 8], p10([0; 3])[..104].to_vec());
+    block.extend([0; 16]);
+    let stream = stream_of(2, &block);
+    let (mut store, mut fed) = (stream.clone(), [7; 20]);
+    let (length, held) = (store.len(), store.len() as u64);
+    // SAFETY: every pointer is to a buffer of the given length, or null at length 0, and no two overlap.
+    unsafe {
+        assert_eq!(ffi::dbn_layout(empty.as_ptr(), 8, 71, sheet.numbers(), null_mut(), 0, &mut out), 0);
+        assert_eq!((out[9], out[11]), (1, 0));
+        let at = output.as_mut_ptr();
+        assert_eq!(ffi::dbn_write_layout(null(), 0, null(), 0, 1, 71, sheet.numbers(), at, 8, &mut out), 0);
+        assert_eq!((out[0], &output[..]), (8, &empty[..]));
+        let (bytes, n) = (block.as_ptr(), block.len());
+        assert_eq!(ffi::dbn_block(2, bytes, n, sheet.numbers(), null_mut(), 0, null_mut(), 0, &mut out), 0);
+        assert_eq!((out[8], out[10], out[11]), (3, 0, 0));
+        let at = store.as_mut_ptr();
+        let number =
+            ffi::dbn_feed(held, at, length, null(), 0, sheet.numbers(), null_mut(), 0, null_mut(), 0, &mut fed);
+        assert_eq!((number, &fed[16..19]), (0, &[0, held, 0][..]));
+    }
+    assert_eq!(store, stream);
+}
