@@ -10,4 +10,6 @@ fn main() {
     assert!(archive.is_file(), "{} is missing: run relay/build-lib first", archive.display());
     println!("cargo:rustc-link-search=native={}", folder.display());
     println!("cargo:rustc-link-lib=static=dbn_c");
+    // Packages that depend on this one find the C header by DEP_DBN_C_INCLUDE.
+    println!("cargo:include={}", own.join("../include").display());
 }

@@ -104,3 +104,38 @@ pub(crate) fn named(name: Result<&str, Refusal>) -> &str {
         Err(refusal) => panic!("the library dbn_c broke its promise: a row that has a name was {refusal}"),
     }
 }
+
+#[cfg(test)]
+mod tests {
+    use super::*;
+
+    #[test]
+    #[should_panic(expected = "broke its promise: a schema is 65536")]
+    fn a_number_that_does_not_fit_is_told_loudly() {
+        promise::<u16, u64>(65536, "a schema");
+    }
+
+    #[test]
+    #[should_panic(expected = "broke its promise: an accepted text is not UTF-8")]
+    fn a_text_that_is_none_is_told_loudly() {
+        text(&[0x45, 0xFF]);
+    }
+
+    #[test]
+    #[should_panic(expected = "broke its promise: a name of 3 bytes at 2 of 4")]
+    fn a_name_outside_is_told_loudly() {
+        let _ = part(b"ES.c", 0, [2, 3]);
+    }
+
+    #[test]
+    #[should_panic(expected = "broke its promise: a row that has a name was refused by 90")]
+    fn a_name_that_is_missing_is_told_loudly() {
+        named(part(b"ES.c", 90, [0, 0]));
+    }
+
+    #[test]
+    fn a_name_is_a_part_of_the_bytes() {
+        assert_eq!((part(b"ES.c", 0, [3, 1]), part(b"ES.c", 0, [4, 0])), (Ok("c"), Ok("")));
+        assert_eq!(part(b"ES.c", 90, [0, 0]), Err(Refusal::RowsMalformed));
+    }
+}

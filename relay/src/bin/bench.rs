@@ -10,7 +10,7 @@ use bench::{
     alone, beside,
     shapes::{self, Order},
 };
-use dbn_start::ffi;
+use dbn_start::{ffi, Feed, Limits, Step};
 use std::hint::black_box;
 
 fn main() {
@@ -65,6 +65,25 @@ fn block(version: u8, bytes: &[u8]) -> f64 {
     alone(|| call(&mut symbology, &mut layout))
 }
 
+/// The time of the README's loop over a start in pieces, by a new feed and by one whose tables are long enough.
+fn feed(version: u8, block: &[u8]) -> (f64, f64) {
+    let stream = shapes::stream_of(version, block);
+    let read = |feed: &mut Feed| {
+        let mut socket = &stream[..];
+        while let Ok(Step::Needs(n)) = feed.step() {
+            let (piece, later) = socket.split_at(n.min(4096).min(socket.len()));
+            socket = later;
+            feed.feed(black_box(piece)).expect("an accepted start");
+        }
+    };
+    let mut feed = Feed::new(Limits::default());
+    let again = |feed: &mut Feed| {
+        feed.reset();
+        read(feed);
+    };
+    (alone(|| read(&mut Feed::new(Limits::default()))), alone(|| again(&mut feed)))
+}
+
 /// The time of `dbn_layout` with a table that is long enough, and its answer.
 fn layout(bytes: &[u8]) -> (f64, u32) {
     let sheet = shapes::sheet();
@@ -100,6 +119,9 @@ fn daily() {
     };
     let many = shapes::block(3, 71, &shapes::symbology(71, 1000, 100, 4));
     tell("dbn_block, version 3, width 71, 1,000 symbols, 100 mappings of 4", &many, block(3, &many));
+    let (first, again) = feed(3, &many);
+    tell("a new Feed, version 3, the same in pieces of 4,096 bytes", &many, first);
+    tell("a Feed that begins anew, the same", &many, again);
     let many = shapes::block(1, 22, &shapes::symbology(22, 1000, 100, 4));
     tell("dbn_block, version 1, the same", &many, block(1, &many));
     let inner = shapes::daily();
