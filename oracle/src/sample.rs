@@ -1,46 +1,49 @@
-//! sample FOLDER: a list of inputs with the crate's answers, for the program replay, which has no Rust beside it. It goes to
-//! FOLDER/data/answers, and what replay then has to write to FOLDER/stdout.
-//!
-//! All numbers are little-endian. The file is one case after the other; each begins with the u32 length of what follows in
-//! it, and a kind byte:
-//!   0  a type sheet for the cases after it: 520 numbers of two bytes
-//!   1  a block: version byte, u32 length, the block, u32 answer
-//!      (0: then 13 numbers of eight bytes as dbn_block's out, then the rows of both tables, numbers of four bytes)
-//!   2  a layout: u16 width, u32 length, the layout, u32 answer
-//!      (0: then u32 layout version, u32 rows, and the rows, numbers of four bytes)
-//!   3  rows for the writer: u16 width, u16 layout version, u32 length of the text, the text, u32 rows, the rows,
-//!      u32 answer (0: then the bytes that the crate writes)
+//! sample FOLDER: a list of inputs with the crate's answers, for the program examples, which has no Rust beside it. The cases
+//! go to FOLDER/stdin and what the program has to write for them to FOLDER/stdout, in both after what stands before the line
+//! of the sample. The program's main file says what a case is. Cases of the list:
+//!   s  a type sheet for the cases after it
+//!   b  a block, with tables of 256 rows: the refusal, or the fields and the rows of both tables with their names
+//!   l  a layout: the refusal, or its version and rows; the answer of the rules five times; the rows with their names
+//!   t  a layout that is read and written: the bytes that the crate writes
 //! Inputs that a listed difference, or a check outside the part taken, touches are left out.
 use crate::{
     gen::{self, Rng, Sheet},
     of_crate::{Answer, Build, BUILDS},
-    walk,
+    walk::{self, Values},
 };
-use std::{collections::BTreeMap, path::Path};
+use std::{collections::BTreeMap, io::Write, path::Path};
+
+/// How the line of the sample begins.
+const LINE: &str = "# A sample of the answers of the crate dbn 0.73.0, with two sheets, made by oracle/make-sample: ";
 
 /// How many inputs of each refusal, and how many accepted ones of each kind, the list has.
 const REFUSED: usize = 3;
 const ACCEPTED: usize = 15;
 const LONGEST: usize = 300;
 
-/// A list, and how many cases of each kind it has.
+/// The cases, what the program has to write, and how many cases of each kind there are.
 #[derive(Default)]
 struct List {
-    bytes: Vec<u8>,
+    cases: Vec<u8>,
+    told: Vec<u8>,
     counts: [usize; 4],
 }
 
-/// Writes the list and what replay has to write.
+/// Writes the list and what the program has to write.
 pub fn write(folder: &Path) -> std::io::Result<()> {
-    let List { bytes, counts } = list();
+    let List { cases, told, counts } = list();
     let [sheets, blocks, layouts, written] = counts;
-    let told = format!(
-        "sheets {sheets}\nblocks {blocks}\nlayouts {layouts}\nwritten {written}\ndifferences 0\nthe list is whole\n"
-    );
-    println!("{} bytes\n{told}", bytes.len());
-    std::fs::create_dir_all(folder.join("data"))?;
-    std::fs::write(folder.join("data/answers"), bytes)?;
-    std::fs::write(folder.join("stdout"), told)
+    let line = format!("{LINE}{sheets} sheets, {blocks} blocks, {layouts} layouts, {written} written\n");
+    println!("{line}");
+    put_after(&folder.join("stdin"), &line, &cases)?;
+    put_after(&folder.join("stdout"), &line, &told)
+}
+
+/// The file up to the line of the sample, then this line and what follows it.
+fn put_after(file: &Path, line: &str, rest: &[u8]) -> std::io::Result<()> {
+    let old = std::fs::read(file)?;
+    let at = old.windows(LINE.len()).position(|part| part == LINE.as_bytes()).unwrap_or(old.len());
+    std::fs::write(file, [&old[..at], line.as_bytes(), rest].concat())
 }
 
 fn list() -> List {
@@ -49,24 +52,58 @@ fn list() -> List {
         for one in &BUILDS[build] {
             (one.install)(&|id| (Some(sheet.0[id as usize]).filter(|&n| n > 0), sheet.uses_labels(id)));
         }
-        let words: Vec<u8> = sheet.0.iter().flat_map(|word| word.to_le_bytes()).collect();
-        out.put(0, &words);
+        let places = sheet.0.iter().enumerate().filter(|(_, &number)| number > 0);
+        let pairs: Vec<String> = places.map(|(place, &number)| number16(place as u16) + &number16(number)).collect();
+        out.put(0, format!("s {}", pairs.join(" ")), &[]);
         cases(&mut out, build, &sheet);
     }
     out
 }
 
 impl List {
-    fn put(&mut self, kind: u8, body: &[u8]) {
-        self.bytes.extend((body.len() as u32 + 1).to_le_bytes());
-        self.bytes.push(kind);
-        self.bytes.extend(body);
-        self.counts[kind as usize] += 1;
+    fn put(&mut self, kind: usize, case: String, told: &[u8]) {
+        writeln!(self.cases, "{case}").expect("room");
+        self.told.extend(told);
+        self.counts[kind] += 1;
     }
 }
 
-fn put_rows<const N: usize>(out: &mut Vec<u8>, rows: &[[u32; N]]) {
-    out.extend(rows.iter().flatten().flat_map(|number| number.to_le_bytes()));
+fn hex(bytes: &[u8]) -> String {
+    bytes.iter().map(|byte| format!("{byte:02x}")).collect()
+}
+
+fn number16(number: u16) -> String {
+    hex(&number.to_le_bytes())
+}
+
+/// Rows as the program writes them: the numbers, and the name, which a field has not.
+fn tell_rows<const N: usize>(out: &mut Vec<u8>, rows: &[[u32; N]], text: &[u8]) {
+    for row in rows {
+        let numbers: Vec<String> = row.iter().map(u32::to_string).collect();
+        write!(out, "  {} : ", numbers.join(" ")).expect("room");
+        if row[0] != 11 {
+            out.extend(&text[row[1] as usize..][..row[2] as usize]);
+        }
+        out.push(b'\n');
+    }
+}
+
+/// The fields and rows of an accepted block as the program writes them.
+fn tell_block(values: &Values, block: &[u8]) -> Vec<u8> {
+    fn or_none<T: ToString>(value: Option<T>) -> String {
+        value.map_or("-".into(), |value| value.to_string())
+    }
+    let v = values;
+    let mut out = format!("read: dataset {} schema {} start {}", v.dataset_len, or_none(v.schema), v.start);
+    out += &format!(" end {} limit {}", or_none(v.end), or_none(v.limit));
+    out += &format!(" stype_in {} stype_out {}", or_none(v.stype_in), v.stype_out);
+    out += if v.ts_out { " ts_out\n" } else { "\n" };
+    out += &format!("  width {} layout version {}", v.width, v.layout_version);
+    out += &format!(" symbology rows {} layout rows {}\n", v.symbology.len(), v.layout.len());
+    let mut out = out.into_bytes();
+    tell_rows(&mut out, &v.symbology, block);
+    tell_rows(&mut out, &v.layout, &block[104.min(block.len())..]);
+    out
 }
 
 /// The crate's number, where it is the same with and without what is outside the part taken.
@@ -124,16 +161,24 @@ fn block_case(
     if !wanted(1, number, block.len()) {
         return;
     }
-    let mut body = vec![version];
-    body.extend((block.len() as u32).to_le_bytes());
-    body.extend(block);
-    body.extend(number.to_le_bytes());
-    if let Answer::Accepted(values) = &answer {
-        body.extend(values.out()[..13].iter().flat_map(|number| number.to_le_bytes()));
-        put_rows(&mut body, &values.symbology);
-        put_rows(&mut body, &values.layout);
+    let told = match &answer {
+        Answer::Accepted(values) => tell_block(values, block),
+        _ => format!("refused {number}\n").into_bytes(),
+    };
+    out.put(1, format!("b {version:02x} {} {}", number16(256), hex(block)), &told);
+}
+
+/// What the program writes for a layout: a rule refuses one that can be read.
+fn tell_layout(layout: &[u8], number: u32) -> Vec<u8> {
+    if (1..60).contains(&number) {
+        return format!("refused {number}\n  rules {number} {number} {number} 0 0\n").into_bytes();
     }
-    out.put(1, &body);
+    let (version, rows) = walk::layout(layout);
+    let mut out = format!("read {version} {}\n  rules", rows.len());
+    out += &format!(" {number}").repeat(5);
+    let mut out = (out + "\n").into_bytes();
+    tell_rows(&mut out, &rows, layout);
+    out
 }
 
 fn layout_case(
@@ -146,31 +191,15 @@ fn layout_case(
 ) {
     let answer = (plain.layout)(layout, width);
     let Some(number) = number(&answer, &(align.layout)(layout, width)) else { return };
+    let case = format!("{} {}", number16(width), hex(layout));
     if wanted(2, number, layout.len()) {
-        let mut body = width.to_le_bytes().to_vec();
-        body.extend((layout.len() as u32).to_le_bytes());
-        body.extend(layout);
-        body.extend(number.to_le_bytes());
-        if let Answer::Accepted(values) = &answer {
-            body.extend((values.layout_version as u32).to_le_bytes());
-            body.extend((values.layout.len() as u32).to_le_bytes());
-            put_rows(&mut body, &values.layout);
-        }
-        out.put(2, &body);
+        out.put(2, format!("l {case}"), &tell_layout(layout, number));
     }
     let Answer::Accepted(values) = &answer else { return };
     let rising = values.layout.windows(2).all(|two| two[0][0] != 15 || two[1][0] != 15 || two[0][3] < two[1][3]);
     if rising && wanted(3, 0, layout.len()) {
         let Ok(written) = (plain.rewrite)(layout, width) else { return };
         assert_eq!(walk::layout(&written).1.len(), values.layout.len());
-        let mut body = width.to_le_bytes().to_vec();
-        body.extend(values.layout_version.to_le_bytes());
-        body.extend((layout.len() as u32).to_le_bytes());
-        body.extend(layout);
-        body.extend((values.layout.len() as u32).to_le_bytes());
-        put_rows(&mut body, &values.layout);
-        body.extend(0u32.to_le_bytes());
-        body.extend(written);
-        out.put(3, &body);
+        out.put(3, format!("t {case}"), format!("written {} same\n", hex(&written)).as_bytes());
     }
 }

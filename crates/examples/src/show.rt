@@ -1,0 +1,185 @@
+// What the answers are written with.
+use crate::bytes;
+use block::Fields;
+use block::Optional;
+ghost use Prim.Native.Nat.{_≤_};
+
+// A text and the line's end.
+pub(crate) fn line(s: &[u8]) {
+    io::write_all(1, s);
+    io::write_all(1, b"\n");
+}
+
+// A label and a number.
+pub(crate) fn number(label: &[u8], n: u64) {
+    io::write_all(1, label);
+    io::print_decimal(1, n);
+}
+
+// The line's end.
+pub(crate) fn end() {
+    io::write_all(1, b"\n");
+}
+
+// A space and a number.
+pub(crate) fn say_number(n: u32) {
+    number(b" ", n as u64);
+}
+
+// What the rules say begins with this number.
+pub(crate) fn rules(n: u32) {
+    number(b"  rules ", n as u64);
+}
+
+// A number, and how many rows were read.
+pub(crate) fn read(a: usize, rows: usize) {
+    number(b"read ", a as u64);
+    number(b" ", rows as u64);
+    end();
+}
+
+// A table that lacks rows.
+pub(crate) fn short(rows: usize) {
+    number(b"short ", rows as u64);
+    end();
+}
+
+// Two tables of which one lacks rows.
+pub(crate) fn both_short(symbology: usize, layout: usize) {
+    number(b"refused 3, symbology rows needed ", symbology as u64);
+    number(b"\n  layout rows needed ", layout as u64);
+    end();
+}
+
+// A refusal.
+pub(crate) fn refused(why: u32) {
+    number(b"refused ", why as u64);
+    end();
+}
+
+// A refusal of the writer, and whether the output is as it was.
+pub(crate) fn not_written(why: u32, untouched: bool) {
+    number(b"refused ", why as u64);
+    if untouched {
+        line(b", no byte written");
+    } else {
+        line(b", bytes written");
+    }
+}
+
+// What was written, and whether it reads back as the same.
+pub(crate) fn written(s: &[u8], same: bool) {
+    io::write_all(1, b"written ");
+    hex(s);
+    if same {
+        line(b" same");
+    } else {
+        line(b" different");
+    }
+}
+
+// Bytes in hexadecimal.
+fn hex(s: &[u8]) {
+    let mut i = 0;
+    while i < s.len() {
+        io::print_hex(1, byte(s[i]), 2);
+        i += 1;
+    }
+}
+
+fn byte(x: u8) -> u64 {
+    x as u64
+}
+
+// A label and a number; - where it is absent.
+fn optional(label: &[u8], n: Optional) {
+    match n {
+        Optional::Present(x) => number(label, x),
+        Optional::Absent => {
+            io::write_all(1, label);
+            io::write_all(1, b"-");
+        }
+    }
+}
+
+// The fields of an accepted block, on two lines; - for what is absent.
+pub(crate) fn fields(f: Fields) {
+    first(f);
+    number(b"  width ", f.symbol_cstr_len as u64);
+    number(b" layout version ", f.layout_version as u64);
+    number(b" symbology rows ", f.symbology_rows as u64);
+    number(b" layout rows ", f.layout_rows as u64);
+    end();
+}
+
+fn first(f: Fields) {
+    let schema = f.schema;
+    let end = f.end;
+    let limit = f.limit;
+    number(b"read: dataset ", f.dataset_len as u64);
+    optional(b" schema ", schema);
+    number(b" start ", f.start);
+    optional(b" end ", end);
+    optional(b" limit ", limit);
+    types(f);
+}
+
+fn types(f: Fields) {
+    let stype_in = f.stype_in;
+    optional(b" stype_in ", stype_in);
+    number(b" stype_out ", f.stype_out as u64);
+    if f.ts_out {
+        io::write_all(1, b" ts_out");
+    }
+    end();
+}
+
+// Each of the first n rows of five or nine, with its name in the text, 100 at the most.
+pub(crate) fn rows(text: &[u8], table: &[u32], width: usize, n: usize)
+    requires { ⌜ width ≤ 9 ⌝ }
+{
+    let most = bytes::at_most(n, 100);
+    let mut at = 0;
+    let mut i = 0;
+    while i < most {
+        row(part(table, at, width));
+        line(name(text, table, width, i));
+        at += width;
+        i += 1;
+    }
+}
+
+// n numbers at a place; none where they run past the table.
+fn part(table: &[u32], at: usize, n: usize) -> &[u32] {
+    if table.len() < n {
+        return &table[0..0];
+    }
+    if table.len() - n < at {
+        return &table[0..0];
+    }
+    let end = at + n;
+    &table[at..end]
+}
+
+// The name of row i of five or nine.
+fn name<'a>(text: &'a [u8], table: &[u32], width: usize, i: usize) -> &'a [u8] {
+    if width == 5 {
+        return names::symbology_name(text, table, i);
+    }
+    names::layout_name(text, table, i)
+}
+
+// The numbers of a row, and a colon.
+fn row(numbers: &[u32]) {
+    io::write_all(1, b" ");
+    let mut j = 0;
+    while j < numbers.len() {
+        number(b" ", wide(numbers[j]));
+        j += 1;
+    }
+    io::write_all(1, b" : ");
+}
+
+fn wide(x: u32) -> u64 {
+    x as u64
+}
