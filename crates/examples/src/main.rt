@@ -19,7 +19,6 @@ mod written;
 ghost use mathlib.Core.Path.{_≡_};
 ghost use Prim.Native.Nat.{_≤_, _<_};
 ghost use lib.ListN.{length};
-ghost use Rattle.io.specs.Counts.{Counts};
 
 fn main() {
     let mut input = input_space();
@@ -78,13 +77,9 @@ fn line(text: &[u8], sheet: &mut [u16; 520], room: &mut [u8]) {
         show::line(text);
         return;
     }
-    let n = unhex(&text[1..], room);
-    if kind == b'm' {
-        let all = readers::labels(room, n);
-        readers::layout(bytes::from(bytes::front(room, all), 6), sheet);
-    } else {
-        case(kind, bytes::front(room, n), sheet);
-    }
+    let read = unhex(&text[1..], room);
+    let n = readers::with_labels(kind, room, read);
+    case(kind, bytes::front(room, n), sheet);
 }
 
 // One case of a kind.
@@ -94,6 +89,7 @@ fn case(kind: u8, s: &[u8], sheet: &mut [u16; 520]) {
         b'b' => readers::block(s, sheet),
         b'y' => readers::symbology(s),
         b'l' => readers::layout(s, sheet),
+        b'm' => readers::layout(bytes::from(s, 6), sheet),
         b't' => written::again(s, sheet),
         b'w' => written::rows(s, sheet),
         _ => show::line(b"no such kind"),

@@ -134,8 +134,13 @@ fn verdict_number(v: Verdict) -> u32 {
     }
 }
 
+// The bytes of a case: n, and in kind m so many labels more, which are put after them.
+pub(crate) fn with_labels(kind: u8, room: &mut [u8], n: usize) -> usize {
+    if kind == b'm' { labels(room, n) } else { n }
+}
+
 // Puts the labels of a case of kind m after its n bytes; how many bytes it has then.
-pub(crate) fn labels(room: &mut [u8], n: usize) -> usize {
+fn labels(room: &mut [u8], n: usize) -> usize {
     let count = bytes::u16_at(room, 0) as usize;
     if 4096 < n {
         return n;

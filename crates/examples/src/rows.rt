@@ -1,7 +1,6 @@
 // Rows of a table: the first ones, those of a case, and whether two tables have the same.
 use crate::bytes;
 ghost use mathlib.Core.Path.{_≡_};
-ghost use Prim.Native.Nat.{_≤_, _<_};
 ghost use lib.ListN.{length};
 
 // Room for 65,536 rows of nine.

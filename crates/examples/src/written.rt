@@ -4,7 +4,6 @@ use crate::rows;
 use crate::show;
 use layout::Answer;
 use writer::Written;
-ghost use Prim.Native.Nat.{_≤_};
 
 // A layout of a case, read, written and read again.
 pub(crate) fn again(s: &[u8], sheet: &[u16; 520]) {
