@@ -1,3 +1,4 @@
+-- The length of a repeated byte is how often it stands.
 use Prim.Native.Nat.{ℕ}
 use mathlib.Core.Path.{sym}
 use lib.ListN.{length-replicate}

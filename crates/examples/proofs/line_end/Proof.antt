@@ -1,3 +1,4 @@
+-- The loop goes up to the end of the text.
 use Prim.Native.Nat.{_-_, _≤_}
 use lib.ListN.{length}
 use borrow.Author.Needs.{needs}

@@ -1,3 +1,4 @@
+-- Each turn passes a line and its end; the room keeps its length.
 use Prim.Native.Nat.{_-_}
 use mathlib.Core.Path.{_≡_}
 use lib.ListN.{length}

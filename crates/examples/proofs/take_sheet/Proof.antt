@@ -1,3 +1,4 @@
+-- The loop goes over the pairs of the case.
 use Prim.Native.Nat.{_-_}
 use lib.ListN.{length}
 use borrow.Author.Needs.{needs}

@@ -1,3 +1,4 @@
+-- The loop goes on by one or two signs; no more bytes are put than signs were passed.
 use Prim.Native.Nat.{_+_, _-_, _≤_}
 use mathlib.Core.Path.{_≡_}
 use lib.ListN.{length}

@@ -1,3 +1,4 @@
+-- The loop goes over the bytes of the labels; the room keeps its length.
 use Prim.Native.Nat.{_+_, _-_, _*_, _≤_}
 use mathlib.Core.Path.{_≡_}
 use lib.ListN.{length}

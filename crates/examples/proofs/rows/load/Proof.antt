@@ -1,3 +1,4 @@
+-- The loop goes up to the last number, which the table has; the table keeps its length.
 use Prim.Native.Nat.{_-_, _*_}
 use mathlib.Core.Path.{_≡_}
 use lib.ListN.{length}

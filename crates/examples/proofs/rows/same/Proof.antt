@@ -1,3 +1,4 @@
+-- The loop goes up to n.
 use Prim.Native.Nat.{_-_}
 use borrow.Author.Needs.{needs}
 use Rattle.examples.proofs.rows.same.Statement.{statement}

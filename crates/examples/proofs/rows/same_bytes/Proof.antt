@@ -1,3 +1,4 @@
+-- The loop goes up to the length.
 use Prim.Native.Nat.{_-_, _≤_}
 use lib.ListN.{length}
 use borrow.Author.Needs.{needs}

@@ -1,3 +1,4 @@
+-- The loop goes up to 100 rows at the most, so the place of a row stays small.
 use Prim.Native.Nat.{_-_, _*_, _≤_}
 use borrow.Author.Needs.{needs}
 use Rattle.examples.proofs.show.rows.Statement.{statement}
