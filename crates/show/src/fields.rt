@@ -1,58 +1,62 @@
 // A block's own fields.
+use crate::lines;
 use crate::print;
-use crate::time;
+use crate::sheet;
 use block::Fields;
 use block::Optional;
 
-// Dataset, schema, times and the rest, a line each.
-pub(crate) fn show(f: Fields, store: &[u8]) {
-    let len = f.dataset_len;
-    if 8 <= store.len() {
-        print::count(b"version: ", wide(store[3]));
-        if len <= store.len() - 8 {
-            let end = 8 + len;
-            print::line(b"dataset: ", &store[8..end]);
-        }
+// Dataset, schema, times and the rest, a line each; in version 4 also which type sheet the layout was judged with.
+pub(crate) fn show(f: Fields, store: &[u8], is_made: bool) {
+    let version = stream(store, f.dataset_len);
+    request(f);
+    lines::value(lines::STYPE_OUT, f.stype_out as u64);
+    lines::value(lines::TS_OUT, flag(f.ts_out));
+    lines::value(lines::SYMBOL_WIDTH, f.symbol_cstr_len as u64);
+    layout(version, f.layout_version as u64, is_made);
+    lines::value(lines::SYMBOLOGY_ROWS, f.symbology_rows as u64);
+    lines::value(lines::LAYOUT_ROWS, f.layout_rows as u64);
+}
+
+// The version and the dataset, from the front of the store; answers the version.
+fn stream(store: &[u8], len: usize) -> u64 {
+    if store.len() < 8 {
+        return 0;
     }
+    let version = wide(store[3]);
+    lines::value(lines::VERSION, version);
+    if len <= store.len() - 8 {
+        let end = 8 + len;
+        print::text(b"dataset: ");
+        print::name(&store[8..end]);
+    }
+    version
+}
+
+// What was asked for.
+fn request(f: Fields) {
     let schema = f.schema;
-    optional(b"schema: ", schema);
-    time::show(b"start: ", f.start);
     let end = f.end;
-    optional_time(b"end: ", end);
     let limit = f.limit;
-    optional(b"limit: ", limit);
     let stype_in = f.stype_in;
-    optional(b"stype_in: ", stype_in);
-    print::count(b"stype_out: ", f.stype_out as u64);
-    yes_or_no(b"ts_out: ", f.ts_out);
-    print::count(b"symbol width: ", f.symbol_cstr_len as u64);
-    print::count(b"layout version: ", f.layout_version as u64);
-    print::count(b"symbology rows: ", f.symbology_rows as u64);
-    print::count(b"layout rows: ", f.layout_rows as u64);
+    lines::optional(lines::SCHEMA, schema);
+    lines::value(lines::START, f.start);
+    lines::optional(lines::END, end);
+    lines::optional(lines::LIMIT, limit);
+    lines::optional(lines::STYPE_IN, stype_in);
 }
 
-// A value, or that there is none.
-fn optional(label: &[u8], o: Optional) {
-    match o {
-        Optional::Absent => print::line(label, b"none"),
-        Optional::Present(x) => print::count(label, x),
+// The layout's version and the type sheet; below version 4 there is no layout.
+fn layout(version: u64, layout_version: u64, is_made: bool) {
+    if version < 4 {
+        lines::optional(lines::LAYOUT_VERSION, Optional::Absent);
+        return;
     }
+    lines::value(lines::LAYOUT_VERSION, layout_version);
+    sheet::name(is_made);
 }
 
-// A time, or that there is none.
-fn optional_time(label: &[u8], o: Optional) {
-    match o {
-        Optional::Absent => print::line(label, b"none"),
-        Optional::Present(x) => time::show(label, x),
-    }
-}
-
-fn yes_or_no(label: &[u8], x: bool) {
-    if x {
-        print::line(label, b"yes");
-    } else {
-        print::line(label, b"no");
-    }
+fn flag(x: bool) -> u64 {
+    if x { 1 } else { 0 }
 }
 
 fn wide(x: u8) -> u64 {

@@ -1,82 +1,162 @@
-// Reads a stream start from standard input, in pieces of 4,096 bytes, and writes what it says as a person would want to read it.
-// The type sheet is a made one. The store is 65,536 bytes and each table holds 1,024 rows; what is larger is told.
+// Reads a stream start from a file or from standard input, in pieces of 4,096 bytes, and writes what it says as a person would want to
+// read it. The store is 1,048,576 bytes and each table holds 16,384 rows; what is larger is told. `tell::help` says how it is called.
 mod fields;
+mod lines;
+mod options;
 mod print;
 mod records;
 mod refusals;
 mod sheet;
 mod symbols;
+mod tell;
 mod time;
+mod words;
 
 use feed::Answer;
 use feed::Fed;
 use feed::State;
 use libc::STDIN_FILENO;
+use options::Options;
 ghost use lib.ListN.{length};
 ghost use mathlib.Core.Path.{_≡_};
 
+// Where the status goes, if it is asked for.
+const STATUS_FILENO: i32 = 3;
+
+// What came of reading a stream.
+enum Seen {
+    Failed,
+    Answered(Answer),
+}
+
 fn main() {
-    let sheet = sheet::made();
-    let mut store = io::large_buffer();
+    let asked = options::read();
+    let status = run(asked);
+    if asked.status {
+        io::print_decimal(STATUS_FILENO, status);
+    }
+}
+
+// Does what is asked, and answers the status.
+fn run(asked: Options) -> u64 {
+    if asked.fault != 0 {
+        tell::wrong_argument(asked.fault, asked.at);
+        return 2;
+    }
+    if asked.help {
+        return ended(tell::help(), 0);
+    }
+    let is_made = asked.sheet == 0;
+    let mut sheet = sheet::made();
+    if asked.sheet != 0 {
+        if !sheet::load(asked.sheet, &mut sheet) {
+            return 2;
+        }
+    }
+    show_file(asked.file, &sheet, is_made)
+}
+
+// Shows the file that an argument names, or standard input where the argument is 0.
+fn show_file(argument: usize, sheet: &[u16; 520], is_made: bool) -> u64 {
+    if argument == 0 {
+        return show_stream(STDIN_FILENO, b"standard input", sheet, is_made);
+    }
+    let mut path = io::buffer();
+    let n = os::arg(argument, &mut path);
+    let fd = os::open_read(&path[..n]);
+    if fd < 0 {
+        tell::failed(&path[..n]);
+        return 2;
+    }
+    show_stream(fd, &path[..n], sheet, is_made)
+}
+
+// Shows the stream of an open file.
+fn show_stream(fd: i32, name: &[u8], sheet: &[u16; 520], is_made: bool) -> u64 {
+    let mut store = store_space();
     let mut piece = io::buffer();
     let mut symbology = symbology_table();
     let mut layout = layout_table();
-    let answer = read_start(&mut store, &mut piece, &sheet, &mut symbology, &mut layout);
-    report(answer, &store, &symbology, &layout);
+    let seen = read_start(
+        fd,
+        &mut store,
+        &mut piece,
+        sheet,
+        &mut symbology,
+        &mut layout,
+    );
+    match seen {
+        Seen::Failed => {
+            tell::failed(name);
+            2
+        }
+        Seen::Answered(a) => report(a, &store, &symbology, &layout, is_made),
+    }
 }
 
-// A table of 1,024 rows of five.
-fn symbology_table() -> [u32; 5120]
-    ensures { λ r. ⌜ 5120 ≡ length r ⌝ }
+fn store_space() -> [u8; 1048576]
+    ensures { λ r. ⌜ 1048576 ≡ length r ⌝ }
 {
-    [0; 5120]
+    [0; 1048576]
 }
 
-// A table of 1,024 rows of nine.
-fn layout_table() -> [u32; 9216]
-    ensures { λ r. ⌜ 9216 ≡ length r ⌝ }
+// A table of 16,384 rows of five.
+fn symbology_table() -> [u32; 81920]
+    ensures { λ r. ⌜ 81920 ≡ length r ⌝ }
 {
-    [0; 9216]
+    [0; 81920]
 }
 
-// Feeds standard input to the store until the answer is done or a refusal, or the input ends.
+// A table of 16,384 rows of nine.
+fn layout_table() -> [u32; 147456]
+    ensures { λ r. ⌜ 147456 ≡ length r ⌝ }
+{
+    [0; 147456]
+}
+
+// Feeds a file to the store until the answer is done or a refusal, the file ends or a read fails.
 fn read_start(
+    fd: i32,
     store: &mut [u8],
     piece: &mut [u8],
     sheet: &[u16; 520],
     symbology: &mut [u32],
     layout: &mut [u32],
-) -> Answer {
+) -> Seen {
     let mut held = 0;
     let mut turns = store.len();
     while turns > 0 {
-        let fed = feed_some(held, store, piece, sheet, symbology, layout);
+        let got = libc::read(fd, piece);
+        if got < 0 {
+            return Seen::Failed;
+        }
+        let fed = feed_some(got, held, store, piece, sheet, symbology, layout);
         let state = fed.state;
         let answer = fed.answer;
         if fed.taken == 0 {
-            return answer;
+            return Seen::Answered(answer);
         }
         if settled(answer) {
-            return answer;
+            return Seen::Answered(answer);
         }
         held = state.held;
         turns -= 1;
     }
-    Answer::Needs(0)
+    Seen::Answered(Answer::Needs(0))
 }
 
-// Reads once, at most a piece, and feeds what came.
+// Feeds what a read has put into the piece.
 fn feed_some(
+    got: isize,
     held: usize,
     store: &mut [u8],
-    piece: &mut [u8],
+    piece: &[u8],
     sheet: &[u16; 520],
     symbology: &mut [u32],
     layout: &mut [u32],
 ) -> Fed {
-    let got = libc::read(STDIN_FILENO, piece);
-    let n = io::count(got, piece);
     let start = State { held };
+    let n = io::count(got, piece);
     feed::feed(start, store, &piece[..n], sheet, symbology, layout)
 }
 
@@ -84,32 +164,50 @@ fn feed_some(
 fn settled(a: Answer) -> bool {
     match a {
         Answer::Needs(_) => false,
-        Answer::Done(_) => true,
-        Answer::Refused(_) => true,
-        Answer::Short {
-            symbology: _,
-            layout: _,
-        } => true,
+        _ => true,
     }
 }
 
-// Writes what the answer says.
-fn report(a: Answer, store: &[u8], symbology: &[u32], layout: &[u32]) {
+// Writes what the answer says, and answers the status.
+fn report(a: Answer, store: &[u8], symbology: &[u32], layout: &[u32], is_made: bool) -> u64 {
     match a {
         Answer::Done(f) => {
-            fields::show(f, store);
+            fields::show(f, store, is_made);
             symbols::show(store, symbology, f.symbology_rows);
             records::show(store, layout, f.layout_rows);
+            print::text(b"accepted");
+            ended(print::end(), 0)
         }
-        Answer::Needs(n) => print::count(b"The input ends here. Bytes still needed: ", n as u64),
-        Answer::Refused(e) => refusals::show(e),
+        Answer::Needs(n) => ended(lines::value(lines::BYTES_NEEDED, n as u64), 1),
+        Answer::Refused(e) => ended(refused(e, is_made), 1),
         Answer::Short {
             symbology: s,
             layout: l,
-        } => {
-            refusals::show(3);
-            print::count(b"symbology rows needed: ", s as u64);
-            print::count(b"layout rows needed: ", l as u64);
-        }
+        } => ended(short(s, l), 1),
     }
+}
+
+// A refusal; where a rule on layouts gave it, also which type sheet that was.
+fn refused(n: u32, is_made: bool) -> bool {
+    if n < 60 {
+        return refusals::show(n);
+    }
+    refusals::show(n);
+    sheet::name(is_made)
+}
+
+// A refusal since a table is short, and the rows that are needed.
+fn short(symbology: usize, layout: usize) -> bool {
+    refusals::show(3);
+    lines::value(lines::SYMBOLOGY_NEEDED, symbology as u64);
+    lines::value(lines::LAYOUT_NEEDED, layout as u64)
+}
+
+// The status, if the report's last bytes were written; else it says why not.
+fn ended(is_written: bool, status: u64) -> u64 {
+    if is_written {
+        return status;
+    }
+    tell::failed(b"standard output");
+    2
 }

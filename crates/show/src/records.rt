@@ -1,9 +1,15 @@
 // The layout's rows: records and structs with their fields, label defs with their labels.
+use crate::lines;
 use crate::print;
+use crate::words;
+use libc::STDOUT_FILENO;
 ghost use Prim.Native.Nat.{_<_};
 
 // The layout starts after the prelude, the fixed part of the block and its own length: 8 + 100 + 4.
 const LAYOUT_AT: usize = 112;
+
+// The def index of a field that has none.
+const NO_DEF: u32 = 65535;
 
 // A line for each of the first n rows; a field's name is its own row, as many rows on as there are fields.
 pub(crate) fn show(store: &[u8], rows: &[u32], n: usize) {
@@ -20,65 +26,58 @@ pub(crate) fn show(store: &[u8], rows: &[u32], n: usize) {
 
 // Row i, by its kind, after an owner of so many fields; answers how many the owner now has.
 fn row(layout: &[u8], rows: &[u32], i: usize, fields: u32) -> u32 {
-    let name = names::layout_name(layout, rows, i);
     match cell(rows, i, 0) {
-        10 => record(name, rows, i),
-        11 => {
-            field(layout, rows, i, fields);
-            fields
-        }
-        13 => structure(name, rows, i),
-        14 => {
-            print::line(b"label def: ", name);
-            0
-        }
-        15 => {
-            label(name, cell(rows, i, 3));
-            0
-        }
-        _ => fields,
+        11 => field(layout, rows, i, fields),
+        12 => fields,
+        _ => item(layout, rows, i),
     }
 }
 
-// A record: its name, numbers and hash; answers its field count.
-fn record(name: &[u8], rows: &[u32], i: usize) -> u32 {
-    print::line(b"record: ", name);
-    print::count(b"  rtype: ", cell(rows, i, 3) as u64);
-    print::count(b"  schema: ", cell(rows, i, 4) as u64);
-    print::count(b"  base size: ", cell(rows, i, 5) as u64);
+// A record, a struct, a label def or a label: what it is, its name and its numbers; answers its field count.
+fn item(layout: &[u8], rows: &[u32], i: usize) -> u32 {
+    let kind = cell(rows, i, 0);
+    words::say(
+        STDOUT_FILENO,
+        b"\n10record: \n13struct: \n14label def: \n15  ",
+        kind as u64,
+    );
+    if kind == 15 {
+        print::number(cell(rows, i, 3) as u64);
+        print::text(b": ");
+    }
+    print::name(names::layout_name(layout, rows, i));
+    match kind {
+        10 => record(rows, i),
+        13 => structure(rows, i),
+        _ => 0,
+    }
+}
+
+// A record's numbers and hash; answers its field count.
+fn record(rows: &[u32], i: usize) -> u32 {
+    lines::value(lines::RTYPE, cell(rows, i, 3) as u64);
+    lines::value(lines::RECORD_SCHEMA, cell(rows, i, 4) as u64);
+    lines::value(lines::BASE_SIZE, cell(rows, i, 5) as u64);
     print::text(b"  hash: ");
-    io::print_hex(1, cell(rows, i, 8) as u64, 8);
-    io::print_hex(1, cell(rows, i, 7) as u64, 8);
-    print::text(b"\n");
+    io::print_hex(STDOUT_FILENO, cell(rows, i, 8) as u64, 8);
+    io::print_hex(STDOUT_FILENO, cell(rows, i, 7) as u64, 8);
+    print::end();
     cell(rows, i, 6)
 }
 
-// A struct: its name and size; answers its field count.
-fn structure(name: &[u8], rows: &[u32], i: usize) -> u32 {
-    print::line(b"struct: ", name);
-    print::count(b"  size: ", cell(rows, i, 3) as u64);
+// A struct's size; answers its field count.
+fn structure(rows: &[u32], i: usize) -> u32 {
+    lines::value(lines::STRUCT_SIZE, cell(rows, i, 3) as u64);
     cell(rows, i, 4)
 }
 
-// A field: its name, `fields` rows on, and its numbers.
-fn field(layout: &[u8], rows: &[u32], i: usize, fields: u32) {
+// A field: its name, `fields` rows on, and its numbers; its owner has as many fields as before.
+fn field(layout: &[u8], rows: &[u32], i: usize, fields: u32) -> u32 {
     print::text(b"  field ");
-    print::text(name_after(layout, rows, i, fields));
-    print::text(b": id ");
-    print::number(cell(rows, i, 1) as u64);
-    print::text(b", offset ");
-    print::number(cell(rows, i, 2) as u64);
-    print::text(b", size ");
-    print::number(cell(rows, i, 3) as u64);
-    print::text(b", type ");
-    print::number(cell(rows, i, 4) as u64);
-    print::text(b", flags ");
-    print::number(cell(rows, i, 5) as u64);
-    print::text(b", def ");
-    print::number(cell(rows, i, 6) as u64);
-    print::text(b", scale ");
-    signed(cell(rows, i, 7));
-    print::text(b"\n");
+    print::escaped(STDOUT_FILENO, name_after(layout, rows, i, fields));
+    numbers(rows, i);
+    print::end();
+    fields
 }
 
 // The name in the row that is `fields` rows after row i.
@@ -90,23 +89,46 @@ fn name_after<'a>(layout: &'a [u8], rows: &[u32], i: usize, fields: u32) -> &'a 
     names::layout_name(layout, rows, i)
 }
 
-// A byte as the signed number it stands for.
-fn signed(x: u32) {
-    if 127 < x {
-        if x < 256 {
-            print::text(b"-");
-            print::number((256 - x) as u64);
-            return;
-        }
+// A field's numbers, each with its name.
+fn numbers(rows: &[u32], i: usize) {
+    let mut j = 1;
+    while j < 8 {
+        number(j as u64, cell(rows, i, j));
+        j += 1;
     }
-    print::number(x as u64);
 }
 
-// A label: its code and its name.
-fn label(name: &[u8], code: u32) {
-    print::text(b"  ");
-    print::number(code as u64);
-    print::line(b": ", name);
+// Number j of a field: a def index of 65535 is none, and a scale is a signed byte.
+fn number(j: u64, x: u32) {
+    words::say(
+        STDOUT_FILENO,
+        b"\n01: id \n02, offset \n03, size \n04, type \n05, flags \n06, def \n07, scale ",
+        j,
+    );
+    match j {
+        6 => def(x),
+        7 => signed(x),
+        _ => print::number(x as u64),
+    }
+}
+
+// A def index, or that there is none.
+fn def(x: u32) {
+    if x == NO_DEF {
+        print::none();
+    } else {
+        print::number(x as u64);
+    }
+}
+
+// A byte as the signed number it stands for.
+fn signed(x: u32) {
+    if x < 128 {
+        print::number(x as u64);
+    } else {
+        print::text(b"-");
+        print::number((256 - x % 256) as u64);
+    }
 }
 
 // Number j of row i; 0 past the table.

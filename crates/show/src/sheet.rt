@@ -1,3 +1,11 @@
+// The type sheet that a layout is judged with: a made one, or one's own from a file.
+use crate::print;
+use crate::tell;
+ghost use Prim.Native.Nat.{_≤_};
+
+// A file of a type sheet: 520 numbers of two bytes.
+const SHEET_LEN: usize = 1040;
+
 // A made type sheet: the crate's own is not at hand. 1, 2, 3 and 4 are numbers of 1, 2, 4 and 8 bytes, 5 is a decimal of 8 bytes,
 // 7 a symbol, 8 a struct, 9 padding and 10 a label of one byte; bit 6 of the flags marks an extension, and a header is 16 bytes.
 pub(crate) fn made() -> [u16; 520] {
@@ -18,4 +26,48 @@ pub(crate) fn made() -> [u16; 520] {
     sheet[517] = 65535;
     sheet[518] = 16;
     sheet
+}
+
+// Says which sheet a layout was judged with. Answers whether it was written.
+pub(crate) fn name(is_made: bool) -> bool {
+    if is_made {
+        print::text(b"type sheet: a made one, not Databento's; --sheet FILE gives another");
+    } else {
+        print::text(b"type sheet: the given one");
+    }
+    print::end()
+}
+
+// Reads a sheet from the file that an argument names, which has nothing else. Where it cannot, it says why and answers false.
+pub(crate) fn load(argument: usize, sheet: &mut [u16; 520]) -> bool {
+    let mut path = io::buffer();
+    let n = os::arg(argument, &mut path);
+    let fd = os::open_read(&path[..n]);
+    if fd < 0 {
+        tell::failed(&path[..n]);
+        return false;
+    }
+    let mut bytes = io::buffer();
+    if io::read_full(fd, &mut bytes) != SHEET_LEN {
+        tell::wrong(4, &path[..n]);
+        return false;
+    }
+    libc::close(fd);
+    take(&bytes, sheet);
+    true
+}
+
+// The numbers at the front of the bytes.
+fn take(bytes: &[u8; 4096], sheet: &mut [u16; 520]) {
+    let mut i = 0;
+    while i < 520 {
+        sheet[i] = wide(bytes[2 * i]) + 256 * wide(bytes[2 * i + 1]);
+        i += 1;
+    }
+}
+
+fn wide(x: u8) -> u16
+    ensures { λ r. ⌜ r ≤ 255 ⌝ }
+{
+    x as u16
 }

@@ -1,5 +1,7 @@
 // The symbology's rows: the lists, then each mapping with its intervals.
 use crate::print;
+use crate::words;
+use libc::STDOUT_FILENO;
 ghost use Prim.Native.Nat.{_<_};
 
 // A line for each of the first n rows.
@@ -14,25 +16,26 @@ pub(crate) fn show(store: &[u8], rows: &[u32], n: usize) {
     }
 }
 
-// Row i, by its kind.
+// Row i: what its kind is, an interval's dates, and its text.
 fn row(block: &[u8], rows: &[u32], i: usize) {
-    let name = names::symbology_name(block, rows, i);
-    match cell(rows, i, 0) {
-        0 => print::line(b"symbol: ", name),
-        1 => print::line(b"partial: ", name),
-        2 => print::line(b"not found: ", name),
-        3 => print::line(b"mapping: ", name),
-        _ => interval(cell(rows, i, 3), cell(rows, i, 4), name),
+    let kind = cell(rows, i, 0);
+    words::say(
+        STDOUT_FILENO,
+        b"\n00symbol: \n01partial: \n02not found: \n03mapping: \n04  ",
+        kind as u64,
+    );
+    if kind == 4 {
+        dates(cell(rows, i, 3), cell(rows, i, 4));
     }
+    print::name(names::symbology_name(block, rows, i));
 }
 
-// An interval of a mapping: its dates and its symbol.
-fn interval(start: u32, end: u32, name: &[u8]) {
-    print::text(b"  ");
+// An interval's dates.
+fn dates(start: u32, end: u32) {
     print::date(start);
     print::text(b" to ");
     print::date(end);
-    print::line(b": ", name);
+    print::text(b": ");
 }
 
 // Number j of row i; 0 past the table.

@@ -2,34 +2,25 @@
 use crate::print;
 ghost use Prim.Native.Nat.{_≤_, _<_};
 
-// A label, and nanoseconds since 1970 as a date and a time of day, UTC.
-pub(crate) fn show(label: &[u8], ns: u64) {
-    print::text(label);
+// Nanoseconds since 1970 as a date and a time of day, UTC.
+pub(crate) fn show(ns: u64) {
     let seconds = ns / 1000000000;
     print::date(date_of(seconds / 86400));
-    print::text(b" ");
-    two(seconds / 3600 % 24);
-    print::text(b":");
-    two(seconds / 60 % 60);
-    print::text(b":");
-    two(seconds % 60);
-    print::text(b".");
-    three(ns / 1000000 % 1000);
-    three(ns / 1000 % 1000);
-    three(ns % 1000);
-    print::text(b" UTC\n");
+    part(b' ', seconds / 3600 % 24, 10);
+    part(b':', seconds / 60 % 60, 10);
+    part(b':', seconds % 60, 10);
+    part(b'.', ns % 1000000000, 100000000);
+    print::text(b" UTC");
 }
 
-// The last two digits.
-fn two(n: u64) {
-    print::number(n / 10 % 10);
-    print::number(n % 10);
-}
-
-// The last three digits.
-fn three(n: u64) {
-    print::number(n / 100 % 10);
-    two(n);
+// A sign, and the digits of n from the one that counts `first` on.
+fn part(sign: u8, n: u64, first: u64) {
+    print::text(&[sign]);
+    let mut weight = first;
+    while weight > 0 {
+        print::number(n / weight % 10);
+        weight /= 10;
+    }
 }
 
 // The date of a day, counted from 1 January 1970, as year x 10000 + month x 100 + day; 0 from the year 2600 on.
@@ -37,7 +28,7 @@ fn date_of(days: u64) -> u32 {
     let mut left = days;
     let mut year = 1970;
     while year < 2600 {
-        let n = year_days(year);
+        let n = 365 + leap_days(year);
         if left < n {
             return date_in(year, left);
         }
@@ -64,31 +55,26 @@ fn date_in(year: u32, days: u64) -> u32
     0
 }
 
-fn year_days(year: u32) -> u64 {
-    if is_leap(year) { 366 } else { 365 }
-}
-
+// The days of a month of a year.
 fn month_days(year: u32, month: u32) -> u64
     ensures { λ r. ⌜ r ≤ 31 ⌝ }
 {
     match month {
-        2 => {
-            if is_leap(year) {
-                return 29;
-            }
-            28
-        }
+        2 => 28 + leap_days(year),
         4 | 6 | 9 | 11 => 30,
         _ => 31,
     }
 }
 
-fn is_leap(year: u32) -> bool {
+// 1 in a leap year, else 0.
+fn leap_days(year: u32) -> u64
+    ensures { λ r. ⌜ r ≤ 1 ⌝ }
+{
     if year % 400 == 0 {
-        return true;
+        return 1;
     }
     if year % 100 == 0 {
-        return false;
+        return 0;
     }
-    year % 4 == 0
+    if year % 4 == 0 { 1 } else { 0 }
 }
