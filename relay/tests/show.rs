@@ -1,0 +1,227 @@
+//! The program show, as `scripts/show` runs it: what it writes, where, and the status it ends with. `rt check show` makes it.
+use std::io::{ErrorKind, Write};
+use std::path::{Path, PathBuf};
+use std::process::{Command, Stdio};
+
+/// What a run wrote, and how it ended.
+#[derive(Debug, PartialEq)]
+struct Shown {
+    status: i32,
+    out: String,
+    err: String,
+}
+
+/// A file of the repository.
+fn at(path: &str) -> PathBuf {
+    Path::new(env!("CARGO_MANIFEST_DIR")).join("..").join(path)
+}
+
+fn command(args: &[&str]) -> Command {
+    let mut command = Command::new(at("scripts/show"));
+    command.args(args).stdin(Stdio::piped()).stdout(Stdio::piped()).stderr(Stdio::piped());
+    command
+}
+
+/// Runs show on standard input. It need not read all of it.
+fn run(mut command: Command, input: &[u8]) -> Shown {
+    let mut child = command.spawn().expect("scripts/show runs");
+    match child.stdin.take().expect("a pipe").write_all(input) {
+        Err(e) if e.kind() != ErrorKind::BrokenPipe => panic!("standard input: {e}"),
+        _ => {}
+    }
+    let output = child.wait_with_output().expect("show ends");
+    let text = |bytes| String::from_utf8(bytes).expect("show writes ASCII");
+    Shown { status: output.status.code().expect("no signal"), out: text(output.stdout), err: text(output.stderr) }
+}
+
+fn show(args: &[&str], input: &[u8]) -> Shown {
+    run(command(args), input)
+}
+
+/// What a run without errors comes to.
+fn told(status: i32, out: &str) -> Shown {
+    Shown { status, out: out.to_string(), err: String::new() }
+}
+
+/// What a run that cannot be done comes to.
+fn failed(err: &str) -> Shown {
+    Shown { status: 2, out: String::new(), err: err.to_string() }
+}
+
+/// The stored version 4 stream, and what is stored for it.
+fn stored() -> (Vec<u8>, String) {
+    let stream = std::fs::read(at("crates/show/stdin")).expect("the stored stream");
+    (stream, std::fs::read_to_string(at("crates/show/stdout")).expect("the stored report"))
+}
+
+/// A version 2 stream of symbols of this width, with a dataset, and bytes after the symbology.
+fn version_2(dataset: &[u8; 16], width: u16, symbols: &[&[u8]], after: usize) -> Vec<u8> {
+    let mut block = dataset.to_vec();
+    block.extend(65535u16.to_le_bytes());
+    block.extend([0; 24]);
+    block.extend([255, 12, 0]);
+    block.extend(width.to_le_bytes());
+    block.resize(104, 0);
+    block.extend((symbols.len() as u32).to_le_bytes());
+    for symbol in symbols {
+        let end = block.len() + usize::from(width);
+        block.extend(*symbol);
+        block.resize(end, 0);
+    }
+    block.extend(vec![0; 12 + after]);
+    let mut stream = b"DBN\x02".to_vec();
+    stream.extend((block.len() as u32).to_le_bytes());
+    stream.extend(block);
+    stream
+}
+
+/// A file of this test's own, named for what it is.
+fn file(name: &str, bytes: &[u8]) -> String {
+    let path = Path::new(env!("CARGO_TARGET_TMPDIR")).join(name);
+    std::fs::write(&path, bytes).expect("a file for the test");
+    path.to_str().expect("a path in UTF-8").to_string()
+}
+
+/// The sheet that show has made, as a file has it, with one number changed.
+fn sheet(name: &str, at: usize, to: u16) -> String {
+    let mut sheet = [0u16; 520];
+    for (id, size) in [(1, 1), (2, 2), (3, 4), (4, 8), (5, 8), (9, 1), (10, 1), (266, 1)] {
+        sheet[id] = size;
+    }
+    sheet[512..519].copy_from_slice(&[8, 7, 5, 9, 64, 65535, 16]);
+    sheet[at] = to;
+    file(name, &sheet.iter().flat_map(|n| n.to_le_bytes()).collect::<Vec<u8>>())
+}
+
+const MADE: &str = "type sheet: a made one, not Databento's; --sheet FILE gives another\n";
+const GIVEN: &str = "type sheet: the given one\n";
+
+#[test]
+fn accepted_from_a_file_and_from_standard_input() {
+    let (stream, report) = stored();
+    assert!(report.contains(MADE));
+    let path = at("crates/show/stdin");
+    assert_eq!(show(&[path.to_str().expect("a path in UTF-8")], b""), told(0, &report));
+    assert_eq!(show(&[], &stream), told(0, &report));
+    assert_eq!(show(&["-"], &stream), told(0, &report));
+}
+
+#[test]
+fn refused_with_the_sentence_of_its_number() {
+    let (stream, _) = stored();
+    let sentence = "refused 10: The stream does not begin with DBN.\n";
+    assert_eq!(show(&[], b"DBX\x04____"), told(1, sentence));
+    let mut no_date = stream.clone();
+    let place = no_date.windows(4).rposition(|four| four == 20230317u32.to_le_bytes()).expect("a date");
+    no_date[place] = 0;
+    assert_eq!(show(&[], &no_date), told(1, "refused 39: An interval's end is no date.\n"));
+}
+
+#[test]
+fn every_number_of_a_reader_has_a_sentence() {
+    let numbers = std::fs::read_to_string(at("crates/refusal/src/lib.rt")).expect("the numbers");
+    let sentences = std::fs::read_to_string(at("crates/show/src/refusals.rt")).expect("the sentences");
+    let numbers = numbers.lines().filter_map(|line| line.split(" = ").nth(1)?.trim_end_matches(';').parse().ok());
+    let of_readers: Vec<u32> = numbers.filter(|n| *n < 90).collect();
+    assert_eq!(of_readers.len(), 52);
+    for n in of_readers {
+        assert!(sentences.contains(&format!("\n{n:02} ")), "{n} has no sentence");
+    }
+}
+
+#[test]
+fn cut_short() {
+    let (stream, _) = stored();
+    assert_eq!(show(&[], b""), told(1, "The input ends here. Bytes still needed: 8\n"));
+    let whole = 8 + u32::from_le_bytes(stream[4..8].try_into().expect("four bytes")) as usize;
+    for held in [8, 100, 4096.min(whole - 1), whole - 1] {
+        let needed = format!("The input ends here. Bytes still needed: {}\n", whole - held);
+        assert_eq!(show(&[], &stream[..held]), told(1, &needed));
+    }
+}
+
+#[test]
+fn a_hostile_name_forges_no_line() {
+    let symbol = b"A\r\nrecord: B\x1b[2J\\x43\x7f\xc3\xa9\xe2\x80\xae";
+    let shown = show(&[], &version_2(b"D\nversion: 9\\\0\0\0", 40, &[symbol], 0));
+    let report = "version: 2\ndataset: D\\x0aversion: 9\\\\\nschema: none\nstart: 1970-01-01 00:00:00.000000000 UTC\nend: none\n\
+        limit: none\nstype_in: none\nstype_out: 12 (figi_ticker)\nts_out: no\nsymbol width: 40\nlayout version: none\nsymbology rows: 1\n\
+        layout rows: 0\nsymbol: A\\x0d\\x0arecord: B\\x1b[2J\\\\x43\\x7f\\xc3\\xa9\\xe2\\x80\\xae\naccepted\n";
+    assert_eq!(shown, told(0, report));
+}
+
+#[test]
+fn a_file_that_cannot_be_opened_or_read() {
+    assert_eq!(show(&["no such file"], b""), failed("show: no such file: No such file or directory\n"));
+    assert_eq!(show(&["no\nfile"], b""), failed("show: no\\x0afile: No such file or directory\n"));
+    assert_eq!(show(&["/"], b""), failed("show: /: Is a directory\n"));
+    assert_eq!(show(&["--sheet", "no such file"], b""), failed("show: no such file: No such file or directory\n"));
+    let mut closed = command(&[]);
+    closed.stdin(std::fs::File::open("/").expect("a folder"));
+    let output = closed.output().expect("scripts/show runs");
+    assert_eq!(output.stderr, b"show: standard input: Is a directory\n");
+    assert_eq!((output.status.code(), output.stdout.len()), (Some(2), 0));
+}
+
+#[test]
+fn options_that_cannot_be_used() {
+    assert_eq!(show(&["--staus"], b""), failed("show: --staus: no such option, show --help says which there are\n"));
+    assert_eq!(show(&["a", "-"], b""), failed("show: -: a second stream, show takes one\n"));
+    assert_eq!(show(&["-", "--sheet"], b""), failed("show: --sheet: the file's name is missing\n"));
+}
+
+#[test]
+fn help() {
+    let shown = show(&["--help"], b"");
+    assert_eq!((shown.status, shown.err.as_str()), (0, ""));
+    for word in ["show [--sheet FILE] [FILE]", "--sheet FILE", "--status", "--help", "0 accepted, 1 refused"] {
+        assert!(shown.out.contains(word), "{word}");
+    }
+}
+
+#[test]
+fn a_type_sheet_of_ones_own() {
+    let (stream, report) = stored();
+    let same = sheet("same.sheet", 519, 0);
+    assert_eq!(show(&["--sheet", &same], &stream), told(0, &report.replace(MADE, GIVEN)));
+    let long_header = sheet("long_header.sheet", 518, 64);
+    let below = format!("refused 63: A record's base size is below the header.\n{GIVEN}");
+    assert_eq!(show(&["--sheet", &long_header], &stream), told(1, &below));
+    for (name, len) in [("short.sheet", 1039), ("long.sheet", 1041), ("empty.sheet", 0)] {
+        let path = file(name, &vec![0; len]);
+        let err = format!("show: {path}: no type sheet of 1,040 bytes could be read from it\n");
+        assert_eq!(show(&["-", "--sheet", &path], &stream), failed(&err));
+    }
+}
+
+#[test]
+fn a_refusal_by_a_rule_tells_of_the_made_sheet() {
+    let (mut stream, _) = stored();
+    stream[118] = 0x4E;
+    assert_eq!(show(&[], &stream), told(1, &format!("refused 62: An rtype's low byte is 4E.\n{MADE}")));
+}
+
+#[test]
+fn room_for_a_days_stream() {
+    let dataset = b"GLBX.MDP3\0\0\0\0\0\0\0";
+    let many = vec![&b"ES.c.0"[..]; 16385];
+    let shown = show(&[], &version_2(dataset, 8, &many[1..], 0));
+    assert_eq!((shown.status, shown.out.matches("symbol: ES.c.0\n").count()), (0, 16384));
+    let short =
+        "refused 3: A table of 16,384 rows is too short.\nsymbology rows needed: 16385\nlayout rows needed: 0\n";
+    assert_eq!(show(&[], &version_2(dataset, 8, &many, 0)), told(1, short));
+    let least = version_2(dataset, 8, &[], 0).len();
+    let full = version_2(dataset, 8, &[], 1_048_576 - least);
+    assert_eq!((full.len(), show(&[], &full).status), (1_048_576, 0));
+    let larger = "refused 2: The block is larger than the store of 1,048,576 bytes.\n";
+    assert_eq!(show(&[], &version_2(dataset, 8, &[], 1_048_577 - least)), told(1, larger));
+}
+
+#[test]
+fn a_report_that_cannot_be_written() {
+    let Ok(full) = std::fs::OpenOptions::new().write(true).open("/dev/full") else { return };
+    let mut command = command(&[]);
+    command.stdout(full);
+    let shown = run(command, &stored().0);
+    assert_eq!(shown, failed("show: standard output: No space left on device\n"));
+}
