@@ -12,6 +12,7 @@ mod tell;
 mod time;
 mod words;
 
+use block::Fields;
 use feed::Answer;
 use feed::Fed;
 use feed::State;
@@ -172,35 +173,33 @@ fn settled(a: Answer) -> bool {
 fn report(a: Answer, store: &[u8], symbology: &[u32], layout: &[u32], is_made: bool) -> u64 {
     match a {
         Answer::Done(f) => {
-            fields::show(f, store, is_made);
-            symbols::show(store, symbology, f.symbology_rows);
-            records::show(store, layout, f.layout_rows);
+            accepted(f, store, symbology, layout, is_made);
             print::text(b"accepted");
             ended(print::end(), 0)
         }
         Answer::Needs(n) => ended(lines::value(lines::BYTES_NEEDED, n as u64), 1),
-        Answer::Refused(e) => ended(refused(e, is_made), 1),
+        Answer::Refused(e) => ended(refusals::show(e, is_made), 1),
         Answer::Short {
             symbology: s,
             layout: l,
-        } => ended(short(s, l), 1),
+        } => {
+            refusals::show(3, is_made);
+            lines::value(lines::SYMBOLOGY_NEEDED, s as u64);
+            ended(lines::value(lines::LAYOUT_NEEDED, l as u64), 1)
+        }
     }
 }
 
-// A refusal; where a rule on layouts gave it, also which type sheet that was.
-fn refused(n: u32, is_made: bool) -> bool {
-    if n < 60 {
-        return refusals::show(n);
+// The fields of an accepted block, which stands in the store after the prelude, and its rows.
+fn accepted(f: Fields, store: &[u8], symbology: &[u32], layout: &[u32], is_made: bool) {
+    if store.len() < 8 {
+        return;
     }
-    refusals::show(n);
-    sheet::name(is_made)
-}
-
-// A refusal since a table is short, and the rows that are needed.
-fn short(symbology: usize, layout: usize) -> bool {
-    refusals::show(3);
-    lines::value(lines::SYMBOLOGY_NEEDED, symbology as u64);
-    lines::value(lines::LAYOUT_NEEDED, layout as u64)
+    let version = store[3];
+    let block = &store[8..];
+    fields::show(f, version, block, is_made);
+    symbols::show(block, symbology, f.symbology_rows);
+    records::show(block, layout, f.layout_rows);
 }
 
 // The status, if the report's last bytes were written; else it says why not.

@@ -5,21 +5,21 @@ use crate::words;
 use libc::STDOUT_FILENO;
 ghost use Prim.Native.Nat.{_<_};
 
-// The layout starts after the prelude, the fixed part of the block and its own length: 8 + 100 + 4.
-const LAYOUT_AT: usize = 112;
+// The layout starts after the fixed part of the block and its own length: 100 + 4.
+const LAYOUT_AT: usize = 104;
 
 // The def index of a field that has none.
 const NO_DEF: u32 = 65535;
 
 // A line for each of the first n rows; a field's name is its own row, as many rows on as there are fields.
-pub(crate) fn show(store: &[u8], rows: &[u32], n: usize) {
-    if store.len() < LAYOUT_AT {
+pub(crate) fn show(block: &[u8], rows: &[u32], n: usize) {
+    if block.len() < LAYOUT_AT {
         return;
     }
     let mut fields = 0;
     let mut i = 0;
     while i < n {
-        fields = row(&store[112..], rows, i, fields);
+        fields = row(&block[LAYOUT_AT..], rows, i, fields);
         i += 1;
     }
 }
@@ -48,7 +48,10 @@ fn item(layout: &[u8], rows: &[u32], i: usize) -> u32 {
     print::name(names::layout_name(layout, rows, i));
     match kind {
         10 => record(rows, i),
-        13 => structure(rows, i),
+        13 => {
+            lines::value(lines::STRUCT_SIZE, cell(rows, i, 3) as u64);
+            cell(rows, i, 4)
+        }
         _ => 0,
     }
 }
@@ -63,12 +66,6 @@ fn record(rows: &[u32], i: usize) -> u32 {
     io::print_hex(STDOUT_FILENO, cell(rows, i, 7) as u64, 8);
     print::end();
     cell(rows, i, 6)
-}
-
-// A struct's size; answers its field count.
-fn structure(rows: &[u32], i: usize) -> u32 {
-    lines::value(lines::STRUCT_SIZE, cell(rows, i, 3) as u64);
-    cell(rows, i, 4)
 }
 
 // A field: its name, `fields` rows on, and its numbers; its owner has as many fields as before.
@@ -106,18 +103,15 @@ fn number(j: u64, x: u32) {
         j,
     );
     match j {
-        6 => def(x),
+        6 => {
+            if x == NO_DEF {
+                print::none();
+            } else {
+                print::number(x as u64);
+            }
+        }
         7 => signed(x),
         _ => print::number(x as u64),
-    }
-}
-
-// A def index, or that there is none.
-fn def(x: u32) {
-    if x == NO_DEF {
-        print::none();
-    } else {
-        print::number(x as u64);
     }
 }
 

@@ -1,15 +1,23 @@
 // A sentence for each refusal number that a reader gives; 90 to 96 are the writer's.
 use crate::print;
+use crate::sheet;
 use crate::words;
 use libc::STDOUT_FILENO;
 
-// The number and its sentence.
-pub(crate) fn show(n: u32) -> bool {
+// The least number of a rule on layouts.
+const FIRST_RULE: u32 = 60;
+
+// The number and its sentence; where a rule on layouts gave it, also which type sheet that was. Answers whether it was written.
+pub(crate) fn show(n: u32, is_made: bool) -> bool {
     print::text(b"refused ");
     print::number(n as u64);
     print::text(b":");
     sentence(n);
-    print::end()
+    if n < FIRST_RULE {
+        return print::end();
+    }
+    print::end();
+    sheet::name(is_made)
 }
 
 // The sentence of a number, from one text of them all.

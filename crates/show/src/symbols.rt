@@ -5,13 +5,10 @@ use libc::STDOUT_FILENO;
 ghost use Prim.Native.Nat.{_<_};
 
 // A line for each of the first n rows.
-pub(crate) fn show(store: &[u8], rows: &[u32], n: usize) {
-    if store.len() < 8 {
-        return;
-    }
+pub(crate) fn show(block: &[u8], rows: &[u32], n: usize) {
     let mut i = 0;
     while i < n {
-        row(&store[8..], rows, i);
+        row(block, rows, i);
         i += 1;
     }
 }

@@ -6,10 +6,10 @@ use Rattle.show.proofs.records.show.Statement.{statement}
 use Rattle.show.proofs.records.show.Tie as tie
 
 abbrev Inv-loop : tie.InvT-loop
-Inv-loop store rows n fields₀ i₀ fields i = i ≤ n
+Inv-loop block rows n fields₀ i₀ fields i = i ≤ n
 
 abbrev μ-loop : tie.MeasureT-loop
-μ-loop store rows n fields₀ i₀ fields i = n - i
+μ-loop block rows n fields₀ i₀ fields i = n - i
 
 pub show-spec : {M : Type 1} → statement M
 show-spec =
