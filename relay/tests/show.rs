@@ -125,7 +125,7 @@ fn every_number_of_a_reader_has_a_sentence() {
     let of_readers: Vec<u32> = numbers.filter(|n| *n < 90).collect();
     assert_eq!(of_readers.len(), 52);
     for n in of_readers {
-        assert!(sentences.contains(&format!("\n{n:02} ")), "{n} has no sentence");
+        assert!(sentences.contains(&format!("\n{n:02}: ")), "{n} has no sentence");
     }
 }
 

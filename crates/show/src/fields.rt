@@ -1,7 +1,6 @@
 // A block's own fields.
 use crate::lines;
 use crate::print;
-use crate::sheet;
 use block::Fields;
 use block::Optional;
 
@@ -46,5 +45,5 @@ fn layout(version: u8, layout_version: u64, is_made: bool) {
         return;
     }
     lines::value(lines::LAYOUT_VERSION, layout_version);
-    sheet::name(is_made);
+    lines::value(lines::TYPE_SHEET, is_made as u64);
 }

@@ -30,6 +30,9 @@ pub(crate) const SYMBOLOGY_ROWS: u64 = 10;
 
 pub(crate) const LAYOUT_ROWS: u64 = 11;
 
+// 1 where the type sheet is the made one.
+pub(crate) const TYPE_SHEET: u64 = 12;
+
 pub(crate) const RTYPE: u64 = 20;
 
 pub(crate) const RECORD_SCHEMA: u64 = 21;
@@ -66,6 +69,7 @@ pub(crate) fn optional(label: u64, o: Optional) -> bool {
 09layout version:\x20
 10symbology rows:\x20
 11layout rows:\x20
+12type sheet:\x20
 20  rtype:\x20
 21  schema:\x20
 22  base size:\x20
@@ -90,8 +94,21 @@ fn present(label: u64, x: u64) {
         START | END => time::show(x),
         STYPE_IN | STYPE_OUT => stype(x),
         TS_OUT => words::say(STDOUT_FILENO, b"\n00no\n01yes", x),
+        TYPE_SHEET => type_sheet(x),
         _ => print::number(x),
     }
+}
+
+// Which type sheet a layout was judged with.
+fn type_sheet(is_made: u64) {
+    words::say(
+        STDOUT_FILENO,
+        b"
+00the given one
+01a made one, not Databento's; --sheet FILE gives another
+",
+        is_made,
+    );
 }
 
 // A schema's code and, where the public description has one, its name.

@@ -1,6 +1,6 @@
 // A sentence for each refusal number that a reader gives; 90 to 96 are the writer's.
+use crate::lines;
 use crate::print;
-use crate::sheet;
 use crate::words;
 use libc::STDOUT_FILENO;
 
@@ -11,13 +11,12 @@ const FIRST_RULE: u32 = 60;
 pub(crate) fn show(n: u32, is_made: bool) -> bool {
     print::text(b"refused ");
     print::number(n as u64);
-    print::text(b":");
     sentence(n);
     if n < FIRST_RULE {
         return print::end();
     }
     print::end();
-    sheet::name(is_made)
+    lines::value(lines::TYPE_SHEET, is_made as u64)
 }
 
 // The sentence of a number, from one text of them all.
@@ -25,58 +24,58 @@ fn sentence(n: u32) {
     words::say(
         STDOUT_FILENO,
         b"
-01 The held count is beyond the store or the block.
-02 The block is larger than the store of 1,048,576 bytes.
-03 A table of 16,384 rows is too short.
-10 The stream does not begin with DBN.
-11 The version is not 1 to 4.
-12 The block length is below 100.
-13 The block is too short or too long.
-20 The dataset is not UTF-8.
-21 The schema is unknown.
-22 The stype_in is unknown.
-23 The stype_out is unknown or absent.
-24 The layout goes past the end of the block.
-25 There is a layout below version 4.
-26 There is no layout in version 4.
-27 The symbology section is missing or goes past the end.
-28 The symbology does not span its section.
-30 A symbol list has no count.
-31 A symbol list's count is too large.
-32 A listed symbol is not UTF-8.
-33 The mappings have no count.
-34 The mappings' count is too large.
-35 A mapping is cut short.
-36 A mapping's raw symbol is not UTF-8.
-37 A mapping's interval count is too large.
-38 An interval's start is no date.
-39 An interval's end is no date.
-40 An interval's symbol is not UTF-8.
-50 The layout is cut short.
-51 A section's length is below 2.
-52 A name holds a NUL.
-53 A name is not UTF-8.
-54 A name has no closing NUL.
-55 A label code comes twice.
-60 A struct's size is not a multiple of its alignment.
-61 An rtype comes twice.
-62 An rtype's low byte is 4E.
-63 A record's base size is below the header.
-64 A record's base size is not a multiple of 8.
-70 Names and fields differ in number.
-71 A field id comes twice.
-72 A struct holds a struct.
-73 A field's def index is out of range.
-74 A field is misaligned.
-75 A field's size is 0.
-76 A decimal's scale is not -9.
-77 A symbol field's size is not the symbol width.
-78 A field's end is over 65535.
-79 A field's extension mark and its place differ.
-80 A field goes past the base size.
-81 The base fields leave a gap or overlap.
-82 The base fields end before the base size.
-83 The extension fields leave a gap or overlap.
+01: The held count is beyond the store or the block.
+02: The block is larger than the store of 1,048,576 bytes.
+03: A table of 16,384 rows is too short.
+10: The stream does not begin with DBN.
+11: The version is not 1 to 4.
+12: The block length is below 100.
+13: The block is too short or too long.
+20: The dataset is not UTF-8.
+21: The schema is unknown.
+22: The stype_in is unknown.
+23: The stype_out is unknown or absent.
+24: The layout goes past the end of the block.
+25: There is a layout below version 4.
+26: There is no layout in version 4.
+27: The symbology section is missing or goes past the end.
+28: The symbology does not span its section.
+30: A symbol list has no count.
+31: A symbol list's count is too large.
+32: A listed symbol is not UTF-8.
+33: The mappings have no count.
+34: The mappings' count is too large.
+35: A mapping is cut short.
+36: A mapping's raw symbol is not UTF-8.
+37: A mapping's interval count is too large.
+38: An interval's start is no date.
+39: An interval's end is no date.
+40: An interval's symbol is not UTF-8.
+50: The layout is cut short.
+51: A section's length is below 2.
+52: A name holds a NUL.
+53: A name is not UTF-8.
+54: A name has no closing NUL.
+55: A label code comes twice.
+60: A struct's size is not a multiple of its alignment.
+61: An rtype comes twice.
+62: An rtype's low byte is 4E.
+63: A record's base size is below the header.
+64: A record's base size is not a multiple of 8.
+70: Names and fields differ in number.
+71: A field id comes twice.
+72: A struct holds a struct.
+73: A field's def index is out of range.
+74: A field is misaligned.
+75: A field's size is 0.
+76: A decimal's scale is not -9.
+77: A symbol field's size is not the symbol width.
+78: A field's end is over 65535.
+79: A field's extension mark and its place differ.
+80: A field goes past the base size.
+81: The base fields leave a gap or overlap.
+82: The base fields end before the base size.
+83: The extension fields leave a gap or overlap.
 ",
         n as u64,
     );

@@ -1,5 +1,4 @@
 // The type sheet that a layout is judged with: a made one, or one's own from a file.
-use crate::print;
 use crate::tell;
 ghost use Prim.Native.Nat.{_≤_};
 
@@ -26,16 +25,6 @@ pub(crate) fn made() -> [u16; 520] {
     sheet[517] = 65535;
     sheet[518] = 16;
     sheet
-}
-
-// Says which sheet a layout was judged with. Answers whether it was written.
-pub(crate) fn name(is_made: bool) -> bool {
-    if is_made {
-        print::text(b"type sheet: a made one, not Databento's; --sheet FILE gives another");
-    } else {
-        print::text(b"type sheet: the given one");
-    }
-    print::end()
 }
 
 // Reads a sheet from the file that an argument names, which has nothing else. Where it cannot, it says why and answers false.
