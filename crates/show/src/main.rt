@@ -14,7 +14,6 @@ mod words;
 
 use block::Fields;
 use feed::Answer;
-use feed::Fed;
 use feed::State;
 use libc::STDIN_FILENO;
 use options::Options;
@@ -24,9 +23,10 @@ ghost use mathlib.Core.Path.{_≡_};
 // Where the status goes, if it is asked for.
 const STATUS_FILENO: i32 = 3;
 
-// What came of reading a stream.
-enum Seen {
+// What came of a turn of reading: a read that failed, so many bytes held, or an answer.
+enum Turn {
     Failed,
+    Held(usize),
     Answered(Answer),
 }
 
@@ -75,24 +75,14 @@ fn show_file(argument: usize, sheet: &[u16; 520], is_made: bool) -> u64 {
 // Shows the stream of an open file.
 fn show_stream(fd: i32, name: &[u8], sheet: &[u16; 520], is_made: bool) -> u64 {
     let mut store = store_space();
-    let mut piece = io::buffer();
     let mut symbology = symbology_table();
     let mut layout = layout_table();
-    let seen = read_start(
-        fd,
-        &mut store,
-        &mut piece,
-        sheet,
-        &mut symbology,
-        &mut layout,
-    );
-    match seen {
-        Seen::Failed => {
-            tell::failed(name);
-            2
-        }
-        Seen::Answered(a) => report(a, &store, &symbology, &layout, is_made),
+    let seen = read_start(fd, &mut store, sheet, &mut symbology, &mut layout);
+    if let Turn::Answered(a) = seen {
+        return report(a, &store, &symbology, &layout, is_made);
     }
+    tell::failed(name);
+    2
 }
 
 fn store_space() -> [u8; 1048576]
@@ -119,54 +109,53 @@ fn layout_table() -> [u32; 147456]
 fn read_start(
     fd: i32,
     store: &mut [u8],
-    piece: &mut [u8],
     sheet: &[u16; 520],
     symbology: &mut [u32],
     layout: &mut [u32],
-) -> Seen {
+) -> Turn {
     let mut held = 0;
     let mut turns = store.len();
     while turns > 0 {
-        let got = libc::read(fd, piece);
-        if got < 0 {
-            return Seen::Failed;
+        let turn = feed_some(fd, held, store, sheet, symbology, layout);
+        match turn {
+            Turn::Held(n) => held = n,
+            _ => return turn,
         }
-        let fed = feed_some(got, held, store, piece, sheet, symbology, layout);
-        let state = fed.state;
-        let answer = fed.answer;
-        if fed.taken == 0 {
-            return Seen::Answered(answer);
-        }
-        if settled(answer) {
-            return Seen::Answered(answer);
-        }
-        held = state.held;
         turns -= 1;
     }
-    Seen::Answered(Answer::Needs(0))
+    Turn::Answered(Answer::Needs(0))
 }
 
-// Feeds what a read has put into the piece.
+// Reads once, at most 4,096 bytes, and feeds what came. Where nothing did, the answer is the last.
 fn feed_some(
-    got: isize,
+    fd: i32,
     held: usize,
     store: &mut [u8],
-    piece: &[u8],
     sheet: &[u16; 520],
     symbology: &mut [u32],
     layout: &mut [u32],
-) -> Fed {
+) -> Turn {
+    let mut piece = io::buffer();
+    let got = libc::read(fd, &mut piece);
+    if got < 0 {
+        return Turn::Failed;
+    }
+    let n = io::count(got, &piece);
     let start = State { held };
-    let n = io::count(got, piece);
-    feed::feed(start, store, &piece[..n], sheet, symbology, layout)
+    let fed = feed::feed(start, store, &piece[..n], sheet, symbology, layout);
+    let state = fed.state;
+    let answer = fed.answer;
+    turn_of(n, state.held, answer)
 }
 
-// The answer is done or a refusal: no more bytes are needed.
-fn settled(a: Answer) -> bool {
-    match a {
-        Answer::Needs(_) => false,
-        _ => true,
+// Bytes that only lengthen what is held lead to another turn.
+fn turn_of(taken: usize, held: usize, answer: Answer) -> Turn {
+    if taken != 0 {
+        if let Answer::Needs(_) = answer {
+            return Turn::Held(held);
+        }
     }
+    Turn::Answered(answer)
 }
 
 // Writes what the answer says, and answers the status.

@@ -25,7 +25,7 @@ pub(crate) struct Options {
     has_stream: bool,
 }
 
-// Reads all arguments. The first fault is kept, and what follows it is still looked at.
+// Reads all arguments. Of several faults the last is kept.
 pub(crate) fn read() -> Options {
     let n = os::arg_count();
     let mut o = Options {
@@ -44,7 +44,8 @@ pub(crate) fn read() -> Options {
         i = next;
     }
     if o.sheet == n {
-        return faulty(o, 3, n);
+        o.fault = 3;
+        o.at = n;
     }
     o
 }
@@ -59,26 +60,20 @@ fn taken(o: Options, i: usize, next: usize, kind: u64) -> Options {
         HELP => o.help = true,
         STATUS => o.status = true,
         SHEET => o.sheet = next,
-        UNKNOWN => return faulty(o, 1, i),
+        UNKNOWN => {
+            o.fault = 1;
+            o.at = i;
+        }
         _ => {
             if o.has_stream {
-                return faulty(o, 2, i);
+                o.fault = 2;
+                o.at = i;
             }
             o.has_stream = true;
             if kind == NAME {
                 o.file = i;
             }
         }
-    }
-    o
-}
-
-// A fault, unless there is one already.
-fn faulty(o: Options, fault: u64, i: usize) -> Options {
-    let mut o = o;
-    if o.fault == 0 {
-        o.fault = fault;
-        o.at = i;
     }
     o
 }
