@@ -309,7 +309,7 @@ fn rules_searched(sheet: &[u16; 520], layout: &[u8], rows: &[u32], task: Task) -
 }
 
 // The rules with an owner for each place, which a record or a struct is marked with where the task is plain or its search gives
-// up. This is the only frame that holds the owners, and a table for 65,535 structs: about 264 KiB.
+// up. This is the only frame that holds the owners, 128 KiB; a table for 65,535 structs is as large again, in a frame of its own.
 fn rules_marked(sheet: &[u16; 520], layout: &[u8], rows: &[u32], task: Task) -> u32
     requires { ⌜ Ready (now layout) (now rows) (task .structs) (task .n) (task .records) ⌝ }
     requires { ⌜ task .n ≤ 65535 ⌝ }
