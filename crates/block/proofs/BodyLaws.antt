@@ -37,10 +37,10 @@ lays-at {has} {sheet} {w} {b} {v = v} {n} {e} h q = go (rw q at h)
     go : Lays has sheet w b (Laid'.Accepted v n e) → Layout-read has sheet w b v n e
     go (lays x) = x
 
-pub lays-bad : {has : Bool} {sheet : List ℕ} {w : ℕ} {b : List ℕ} {r : Laid} {k : ℕ} → Lays has sheet w b r → r ≡ Laid'.Refused k → layoutPart has sheet w .parse 0 b 100 ≡ refuse k
+pub lays-bad : {has : Bool} {sheet : List ℕ} {w : ℕ} {b : List ℕ} {r : Laid} {k : ℕ} → Lays has sheet w b r → r ≡ Laid'.Refused k → layoutPart has sheet w .codec .parse 0 b 100 ≡ refuse k
 lays-bad {has} {sheet} {w} {b} {k = k} h q = go (rw q at h)
   where
-    go : Lays has sheet w b (Laid'.Refused k) → layoutPart has sheet w .parse 0 b 100 ≡ refuse k
+    go : Lays has sheet w b (Laid'.Refused k) → layoutPart has sheet w .codec .parse 0 b 100 ≡ refuse k
     go (lays-no x) = x
 
 -- ---- answers from what was read
@@ -59,18 +59,18 @@ module _ (v : MetadataLengths) {z : Res (Block × List ℕ)} (s l : List ℕ) wh
 
 -- ---- the whole from its parts
 
-module _ (sheet : List ℕ) (v : MetadataLengths) (b : List ℕ) (h : Header) (w : ℕ) (eh : header v .parse 0 b 0 ≡ ok h 100) (ew : w ≡ widthOf v h) where
-  whole-no : {k : ℕ} → layoutPart (v .«has_layout») sheet w .parse 0 b 100 ≡ refuse k → whole (block sheet v) 0 b ≡ refuse k
+module _ (sheet : List ℕ) (v : MetadataLengths) (b : List ℕ) (h : Header) (w : ℕ) (eh : header v .codec .parse 0 b 0 ≡ ok h 100) (ew : w ≡ widthOf v h) where
+  whole-no : {k : ℕ} → layoutPart (v .«has_layout») sheet w .codec .parse 0 b 100 ≡ refuse k → whole (block sheet v .codec) 0 b ≡ refuse k
   unfolding whole block named _on_ _then_
   whole-no el = rw (eh, ← ew, el)
 
-  whole-bad : {l : Layout} {at k : ℕ} → layoutPart (v .«has_layout») sheet w .parse 0 b 100 ≡ ok l at → symbologyPart (v .«has_layout») w .parse 0 b at ≡ refuse k
-      → whole (block sheet v) 0 b ≡ refuse k
+  whole-bad : {l : Layout} {at k : ℕ} → layoutPart (v .«has_layout») sheet w .codec .parse 0 b 100 ≡ ok l at → symbologyPart (v .«has_layout») w .codec .parse 0 b at ≡ refuse k
+      → whole (block sheet v .codec) 0 b ≡ refuse k
   unfolding whole block named _on_ _then_
   whole-bad el es = rw (eh, ← ew, el, es)
 
-  whole-ok : {l : Layout} {t : Symbology} {at j : ℕ} → layoutPart (v .«has_layout») sheet w .parse 0 b 100 ≡ ok l at → symbologyPart (v .«has_layout») w .parse 0 b at ≡ ok t j
-      → whole (block sheet v) 0 b ≡ ok (toBlock (h, (l, t)), drop j b) (length b)
+  whole-ok : {l : Layout} {t : Symbology} {at j : ℕ} → layoutPart (v .«has_layout») sheet w .codec .parse 0 b 100 ≡ ok l at → symbologyPart (v .«has_layout») w .codec .parse 0 b at ≡ ok t j
+      → whole (block sheet v .codec) 0 b ≡ ok (toBlock (h, (l, t)), drop j b) (length b)
   unfolding whole block named _on_ _then_
   whole-ok el es = rw (eh, ← ew, el, es)
 
@@ -80,15 +80,15 @@ module _ (sheet : List ℕ) (v : MetadataLengths) (b : List ℕ) (w : ℕ) (s l 
   abbrev H : Header
   H = headerAt v b
 
-  eh : header v .parse 0 b 0 ≡ ok H 100
+  eh : header v .codec .parse 0 b 0 ≡ ok H 100
   eh = header-got v b (hd .fixed) (hd .passed)
 
-  pub body-no : {k : ℕ} → layoutPart (v .«has_layout») sheet w .parse 0 b 100 ≡ refuse k → Does v (whole (block sheet v) 0 b) s l (Refused k) s l
+  pub body-no : {k : ℕ} → layoutPart (v .«has_layout») sheet w .codec .parse 0 b 100 ≡ refuse k → Does v (whole (block sheet v .codec) 0 b) s l (Refused k) s l
   body-no el = does-no v s l (whole-no sheet v b H w eh (hd .width-is H 100 eh) el)
 
   module _ {n9 ver at : ℕ} (L : Layout-read (v .«has_layout») sheet w b ver n9 at)
       {ready : Bool} {s′ : List ℕ} {r : Listed} (S : Lists (v .«has_layout») ready w b at s s′ r) where
-    pub body-bad : {k : ℕ} → r ≡ Listed'.Refused k → Does v (whole (block sheet v) 0 b) s l (Refused k) s′ l
+    pub body-bad : {k : ℕ} → r ≡ Listed'.Refused k → Does v (whole (block sheet v .codec) 0 b) s l (Refused k) s′ l
     body-bad {k} q =
         let (e, es) = fives-no (S .fives) q in
         rw es (does-no v s l (whole-bad sheet v b H w eh (hd .width-is H 100 eh) (L .is) (S .is ∙ rw e)))
@@ -99,7 +99,7 @@ module _ (sheet : List ℕ) (v : MetadataLengths) (b : List ℕ) (w : ℕ) (s l 
         abbrev read : Block
         read = toBlock (H, (L .tree, W .tree))
 
-        is : whole (block sheet v) 0 b ≡ ok (read, drop (S .end (W .next)) b) (length b)
+        is : whole (block sheet v .codec) 0 b ≡ ok (read, drop (S .end (W .next)) b) (length b)
         is = whole-ok sheet v b H w eh (hd .width-is H 100 eh) {j = S .end (W .next)} (L .is) (S .is ∙ rw (W .is))
 
         room9 : ready ≡ leb (length (rows (L .tree))) (length l / 9)
@@ -118,13 +118,13 @@ module _ (sheet : List ℕ) (v : MetadataLengths) (b : List ℕ) (w : ℕ) (s l 
         unfolding fieldsOf
         fields-is ef = ef H 100 eh ∙ rw (← W .many, ← L .many, ← L .version)
 
-      pub body-short : {n5 : ℕ} → r ≡ Listed'.Short n5 → Does v (whole (block sheet v) 0 b) s l (Short n5 n9) s′ l
+      pub body-short : {n5 : ℕ} → r ≡ Listed'.Short n5 → Does v (whole (block sheet v .codec) 0 b) s l (Short n5 n9) s′ l
       body-short {n5} q =
           let W = fives-short (S .fives) q in
           rw (W .leaves, ← W .many, ← L .many) (does-short v s l (is W) (room W))
 
       pub body-read : {n5 j : ℕ} {l′ : List ℕ} {F : Fields} → r ≡ Listed'.Read n5 j → l′ ≡ leaveIf (v .«has_layout») (take (at - 104) (drop 104 b)) l
-          → OfHeader v b (λ h. F ≡ fieldsWith v h ver n5 n9) → Does v (whole (block sheet v) 0 b) s l (Read F) s′ l′
+          → OfHeader v b (λ h. F ≡ fieldsWith v h ver n5 n9) → Does v (whole (block sheet v .codec) 0 b) s l (Read F) s′ l′
       body-read q el ef =
           let W = fives-read (S .fives) q in
           does-read v s l (is W) (room W) (sym (room9 W) ∙ first ready _ (W .room)) (W .leaves) (el ∙ L .leaves l) (fields-is W ef)
@@ -168,17 +168,17 @@ module _ (version : ℕ) (b sheet s l : List ℕ) where
     block-long h g = promise (does-no (lengths version) s l (rw (le-leb 1 version lo, le-leb version 4 hi, le-leb 100 (length b) h, lt-leb (length b) 4294967295 g)))
 
     module _ (h : 100 ≤ length b) (g : length b ≤ 4294967295) {v : MetadataLengths} (ev : v ≡ lengths version) where
-      block-is : blockOf version sheet b ≡ whole (block sheet v) 0 b
+      block-is : blockOf version sheet b ≡ whole (block sheet v .codec) 0 b
       unfolding blockOf
       block-is = rw (le-leb 1 version lo, le-leb version 4 hi, le-leb 100 (length b) h, le-leb (length b) 4294967295 g, ev)
 
-      pub block-done : {r : BlockAnswer} {s′ l′ : List ℕ} → Does v (whole (block sheet v) 0 b) s l r s′ l′ → Promise version b sheet s l r s′ l′
-      block-done {r} {s′} {l′} d = promise (rw block-is (subst (λ (x : MetadataLengths). Does x (whole (block sheet v) 0 b) s l r s′ l′) ev d))
+      pub block-done : {r : BlockAnswer} {s′ l′ : List ℕ} → Does v (whole (block sheet v .codec) 0 b) s l r s′ l′ → Promise version b sheet s l r s′ l′
+      block-done {r} {s′} {l′} d = promise (rw block-is (subst (λ (x : MetadataLengths). Does x (whole (block sheet v .codec) 0 b) s l r s′ l′) ev d))
 
       header-no : (r : Res Header) {k : ℕ} → k ≡ faultOf r → 0 < k → r ≡ refuse k
       header-no (ok x j) e p = absurd (omega arith)
       header-no (refuse j) e p = ap (λ (m : ℕ). refuse m) (sym e)
 
-      pub block-header : {k : ℕ} → k ≡ faultOf (header v .parse 0 b 0) → 0 < k → Promise version b sheet s l (Refused k) s l
+      pub block-header : {k : ℕ} → k ≡ faultOf (header v .codec .parse 0 b 0) → 0 < k → Promise version b sheet s l (Refused k) s l
       unfolding whole block named _on_
-      block-header {k} e p = block-done (does-no v s l (rw (header-no (header v .parse 0 b 0) e p)))
+      block-header {k} e p = block-done (does-no v s l (rw (header-no (header v .codec .parse 0 b 0) e p)))

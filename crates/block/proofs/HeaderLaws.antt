@@ -65,7 +65,7 @@ tests h =
     ok h 100
 
 module _ (v : MetadataLengths) (b : List ℕ) (f : Fixed v b) where
-  pub header-is : header v .parse 0 b 0 ≡ tests (headerAt v b)
+  pub header-is : header v .codec .parse 0 b 0 ≡ tests (headerAt v b)
   unfolding header named _then_ checked skip
   header-is =
       let d : ℕ = v .«dataset_cstr_len» in
@@ -106,19 +106,19 @@ module _ (v : MetadataLengths) (b : List ℕ) (f : Fixed v b) where
   abbrev H : Header
   H = headerAt v b
 
-  pub fault-20 : utf8 (H .dataset) ≡ false → 20 ≡ faultOf (header v .parse 0 b 0)
+  pub fault-20 : utf8 (H .dataset) ≡ false → 20 ≡ faultOf (header v .codec .parse 0 b 0)
   fault-20 e1 = rw (header-is v b f, e1)
 
-  pub fault-21 : utf8 (H .dataset) ≡ true → isSchema (H .schema) ≡ false → 21 ≡ faultOf (header v .parse 0 b 0)
+  pub fault-21 : utf8 (H .dataset) ≡ true → isSchema (H .schema) ≡ false → 21 ≡ faultOf (header v .codec .parse 0 b 0)
   fault-21 e1 e2 = rw (header-is v b f, e1, e2)
 
-  pub fault-22 : utf8 (H .dataset) ≡ true → isSchema (H .schema) ≡ true → isStypeIn (H .stypeIn) ≡ false → 22 ≡ faultOf (header v .parse 0 b 0)
+  pub fault-22 : utf8 (H .dataset) ≡ true → isSchema (H .schema) ≡ true → isStypeIn (H .stypeIn) ≡ false → 22 ≡ faultOf (header v .codec .parse 0 b 0)
   fault-22 e1 e2 e3 = rw (header-is v b f, e1, e2, e3)
 
-  pub fault-23 : utf8 (H .dataset) ≡ true → isSchema (H .schema) ≡ true → isStypeIn (H .stypeIn) ≡ true → isStype (H .stypeOut) ≡ false → 23 ≡ faultOf (header v .parse 0 b 0)
+  pub fault-23 : utf8 (H .dataset) ≡ true → isSchema (H .schema) ≡ true → isStypeIn (H .stypeIn) ≡ true → isStype (H .stypeOut) ≡ false → 23 ≡ faultOf (header v .codec .parse 0 b 0)
   fault-23 e1 e2 e3 e4 = rw (header-is v b f, e1, e2, e3, e4)
 
-  pub fault-0 : utf8 (H .dataset) ≡ true → isSchema (H .schema) ≡ true → isStypeIn (H .stypeIn) ≡ true → isStype (H .stypeOut) ≡ true → 0 ≡ faultOf (header v .parse 0 b 0)
+  pub fault-0 : utf8 (H .dataset) ≡ true → isSchema (H .schema) ≡ true → isStypeIn (H .stypeIn) ≡ true → isStype (H .stypeOut) ≡ true → 0 ≡ faultOf (header v .codec .parse 0 b 0)
   fault-0 e1 e2 e3 e4 = rw (header-is v b f, e1, e2, e3, e4)
 
   -- the tests give the header that stands there, or a refusal that is not 0
@@ -130,7 +130,7 @@ module _ (v : MetadataLengths) (b : List ℕ) (f : Fixed v b) where
   tests-ok true false d e z = absurd (omega arith)
   tests-ok false c d e z = absurd (omega arith)
 
-  pub header-got : 0 ≡ faultOf (header v .parse 0 b 0) → header v .parse 0 b 0 ≡ ok H 100
+  pub header-got : 0 ≡ faultOf (header v .codec .parse 0 b 0) → header v .codec .parse 0 b 0 ≡ ok H 100
   header-got z = header-is v b f ∙ tests-ok (utf8 (H .dataset)) (isSchema (H .schema)) (isStypeIn (H .stypeIn)) (isStype (H .stypeOut)) (z ∙ ap faultOf (header-is v b f))
 
   tests-only : (a c d e : Bool) (h : Header) (j : ℕ) → (need a 20 0 >>= λ _ _. need c 21 0 >>= λ _ _. need d 22 0 >>= λ _ _. need e 23 0 >>= λ _ _. ok H 100) ≡ ok h j → H ≡ h

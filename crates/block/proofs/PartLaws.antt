@@ -8,9 +8,9 @@ use mathlib.Core.List.{List, [], _∷_}
 use lib.ListN.{length, take, drop, length-take, length-drop}
 use lib.Seq.{take-all}
 use lib.Dec.{leb, eqb}
-use borrow.Author.Tests.{le-leb, lt-ltb}
+use borrow.Author.Tests.{le-leb}
 use Rattle.codec.specs.Cases.{by-bool}
-use Rattle.codec.specs.Codec.{Res, ok, refuse, _>>=_, need, Codec, raw, num, value, sized, named, checked, judged, some, whole, boxed, isNil, full}
+use Rattle.codec.specs.Codec.{Res, ok, refuse, _>>=_, need, Codec, raw, num, value, sized, named, checked, judged, asks, whole, boxed, isNil, full}
 use Rattle.codec.specs.Laws.{bind-ok}
 use Rattle.codec.specs.Steps.{raw-got, raw-bad, num-got, num-bad}
 use Rattle.codec.specs.Remainder.{remainder}
@@ -148,14 +148,14 @@ module _ (sheet : List ℕ) (width : ℕ) (part : List ℕ) where
   abbrev ruling : Layout → ℕ → Res Layout
   ruling l j = need (eqb 0 (rulesOf sheet width (fromLayout l .0))) (rulesOf sheet width (fromLayout l .0)) j >>= λ _ j. ok l j
 
-  some-is : 0 < length part → whole (some 26 (parts utf8 D)) 0 part ≡ whole (parts utf8 D) 0 part
-  unfolding whole some
-  some-is h = rw (lt-ltb 0 (length part) h)
+  some-is : 0 < length part → whole (asks 26 1 (parts utf8 D .codec)) 0 part ≡ whole (parts utf8 D .codec) 0 part
+  unfolding whole asks
+  some-is h = rw (le-leb (0 + 1) (length part) h)
 
   pub ruled-part : 0 < length part → length part ≤ 4294967295 → (e : ℕ)
-      → ((_>>=_ {B = Z} (whole (some 26 (parts utf8 D)) 0 part >>= λ z _. ok z e) λ x j. need (eqb 0 (rulesOf sheet width (x .0))) (rulesOf sheet width (x .0)) j >>= λ _ j. ok x j) >>= λ x j. ok (toLayout x) j)
+      → ((_>>=_ {B = Z} (whole (asks 26 1 (parts utf8 D .codec)) 0 part >>= λ z _. ok z e) λ x j. need (eqb 0 (rulesOf sheet width (x .0))) (rulesOf sheet width (x .0)) j >>= λ _ j. ok x j) >>= λ x j. ok (toLayout x) j)
       ≡ (ruledOf sheet width part >>= λ l _. ok l e)
-  ruled-part h s e = rw (some-is h, ruled-is sheet width part, layout-whole part s) (go (whole (parts utf8 D) 0 part))
+  ruled-part h s e = rw (some-is h, ruled-is sheet width part, layout-whole part s) (go (whole (parts utf8 D .codec) 0 part))
     where
       by : (z : Z) (j k : ℕ) (t : Bool) → (_>>=_ {B = Layout} (_>>=_ {B = Z} (need t k e) λ _ j. ok z j) λ x j. ok (toLayout x) j) ≡ ((need t k j >>= λ _ j. ok (toLayout z) j) >>= λ l _. ok l e)
       by z j k true = refl
@@ -167,9 +167,9 @@ module _ (sheet : List ℕ) (width : ℕ) (part : List ℕ) where
       go (refuse k) = refl
 
 module _ (sheet : List ℕ) (width : ℕ) (b : List ℕ) where
-  pub lay-no : (has : Bool) {k : ℕ} → spanAt 24 b 100 ≡ Span'.Refused k → layoutPart has sheet width .parse 0 b 100 ≡ refuse k
+  pub lay-no : (has : Bool) {k : ℕ} → spanAt 24 b 100 ≡ Span'.Refused k → layoutPart has sheet width .codec .parse 0 b 100 ≡ refuse k
   unfolding layoutPart named judged checked sized
-  lay-no true e = rw (box-no 24 (λ p. 0) (λ P x. Unit {0}) (some 26 (parts utf8 D)) b 100 e)
+  lay-no true e = rw (box-no 24 (λ p. 0) (λ P x. Unit {0}) (asks 26 1 (parts utf8 D .codec)) b 100 e)
   lay-no false {k} e = rw (plain ∙ span-no 24 b 100 (λ n p x j. ok x j) e)
     where
       again : (r : Res (List ℕ)) → r ≡ (r >>= λ x j. ok x j)
@@ -187,21 +187,21 @@ module _ (sheet : List ℕ) (width : ℕ) (b : List ℕ) where
     size : length (take n (drop p b)) ≡ n
     size = simp (length-take, length-drop) (omega arith)
 
-    pub lay-26 : n ≡ 0 → layoutPart true sheet width .parse 0 b 100 ≡ refuse 26
-    unfolding layoutPart named judged whole some
-    lay-26 e = rw (box-ok 24 (λ p. 0) (λ P x. Unit {0}) (some 26 (parts utf8 D)) b 100 s, e)
+    pub lay-26 : n ≡ 0 → layoutPart true sheet width .codec .parse 0 b 100 ≡ refuse 26
+    unfolding layoutPart named judged whole asks
+    lay-26 e = rw (box-ok 24 (λ p. 0) (λ P x. Unit {0}) (asks 26 1 (parts utf8 D .codec)) b 100 s, e)
 
-    pub lay-25 : 0 < n → layoutPart false sheet width .parse 0 b 100 ≡ refuse 25
+    pub lay-25 : 0 < n → layoutPart false sheet width .codec .parse 0 b 100 ≡ refuse 25
     unfolding layoutPart named checked sized
     lay-25 h = let z : 0 < length (take n (drop p b)) = omega (arith, size) in rw (s .number, s .bytes, nil-not (take n (drop p b)) z)
 
-    pub lay-none : n ≡ 0 → layoutPart false sheet width .parse 0 b 100 ≡ ok (noItems []) (p + n)
+    pub lay-none : n ≡ 0 → layoutPart false sheet width .codec .parse 0 b 100 ≡ ok (noItems []) (p + n)
     unfolding layoutPart named checked sized
     lay-none e = rw (s .number, s .bytes, e)
 
-    pub lay-ruled : 0 < n → n ≤ 4294967295 → layoutPart true sheet width .parse 0 b 100 ≡ (ruledOf sheet width (take n (drop p b)) >>= λ l _. ok l (p + n))
+    pub lay-ruled : 0 < n → n ≤ 4294967295 → layoutPart true sheet width .codec .parse 0 b 100 ≡ (ruledOf sheet width (take n (drop p b)) >>= λ l _. ok l (p + n))
     unfolding layoutPart named judged
-    lay-ruled h l = rw (box-ok 24 (λ p. 0) (λ P x. Unit {0}) (some 26 (parts utf8 D)) b 100 s)
+    lay-ruled h l = rw (box-ok 24 (λ p. 0) (λ P x. Unit {0}) (asks 26 1 (parts utf8 D .codec)) b 100 s)
         (ruled-part sheet width (take n (drop p b)) (omega (arith, size)) (omega (arith, size)) (p + n))
 
 module _ (sheet : List ℕ) (width : ℕ) (b : List ℕ) where
@@ -232,7 +232,7 @@ module _ (sheet : List ℕ) (width : ℕ) (b : List ℕ) where
     }))
 
     module _ (t : has ≡ true) (some′ : 0 < n) where
-      ruled : layoutPart true sheet width .parse 0 b 100 ≡ (ruledOf sheet width (take n (drop p b)) >>= λ l _. ok l (p + n))
+      ruled : layoutPart true sheet width .codec .parse 0 b 100 ≡ (ruledOf sheet width (take n (drop p b)) >>= λ l _. ok l (p + n))
       ruled = lay-ruled sheet width b S (w .1) some′ (omega (arith, w .1))
 
       pub lays-bad : {k : ℕ} → Verdict'.Refused k ≡ verdict (ruledOf sheet width (take (p + n - p) (drop p b))) → Lays has sheet width b (Laid'.Refused k)
@@ -244,7 +244,7 @@ module _ (sheet : List ℕ) (width : ℕ) (b : List ℕ) where
           let z : p + n - 104 ≡ n = omega arith in
           rw (z, ← q, e)
 
-      is-ok : (l : Layout) (j : ℕ) → ruledOf sheet width (take n (drop p b)) ≡ ok l j → layoutPart true sheet width .parse 0 b 100 ≡ ok l (p + n)
+      is-ok : (l : Layout) (j : ℕ) → ruledOf sheet width (take n (drop p b)) ≡ ok l j → layoutPart true sheet width .codec .parse 0 b 100 ≡ ok l (p + n)
       is-ok l j el = ruled ∙ rw el
 
       pub lays-ok : {v m : ℕ} → Verdict'.Accepted v m ≡ verdict (ruledOf sheet width (take (p + n - p) (drop p b))) → Lays has sheet width b (Laid'.Accepted v m (p + n))
@@ -266,17 +266,17 @@ module _ (sheet : List ℕ) (width : ℕ) (b : List ℕ) where
 module _ (width : ℕ) (b : List ℕ) (at : ℕ) where
   pub lists-span : (has : Bool) {ready : Bool} {t : List ℕ} {k : ℕ} → sectionAt has b at ≡ Span'.Refused k → Lists has ready width b at t t (Listed'.Refused k)
   unfolding symbologyPart full
-  lists-span true {k = k} e = record { part = refuse k; end = λ j. j; is = rw (box-no 27 (λ p. p) (symbology utf8 isDate width .each) (symbology utf8 isDate width) b at e); fives = fives-refused }
+  lists-span true {k = k} e = record { part = refuse k; end = λ j. j; is = rw (box-no 27 (λ p. p) (symbology utf8 isDate width .codec .each) (symbology utf8 isDate width .codec) b at e); fives = fives-refused }
   lists-span false e = absurd (let z : _≡_ {A = ℕ} 0 1 = cc in omega arith)
 
   module _ (small : length b ≤ 4294967295) where
-    list-section : {p n : ℕ} → Spanned 27 b at p n → p + n ≤ length b → symbologyPart true width .parse 0 b at ≡ (sectionOf true width p (take n (drop p b)) >>= λ x _. ok x (p + n))
+    list-section : {p n : ℕ} → Spanned 27 b at p n → p + n ≤ length b → symbologyPart true width .codec .parse 0 b at ≡ (sectionOf true width p (take n (drop p b)) >>= λ x _. ok x (p + n))
     unfolding symbologyPart full whole
     list-section {p} {n} s h =
         let part : List ℕ = take n (drop p b) in
         let l : length part ≡ n = simp (length-take, length-drop) (omega arith) in
-        rw (box-ok 27 (λ p. p) (symbology utf8 isDate width .each) (symbology utf8 isDate width) b at s, zero-add p, section-parse width p part (omega arith))
-        (go part (symbology utf8 isDate width .parse p part 0))
+        rw (box-ok 27 (λ p. p) (symbology utf8 isDate width .codec .each) (symbology utf8 isDate width .codec) b at s, zero-add p, section-parse width p part (omega arith))
+        (go part (symbology utf8 isDate width .codec .parse p part 0))
       where
         by : (x : Symbology) (j : ℕ) (y : Bool) → (need y 28 (p + n) >>= λ _ m. ok x m) ≡ ((need y 28 j >>= λ _ m. ok x m) >>= λ x _. ok x (p + n))
         by x j true = refl
@@ -288,16 +288,16 @@ module _ (width : ℕ) (b : List ℕ) (at : ℕ) where
         go part (ok x j) = by x j (isNil (drop j part))
         go part (refuse k) = refl
 
-    list-rest : at ≤ length b → symbologyPart false width .parse 0 b at ≡ (sectionOf false width at (drop at b) >>= λ x j. ok x (at + j))
+    list-rest : at ≤ length b → symbologyPart false width .codec .parse 0 b at ≡ (sectionOf false width at (drop at b) >>= λ x j. ok x (at + j))
     unfolding symbologyPart remainder
     list-rest h = rw (zero-add at, rest-parse width at (drop at b) (simp length-drop (omega arith)))
 
     -- one law for both: the bytes from p up to p + n
     module _ (has : Bool) {p n : ℕ} (e : sectionAt has b at ≡ Part p n) (w : (at ≤ p) × (p + n ≤ length b)) where
-      section-is : has ≡ true → symbologyPart has width .parse 0 b at ≡ (sectionOf has width p (take (p + n - p) (drop p b)) >>= λ x _. ok x (p + n))
+      section-is : has ≡ true → symbologyPart has width .codec .parse 0 b at ≡ (sectionOf has width p (take (p + n - p) (drop p b)) >>= λ x _. ok x (p + n))
       section-is y = rw (y, slice p n b) (list-section (spanned 27 b at (rw y at e) (w .1)) (w .1))
 
-      rest-is : has ≡ false → symbologyPart has width .parse 0 b at ≡ (sectionOf has width p (take (p + n - p) (drop p b)) >>= λ x j. ok x (at + j))
+      rest-is : has ≡ false → symbologyPart has width .codec .parse 0 b at ≡ (sectionOf has width p (take (p + n - p) (drop p b)) >>= λ x j. ok x (at + j))
       rest-is y =
           let q : Part at (length b - at) ≡ Part p n = (rw y at e) in
           let ap′ : at ≡ p = cc in

@@ -1,19 +1,22 @@
 -- The block, as document 01's "Bytes on the wire" has it: the tree that keeps every byte, and one format for versions 1 to 4.
 -- Assumes nothing.
-use Prim.Native.Nat.{ℕ, zero, suc, _+_}
+use Prim.Native.Nat.{ℕ, zero, suc, _<_}
+use native.Mathlib.Omega.{arith}
+use mathlib.Core.Path.{_≡_, refl, ap}
 use mathlib.Core.Bool.{Bool, true, false, _||_, _&&_}
-use mathlib.Core.List.{List, [], _∷_, _++_}
+use mathlib.Core.List.{List, []}
 use lib.ListN.{length}
 use lib.Dec.{leb, eqb}
-use Rattle.codec.specs.Codec.{Res, ok, refuse, _>>=_, need, Codec, raw, skip, num, _then_, _on_, named, checked, judged, some, sized, whole, boxed, isNil, full}
-use Rattle.codec.specs.Remainder.{remainder}
+use Rattle.codec.specs.Codec as plain
+use Rattle.codec.specs.Codec.{Res, _>>=_, need, whole, isNil}
+use Rattle.codec.specs.Format.{Format, raw, num, skip, rawTest, numTest, _then_, on, named, checked, judged, asks, sized, apart, spanned, remainder}
 use Rattle.text.specs.Utf8.{utf8}
 use Rattle.dates.specs.Date.{isDate}
 use Rattle.numbers.specs.Pick.{pick}
 use Rattle.layout.specs.Layout.{Layout, Parts, parts, toLayout, fromLayout}
 use Rattle.layout.specs.Given.{D}
-use Rattle.symbology.specs.Symbology.{Symbology, symbology}
-use Rattle.rules.specs.Rules.{rulesOf}
+use Rattle.symbology.specs.Symbology.{Symbology, symbology, unspanned}
+use Rattle.rules.specs.Rules.{rulesOf, rules-blind}
 use Rattle.block.specs.declared.MetadataLengths.{MetadataLengths}
 
 -- ---- the tree
@@ -82,11 +85,19 @@ toHeader z = let (d, (s, (b, (e, (l, (c, (i, (o, (t, (w, r)))))))))) = z in
 abbrev pub fromHeader : Header → List ℕ × (ℕ × (ℕ × (ℕ × (ℕ × (List ℕ × (ℕ × (ℕ × (ℕ × (ℕ × List ℕ)))))))))
 fromHeader h = (h .dataset, (h .schema, (h .start, (h .end, (h .limit, (h .count, (h .stypeIn, (h .stypeOut, (h .tsOut, (h .width, h .reserved))))))))))
 
-unfoldable pub header : MetadataLengths → Codec Header
-header v = named toHeader fromHeader
-    (checked utf8 20 (raw 13 (v .«dataset_cstr_len»)) then checked isSchema 21 (num 13 2) then num 13 8 then num 13 8 then num 13 8
-    then skip 13 (v .«record_count_len») then checked isStypeIn 22 (num 13 1) then checked isStype 23 (num 13 1) then num 13 1
-    then num 13 (v .«symbol_cstr_len_len») then skip 13 (v .«reserved_len»))
+unfoldable pub header : MetadataLengths → Format Header false
+header v = named toHeader fromHeader (λ x. refl)
+    (rawTest utf8 20 13 (v .«dataset_cstr_len»)
+    then numTest isSchema 21 13 2
+    then num 13 8
+    then num 13 8
+    then num 13 8
+    then skip 13 (v .«record_count_len»)
+    then numTest isStypeIn 22 13 1
+    then numTest isStype 23 13 1
+    then num 13 1
+    then num 13 (v .«symbol_cstr_len_len»)
+    then skip 13 (v .«reserved_len»))
 
 -- a version without a symbol width has 22
 abbrev pub orV1 : ℕ → ℕ → ℕ
@@ -100,25 +111,59 @@ widthOf v h = orV1 (v .«symbol_cstr_len_len») (h .width)
 abbrev pub noItems : List ℕ → Layout
 noItems b = toLayout ((0, ([], ([], []))), b)
 
--- u32 layout length and that many bytes, 24 where they run past the end. Version 4: 26 where there are none; read and ruled on.
--- Below: 25 where there are any
-unfoldable pub layoutPart : Bool → List ℕ → ℕ → Codec Layout
-layoutPart true sheet width = named toLayout fromLayout
-    (judged (λ z. rulesOf sheet width (z .0)) (boxed 24 24 24 4 0 (λ p. 0) (λ P x. Unit {0}) (some 26 (parts utf8 D))))
-layoutPart false sheet width = named noItems (λ l. l .rest) (checked isNil 25 (sized 24 4 length (raw 24)))
+-- the version alone has two bytes
+pub parts-some : (x : Parts) → parts utf8 D .codec .legal x → 0 < length (parts utf8 D .codec .print x)
+unfolding parts plain._then_ plain.num
+parts-some x lg = omega arith
+
+-- u32 layout length and that many bytes, 24 where they run past the end; 26 where there are none
+abbrev pub layoutBox : Format (Parts × List ℕ) false
+layoutBox = apart 24 24 24 4 0 (asks 26 1 (parts utf8 D) parts-some)
+
+pub layout-blind : (sheet : List ℕ) (width : ℕ) (z : Parts × List ℕ) → rulesOf sheet width (layoutBox .codec .bare z .0) ≡ rulesOf sheet width (z .0)
+unfolding plain.boxed plain.asks
+layout-blind sheet width z = rules-blind sheet width (z .0)
+
+-- the same length and bytes as they are
+pub raw-fits : (n : ℕ) (x : List ℕ) → plain.raw 24 n .legal x → length x ≡ n
+unfolding plain.raw
+raw-fits n x lg = lg .0
+
+pub raw-same : (n : ℕ) (x : List ℕ) → length (plain.raw 24 n .bare x) ≡ length x
+unfolding plain.raw
+raw-same n x = refl
+
+abbrev pub bytes : Format (List ℕ) false
+bytes = sized 24 4 length (raw 24) raw-fits raw-same
+
+pub bytes-blind : (x : List ℕ) → isNil (bytes .codec .bare x) ≡ isNil x
+unfolding plain.sized plain.raw
+bytes-blind x = refl
+
+-- version 4: read and ruled on. Below: 25 where there are any bytes
+unfoldable pub layoutPart : Bool → List ℕ → ℕ → Format Layout false
+layoutPart true sheet width = named toLayout fromLayout (λ x. refl) (judged (λ z. rulesOf sheet width (z .0)) layoutBox (layout-blind sheet width))
+layoutPart false sheet width = named noItems (λ l. l .rest) (λ x. refl) (checked isNil 25 bytes bytes-blind)
 
 -- version 4: u32 symbology length and that many bytes, 27 where they run past the end, 28 where the contents do not span them; below: the rest
-unfoldable pub symbologyPart : Bool → ℕ → Codec Symbology
-symbologyPart true width = full 28 (boxed 27 27 27 4 0 (λ p. p) (symbology utf8 isDate width .each) (symbology utf8 isDate width))
+unfoldable pub symbologyPart : Bool → ℕ → Format Symbology false
+symbologyPart true width = spanned unspanned 27 4 0 (symbology utf8 isDate width)
 symbologyPart false width = remainder (symbology utf8 isDate width)
 
 abbrev pub toBlock : Header × (Layout × Symbology) → Block
 toBlock z = record { header = z .0; layout = z .1 .0; symbology = z .1 .1 }
 
+abbrev pub body : List ℕ → MetadataLengths → ℕ → Format (Layout × Symbology) false
+body sheet v width = layoutPart (v .«has_layout») sheet width then symbologyPart (v .«has_layout») width
+
+pub header-width : (v : MetadataLengths) (h : Header) → widthOf v (header v .codec .bare h) ≡ widthOf v h
+unfolding header plain.named plain._then_ plain.num plain.checked plain.raw
+header-width v h = refl
+
 -- header, layout, symbology
-unfoldable pub block : List ℕ → MetadataLengths → Codec Block
-block sheet v = named toBlock (λ b. (b .header, (b .layout, b .symbology)))
-    (header v on λ h. layoutPart (v .«has_layout») sheet (widthOf v h) then symbologyPart (v .«has_layout») (widthOf v h))
+unfoldable pub block : List ℕ → MetadataLengths → Format Block false
+block sheet v = named toBlock (λ b. (b .header, (b .layout, b .symbology))) (λ x. refl)
+    (on (header v) (λ h. body sheet v (widthOf v h)) (λ h. ap (body sheet v) (header-width v h)))
 
 -- what a block given whole with a version and a type sheet is read as: the block and the bytes after it, which are ignored
 unfoldable pub blockOf : ℕ → List ℕ → List ℕ → Res (Block × List ℕ)
@@ -126,4 +171,4 @@ blockOf version sheet b =
     need (isVersion version) 11 0 >>= λ _ i.
     need (leb 100 (length b)) 13 i >>= λ _ i.
     need (leb (length b) 4294967295) 13 i >>= λ _ i.
-    whole (block sheet (lengths version)) 0 b
+    whole (block sheet (lengths version) .codec) 0 b

@@ -38,13 +38,13 @@ faultOf (refuse k) = k
 
 -- P holds of the header, where it is accepted
 abbrev pub OfHeader : MetadataLengths → List ℕ → (Header → Type 0) → Type 0
-OfHeader v b P = (h : Header) (j : ℕ) → header v .parse 0 b 0 ≡ ok h j → P h
+OfHeader v b P = (h : Header) (j : ℕ) → header v .codec .parse 0 b 0 ≡ ok h j → P h
 
 -- an accepted header, and its symbol width
 pub record Headed (v : MetadataLengths) (b : List ℕ) (width : ℕ) : Type 0 where
   pub fixed : Fixed v b
   pub width-is : OfHeader v b (λ h. width ≡ widthOf v h)
-  pub passed : 0 ≡ faultOf (header v .parse 0 b 0)
+  pub passed : 0 ≡ faultOf (header v .codec .parse 0 b 0)
 
 -- u32 length and that many bytes: where they start and how many; k where they run past the end
 abbrev pub spanOf : Res ℕ → Span
@@ -71,7 +71,7 @@ leaveIf has part t = pick has (leave t (layoutOf part)) t
 -- the layout part that was read: it ends at e, and its rows make of a table what its bytes make of it
 pub record Layout-read (has : Bool) (sheet : List ℕ) (width : ℕ) (b : List ℕ) (v n e : ℕ) : Type 0 where
   pub tree : Layout
-  pub is : layoutPart has sheet width .parse 0 b 100 ≡ ok tree e
+  pub is : layoutPart has sheet width .codec .parse 0 b 100 ≡ ok tree e
   pub from : 104 ≤ e
   pub to : e ≤ length b
   pub leaves : (t : List ℕ) → leaveIf has (take (e - 104) (drop 104 b)) t ≡ leave t (ok tree e)
@@ -80,13 +80,13 @@ pub record Layout-read (has : Bool) (sheet : List ℕ) (width : ℕ) (b : List �
 
 pub data Lays (has : Bool) (sheet : List ℕ) (width : ℕ) (b : List ℕ) : Laid → Type 0 where
   lays : {v n e : ℕ} → Layout-read has sheet width b v n e → Lays has sheet width b (Laid'.Accepted v n e)
-  lays-no : {k : ℕ} → layoutPart has sheet width .parse 0 b 100 ≡ refuse k → Lays has sheet width b (Laid'.Refused k)
+  lays-no : {k : ℕ} → layoutPart has sheet width .codec .parse 0 b 100 ≡ refuse k → Lays has sheet width b (Laid'.Refused k)
 
 -- what reading the symbology part into the table t answers and leaves; `part` is what its bytes are read as
 pub record Lists (has ready : Bool) (width : ℕ) (b : List ℕ) (at : ℕ) (t t′ : List ℕ) (r : Listed) : Type 0 where
   pub part : Res Symbology
   pub end : ℕ → ℕ
-  pub is : symbologyPart has width .parse 0 b at ≡ (part >>= λ x j. ok x (end j))
+  pub is : symbologyPart has width .codec .parse 0 b at ≡ (part >>= λ x j. ok x (end j))
   pub fives : Fives ready part t t′ r
 
 -- the answer and the tables after reading z

@@ -13,7 +13,7 @@ ghost use Rattle.block.specs.Steps.{Fixed, faultOf, OfHeader};
 // The refusal of a header, or 0.
 pub(crate) fn check_header(block: &[u8], v: MetadataLengths) -> u32
     requires { ⌜ Fixed v (now block) ⌝ }
-    ensures { λ r. ⌜ r ≡ faultOf (header v .parse 0 (now (block .entry)) 0) ⌝ }
+    ensures { λ r. ⌜ r ≡ faultOf (header v .codec .parse 0 (now (block .entry)) 0) ⌝ }
 {
     let end = v.dataset_cstr_len;
     let dataset = &block[0..end];

@@ -104,7 +104,7 @@ fn read_body(
     layout: &mut [u32],
 ) -> BlockAnswer
     requires { ⌜ Headed v (now block) width ⌝ }
-    ensures { λ r. ⌜ Does v (whole (Block.block (now (sheet .entry)) v) 0 (now (block .entry))) (now (symbology .entry)) (now (layout .entry)) r (now (symbology .exit)) (now (layout .exit)) ⌝ }
+    ensures { λ r. ⌜ Does v (whole (Block.block (now (sheet .entry)) v .codec) 0 (now (block .entry))) (now (symbology .entry)) (now (layout .entry)) r (now (symbology .exit)) (now (layout .exit)) ⌝ }
 {
     let has_layout = v.has_layout;
     match parts::layout_part(block, has_layout, width, sheet) {

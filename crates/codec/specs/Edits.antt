@@ -1,5 +1,5 @@
 -- How the bytes of a value may be changed so that it is read as before: which bytes are kept, which are skipped, and where
--- bytes may be put in. A format says it of its values by `Marks`.
+-- bytes may be put in. A format says it of its values by `Edits`.
 -- Assumes nothing.
 use Prim.Native.Nat.{ℕ, zero, suc, _+_, _-_, _^_, _≤_, _<_}
 use mathlib.Core.Path.{_≡_}
@@ -47,15 +47,21 @@ pub record Edited {A : Type 0} (c : Codec A) (marks : A → Marked) (x : A) (m :
   pub same : c .bare value ≡ c .bare x
   pub legal : c .legal value
 
--- a format says which of its bytes are kept and which are free, and every edit of a legal value is a legal value
-pub record Marks {A : Type 0} (c : Codec A) : Type 1 where
+module _ {A : Type 0} (c : Codec A) (marks : A → Marked) where
+  -- every edit of a legal value is a legal value
+  abbrev pub Keeps : Type 0
+  Keeps = (x : A) (m : Marked) → c .legal x → Edit (marks x) m → Edited c marks x m
+
+  -- an edit moves each place by what it puts in before it, where `moves f x y` says that y is x with its places moved by f. With k = 1
+  -- the place at the end of the value counts too
+  abbrev pub Shifts : ℕ → ((ℕ → ℕ) → A → A → Type 0) → Type 0
+  Shifts k moves = (f : ℕ → ℕ) (p q : ℕ) (x y : A) (e : Edit (marks x) (marks y)) → c .legal x → c .bare y ≡ c .bare x
+      → ((n : ℕ) → n < length (c .print x) + k → f (p + n) ≡ q + (n + put e n)) → moves f (c .locate p x) (c .locate q y)
+
+-- a format says which of its bytes are kept and which are free, and how an edit moves its places
+pub record Edits {A : Type 0} (c : Codec A) (k : ℕ) : Type 1 where
   pub marks : A → Marked
   pub marked : (x : A) → bytesOf (marks x) ≡ c .print x
-  pub edited : (x : A) (m : Marked) → c .legal x → Edit (marks x) m → Edited c marks x m
-
--- a format says what it is that y is x with its places moved by f: an edit moves each place by what it puts in before it.
--- With k = 1 the place at the end of the value counts too
-pub record Moves {A : Type 0} (c : Codec A) (M : Marks c) (k : ℕ) : Type 1 where
+  pub edited : Keeps c marks
   pub moves : (ℕ → ℕ) → A → A → Type 0
-  pub moved : (f : ℕ → ℕ) (p q : ℕ) (x y : A) (e : Edit (M .marks x) (M .marks y)) → c .legal x → c .bare y ≡ c .bare x
-      → ((n : ℕ) → n < length (c .print x) + k → f (p + n) ≡ q + (n + put e n)) → moves f (c .locate p x) (c .locate q y)
+  pub moved : Shifts c marks k moves

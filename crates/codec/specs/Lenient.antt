@@ -7,7 +7,7 @@ use mathlib.Core.Bool.{Bool, true, false, not, _||_}
 use mathlib.Core.List.{List, _∷_}
 use lib.ListN.{length, drop}
 use lib.Dec.{leb, ltb, eqb}
-use Rattle.codec.specs.Codec.{Res, ok, _>>=_, need, Codec, raw, little, num, byte, _then_, _on_, named, checked, judged, some, asks, placed, sized, times, timesParse, among, distinct, distinctParse, limited, counted, whole, boxed, isNil, full}
+use Rattle.codec.specs.Codec.{Res, ok, _>>=_, need, Codec, raw, little, num, byte, _then_, _on_, named, checked, judged, asks, placed, sized, times, timesParse, among, distinct, distinctParse, limited, counted, whole, boxed, isNil, full}
 use Rattle.codec.specs.Laws.{bind-ok, need-ok}
 use Rattle.codec.specs.Remainder.{remainder}
 
@@ -79,14 +79,6 @@ module _ {A : Type 0} {c d : Codec A} (h : Lenient c d) where
         let (y, m, e1, e2) = bind-ok (c .parse base s i) _ x j e in
         let (t, e3) = need-ok (eqb 0 (rules y)) (rules y) m _ x j e2 in
         rw (h .reads base s i y m e1) e3;
-  }
-
-  pub lenient-some : (k : ℕ) → Lenient (some k c) d
-  unfolding some
-  lenient-some k = record {
-    reads = λ base s i x j e.
-        let (t, e1) = need-ok (ltb i (length s)) k i _ x j e in
-        h .reads base s i x j e1;
   }
 
   -- ---- the same bytes

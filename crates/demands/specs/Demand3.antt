@@ -2,36 +2,31 @@
 -- layout section, of the layout or of the block, is read to the same fields and rows, each name the same bytes, its start
 -- moved by what was put in before it.
 -- Assumes nothing.
-use Prim.Native.Nat.{ℕ, zero, suc, _+_, _≤_, _<_}
+use Prim.Native.Nat.{ℕ, suc, _+_, _≤_}
 use native.Mathlib.Omega.{arith}
 use mathlib.Core.Path.{_≡_, refl, sym, ap, ap₂, _∙_, subst, pathJ}
-use mathlib.Core.Bool.{Bool, true, false}
 use mathlib.Core.List.{List, [], _∷_, _++_, map}
 use lib.ListN.{length, length-append}
 use lib.Dec.{leb}
 use borrow.Author.Tests.{le-leb}
-use Rattle.codec.specs.Codec.{Res, ok, refuse, _>>=_, need, Bytes, Codec, raw, skip, num, _then_, _on_, named, checked, judged, some, whole, boxed}
-use Rattle.codec.specs.Laws.{bind-ok, need-ok, whole-reads, whole-back, Whole}
+use Rattle.codec.specs.Codec.{ok, Bytes, raw, skip, num, named, checked, judged, asks, whole, boxed, _then_, _on_}
+use Rattle.codec.specs.Laws.{need-ok, whole-reads, whole-back}
 use Rattle.codec.specs.Edits.{Marked, bytesOf, Edit, put}
 use Rattle.text.specs.Utf8.{utf8}
 use Rattle.dates.specs.Date.{isDate}
 use Rattle.layout.specs.Given.{D}
-use Rattle.layout.specs.Layout.{parts, fromLayout, toLayout, bareLayout}
-use Rattle.layout.specs.Rows.{rows}
+use Rattle.layout.specs.Layout.{parts, toLayout, bareLayout}
 use Rattle.layout.specs.TextLaws.{rowText, texts}
-use Rattle.symbology.specs.SymbologyRows.{symbologyRows}
 use Rattle.block.specs.Block.{Header, Block, v4, lengths, header, layoutPart, block, blockOf}
-use Rattle.block.specs.BlockLaws.{law-block}
 use Rattle.block.specs.Fields.{fieldsWith, fieldsOf}
-use Rattle.block.specs.Read.{fives, nines, roomy, blockAnswer}
+use Rattle.block.specs.Read.{fives, nines, blockAnswer}
 use Rattle.demands.specs.LayoutRows.{moveRow}
 use Rattle.demands.specs.SymbologyRows.{symbologyTexts, symbology-located}
-use Rattle.demands.specs.BlockEdits.{marks-block, header-length}
-use Rattle.demands.specs.Edited.{B4, width, section, layoutIn, header-legal, header-bare, layout-bare, layout-at, Parted, parted, nines-move, fives-move, section-moved, section-stays, nines-texts, fives-texts}
+use Rattle.demands.specs.Edited.{header-length, B4, width, section, layoutIn, header-bare, layout-bare, parted, nines-move, fives-move, section-moved, section-stays, nines-texts, fives-texts}
 
 -- the bytes of an accepted block by what may become of them; the bytes after them are ignored
 abbrev pub marking : List ℕ → Block → Marked
-marking sheet z = marks-block sheet .marks z
+marking sheet z = block sheet v4 .edits .marks z
 
 -- how the edited block b′ is read, where b is read as z: `before n` bytes were put in before place n of b
 pub record SameRead (sheet b : List ℕ) (z : Block) (b′ : List ℕ) (before : ℕ → ℕ) : Type 0 where
@@ -58,7 +53,7 @@ module _ (sheet : List ℕ) where
       let (_, e1) = need-ok (leb 100 (length b)) 13 0 _ z k e in
       need-ok (leb (length b) 4294967295) 13 0 _ z k e1 .1
 
-  fields-bare : (h : Header) (n i j : ℕ) → fieldsWith v4 (header v4 .bare h) n i j ≡ fieldsWith v4 h n i j
+  fields-bare : (h : Header) (n i j : ℕ) → fieldsWith v4 (header v4 .codec .bare h) n i j ≡ fieldsWith v4 h n i j
   unfolding fieldsWith header named _then_ checked raw num skip
   fields-bare h n i j = refl
 
@@ -71,7 +66,7 @@ module _ (sheet : List ℕ) where
   version-bare x y e = ap (λ p. p .0) (layout-bare sheet x y e)
 
   version-at : (x : Block) → B4 sheet .locate 0 x .layout .version ≡ x .layout .version
-  unfolding block named _on_ _then_ layoutPart judged boxed some parts num
+  unfolding block named _on_ _then_ layoutPart judged boxed asks parts num
   version-at x = refl
 
   length-map : {A B : Type 0} (f : A → B) (xs : List A) → length (map f xs) ≡ length xs
@@ -95,7 +90,7 @@ module _ (sheet : List ℕ) where
       ap₂ (λ a b. fieldsWith v4 (z .header) (z .layout .version) a b) f n ∙ ap (λ a. fieldsWith v4 (z .header) a i j) v ∙ h
 
   rest-bytes : (x : Block) → B4 sheet .legal x → Bytes (x .layout .rest)
-  unfolding block named _on_ _then_ layoutPart judged boxed some
+  unfolding block named _on_ _then_ layoutPart judged boxed asks
   rest-bytes x lg = lg .1 .0 .0 .1
 
   bare-texts : (x y : Block) → B4 sheet .bare y ≡ B4 sheet .bare x → texts (bareLayout utf8 D (y .layout)) ≡ texts (bareLayout utf8 D (x .layout))
@@ -120,12 +115,12 @@ module _ (sheet : List ℕ) where
     reread y r′ ly same e fits =
         let c = B4 sheet in
         let z = c .locate 0 y in
-        let p = marks-block sheet .marked y in
+        let p = block sheet v4 .edits .marked y in
         let b′ = bytesOf (marking sheet y) ++ r′ in
         let q : b′ ≡ c .print y ++ r′ = ap (λ v. v ++ r′) p in
         let d = parted sheet x y legal ly e in
         let low : 100 ≤ length b′ = omega (arith, ap length q, long y r′ ly) in
-        let ok′ : blockOf 4 sheet b′ ≡ ok (z, r′) (length b′) = block-of b′ low fits ∙ subst (λ v. whole c 0 v ≡ ok (z, r′) (length v)) (sym q) (whole-reads c (law-block sheet v4) 0 y r′ ly) in
+        let ok′ : blockOf 4 sheet b′ ≡ ok (z, r′) (length b′) = block-of b′ low fits ∙ subst (λ v. whole c 0 v ≡ ok (z, r′) (length v)) (sym q) (whole-reads c (block sheet v4 .law) 0 y r′ ly) in
         let f5 : fives z ≡ map (moveRow (λ n. n + put e n)) (fives x) = subst (λ v. fives z ≡ map (moveRow (λ n. n + put e n)) (fives v)) at (fives-move sheet x y (put e) legal ly same d) in
         let f9 : nines z ≡ map (moveRow (λ n. n + put e (104 + n))) (nines x) = subst (λ v. nines z ≡ map (moveRow (λ n. n + put e (104 + n))) (nines v)) at (nines-move sheet x y (put e) legal same d) in
         let n5 = ap length f5 ∙ length-map _ (fives x) in
@@ -156,11 +151,11 @@ module _ (sheet : List ℕ) where
   pub demand3 : (b : List ℕ) (z : Block) (r : List ℕ) (k : ℕ) → Bytes b → blockOf 4 sheet b ≡ ok (z, r) k → Demand3 b z r
   demand3 b z r k bs read =
       let c = B4 sheet in
-      let w = whole-back c (law-block sheet v4) 0 b (z, r) k bs (whole-of b (z, r) k read) in
+      let w = whole-back c (block sheet v4 .law) 0 b (z, r) k bs (whole-of b (z, r) k read) in
       record {
-        whole-block = w .bytes ∙ ap (λ v. v ++ r) (sym (marks-block sheet .marked z));
+        whole-block = w .bytes ∙ ap (λ v. v ++ r) (sym (block sheet v4 .edits .marked z));
         edits = λ m r′ e fits.
-            let y = marks-block sheet .edited z m (w .legal) e in
+            let y = block sheet v4 .edits .edited z m (w .legal) e in
             pathJ (λ m _. (e : Edit (marking sheet z) m) → length (bytesOf m ++ r′) ≤ 4294967295 → SameRead sheet b z (bytesOf m ++ r′) (put e))
             (λ e fits. reread b z r k read (w .bytes) (w .legal) (w .located) (y .value) r′ (y .legal) (y .same) e fits) (y .is) e fits;
       }

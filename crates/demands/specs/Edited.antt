@@ -1,36 +1,30 @@
 -- An edited version 4 block is read to the same fields and rows, each start moved by what was put in before it.
 -- Assumes nothing.
-use Prim.Native.Nat.{ℕ, zero, suc, _+_, _-_, _≤_, _<_, zero-le}
+use Prim.Native.Nat.{ℕ, _+_, _-_, _≤_, zero-le}
 use native.Mathlib.Nat.{add-zero, zero-add}
 use native.Mathlib.Omega.{arith}
-use mathlib.Core.Path.{_≡_, refl, sym, ap, ap₂, _∙_, subst, pathJ}
-use mathlib.Core.Bool.{Bool, true, false}
-use mathlib.Core.List.{List, [], _∷_, _++_, map, append-nil, append-assoc}
+use mathlib.Core.Path.{_≡_, refl, sym, ap, ap₂, _∙_, subst}
+use mathlib.Core.Bool.{true}
+use mathlib.Core.List.{List, [], _++_, map, append-nil, append-assoc}
 use lib.ListN.{length, take, drop, length-append}
 use lib.Seq.{take-at, drop-at, drop-drop, take-append-seam}
-use Rattle.codec.specs.Codec.{Res, ok, Bytes, Codec, value, raw, skip, little, num, _then_, _on_, named, checked, judged, some, whole, boxed, full}
-use Rattle.codec.specs.Laws.{Law, Here, Part, left-part, right-part, part-take, whole-reads, whole-back, length-little, value-little}
-use Rattle.codec.specs.Edits.{Marked, kept, free, _and_, box, bytesOf, Edit, put, Edited, Marks}
-use Rattle.codec.specs.EditLaws.{put-all, marks-kept, marks-skip, marks-then, marks-on, marks-named, marks-checked, marks-judged, marks-some, marks-boxed}
-use Rattle.codec.specs.MoveLaws.{Inside, inside, put-kept}
+use Rattle.codec.specs.Codec.{Bytes, Codec, value, raw, skip, little, num, named, checked, judged, asks, boxed, full, _then_, _on_}
+use Rattle.codec.specs.Laws.{Law, Here, left-part, part-take, length-little, value-little}
+use Rattle.codec.specs.Edits.{Marked, kept, _and_, bytesOf, Edit, put}
+use Rattle.codec.specs.EditLaws.{Inside, inside, put-all, put-kept, edits-kept, edits-then, edits-on, edits-named, edits-judged, edits-asks, edits-apart}
 use Rattle.text.specs.Utf8.{utf8}
 use Rattle.dates.specs.Date.{isDate}
 use Rattle.layout.specs.Given.{D}
-use Rattle.layout.specs.Layout.{Layout, Parts, parts, toLayout, fromLayout, printLayout, locateLayout, bareLayout, LegalLayout}
-use Rattle.layout.specs.LayoutLaws.{law-parts, parse-print, layout-octets}
+use Rattle.layout.specs.Layout.{parts, toLayout, fromLayout, printLayout, locateLayout, bareLayout, LegalLayout}
+use Rattle.layout.specs.LayoutLaws.{parse-print, layout-octets}
 use Rattle.layout.specs.TextLaws.{rowText, texts, texts-bare, row-texts}
 use Rattle.layout.specs.Rows.{rows}
 use Rattle.symbology.specs.Symbology.{Symbology, symbology}
 use Rattle.symbology.specs.SymbologyRows.{symbologyRows}
-use Rattle.symbology.specs.SymbologyLaws.{law-symbology}
 use Rattle.block.specs.Block.{Header, Block, v4, header, widthOf, layoutPart, symbologyPart, block}
-use Rattle.block.specs.BlockLaws.{law-header, law-layoutPart, law-symbologyPart, law-block}
-use Rattle.block.specs.Fields.{fieldsWith, fieldsOf}
 use Rattle.block.specs.Read.{fives, nines}
-use Rattle.demands.specs.LayoutEdits.{marks-parts, moves-parts}
 use Rattle.demands.specs.LayoutRows.{moveRow, rows-move}
-use Rattle.demands.specs.SymbologyRows.{Shift, symbology-shift, Stands, symbologyTexts, symbology-texts, symbology-located}
-use Rattle.demands.specs.BlockEdits.{marks-header, marks-layout, marks-block, header-length}
+use Rattle.demands.specs.SymbologyRows.{Shift, symbology-shift, Stands, symbologyTexts, symbology-texts}
 
 -- the same bytes at the same place are the same value
 pub same-bytes : {A : Type 0} (c : Codec A) → Law c → (p : ℕ) (x y : A) → c .legal x → c .legal y → c .print x ≡ c .print y → c .locate p x ≡ c .locate p y
@@ -49,28 +43,34 @@ before-is a a′ b b′ m u e1 e2 e3 h h′ n =
     let z : 100 + n - length (bytesOf a) ≡ n = omega arith in
     omega (arith, put-all e1 (100 + n) (omega arith), ap (put e2) z, put-kept u m e3 (100 + n - length (bytesOf a) - length (bytesOf b)))
 
+-- the header has 100 bytes
+pub header-length : (h : Header) → header v4 .codec .legal h → length (header v4 .codec .print h) ≡ 100
+unfolding header named _then_ checked raw num skip
+header-length h lg =
+    simp length-append (omega (arith, lg .0 .0 .0, lg .1 .1 .1 .1 .1 .0 .0, lg .1 .1 .1 .1 .1 .1 .1 .1 .1 .1 .0))
+
 module _ (sheet : List ℕ) where
   abbrev pub B4 : Codec Block
-  B4 = block sheet v4
+  B4 = block sheet v4 .codec
 
   -- the parts of a legal block
   abbrev pub width : Block → ℕ
   width x = widthOf v4 (x .header)
 
-  pub header-legal : (x : Block) → B4 .legal x → header v4 .legal (x .header)
+  pub header-legal : (x : Block) → B4 .legal x → header v4 .codec .legal (x .header)
   unfolding block named _on_ _then_
   header-legal x lg = lg .0
 
-  pub layout-legal : (x : Block) → B4 .legal x → parts utf8 D .legal (fromLayout (x .layout) .0)
-  unfolding block named _on_ _then_ layoutPart judged boxed some
+  pub layout-legal : (x : Block) → B4 .legal x → parts utf8 D .codec .legal (fromLayout (x .layout) .0)
+  unfolding block named _on_ _then_ layoutPart judged boxed asks
   layout-legal x lg = lg .1 .0 .0 .0
 
-  pub symbology-legal : (x : Block) → B4 .legal x → symbology utf8 isDate (width x) .legal (x .symbology)
+  pub symbology-legal : (x : Block) → B4 .legal x → symbology utf8 isDate (width x) .codec .legal (x .symbology)
   unfolding block named _on_ _then_ symbologyPart full boxed
   symbology-legal x lg = lg .1 .1 .0
 
   -- what the bare block keeps of them
-  pub header-bare : (x y : Block) → B4 .bare y ≡ B4 .bare x → header v4 .bare (y .header) ≡ header v4 .bare (x .header)
+  pub header-bare : (x y : Block) → B4 .bare y ≡ B4 .bare x → header v4 .codec .bare (y .header) ≡ header v4 .codec .bare (x .header)
   unfolding block named _on_ _then_
   header-bare x y e = ap (λ b. b .header) e
 
@@ -78,29 +78,29 @@ module _ (sheet : List ℕ) where
   unfolding header named _then_ num checked raw
   width-bare x y e = ap (λ h. h .width) (header-bare x y e)
 
-  pub layout-bare : (x y : Block) → B4 .bare y ≡ B4 .bare x → parts utf8 D .bare (fromLayout (y .layout) .0) ≡ parts utf8 D .bare (fromLayout (x .layout) .0)
-  unfolding block named _on_ _then_ layoutPart judged boxed some
+  pub layout-bare : (x y : Block) → B4 .bare y ≡ B4 .bare x → parts utf8 D .codec .bare (fromLayout (y .layout) .0) ≡ parts utf8 D .codec .bare (fromLayout (x .layout) .0)
+  unfolding block named _on_ _then_ layoutPart judged boxed asks
   layout-bare x y e = ap (λ b. fromLayout (b .layout) .0) e
 
   -- the layout of a located block counts from its own first byte, and the symbology from the block's
-  pub layout-at : (x : Block) → B4 .locate 0 x .layout ≡ toLayout (parts utf8 D .locate 0 (fromLayout (x .layout) .0), x .layout .rest)
-  unfolding block named _on_ _then_ layoutPart judged boxed some
+  pub layout-at : (x : Block) → B4 .locate 0 x .layout ≡ toLayout (parts utf8 D .codec .locate 0 (fromLayout (x .layout) .0), x .layout .rest)
+  unfolding block named _on_ _then_ layoutPart judged boxed asks
   layout-at x = refl
 
   -- where the symbology's section starts
   abbrev pub section : Block → ℕ
-  section x = length (header v4 .print (x .header)) + length (layoutPart true sheet (width x) .print (x .layout))
+  section x = length (header v4 .codec .print (x .header)) + length (layoutPart true sheet (width x) .codec .print (x .layout))
 
-  symbology-at : (x : Block) → B4 .locate 0 x .symbology ≡ symbologyPart true (width x) .locate (section x) (x .symbology)
+  symbology-at : (x : Block) → B4 .locate 0 x .symbology ≡ symbologyPart true (width x) .codec .locate (section x) (x .symbology)
   unfolding block named _on_ _then_
-  symbology-at x = ap (λ n. symbologyPart true (width x) .locate (n + length (layoutPart true sheet (width x) .print (x .layout))) (x .symbology)) (zero-add (length (header v4 .print (x .header))))
+  symbology-at x = ap (λ n. symbologyPart true (width x) .codec .locate (n + length (layoutPart true sheet (width x) .codec .print (x .layout))) (x .symbology)) (zero-add (length (header v4 .codec .print (x .header))))
 
   -- its contents come after the four bytes of its length
-  contents-at : (w p : ℕ) (t : Symbology) → symbologyPart true w .locate p t ≡ symbology utf8 isDate w .locate (p + 4) t
+  contents-at : (w p : ℕ) (t : Symbology) → symbologyPart true w .codec .locate p t ≡ symbology utf8 isDate w .codec .locate (p + 4) t
   unfolding symbologyPart full boxed
   contents-at w p t = refl
 
-  pub section-legal : (x : Block) → B4 .legal x → symbologyPart true (width x) .legal (x .symbology)
+  pub section-legal : (x : Block) → B4 .legal x → symbologyPart true (width x) .codec .legal (x .symbology)
   unfolding block named _on_ _then_
   section-legal x lg = lg .1 .1
 
@@ -110,27 +110,27 @@ module _ (sheet : List ℕ) where
   -- ---- the parts of an edit
 
   pub record Parted (x y : Block) (before : ℕ → ℕ) : Type 0 where
-    pub layout : Inside (marks-parts utf8 D .marks (fromLayout (x .layout) .0)) (marks-parts utf8 D .marks (fromLayout (y .layout) .0)) 4 (x .layout .rest) (λ n. before (100 + n))
+    pub layout : Inside (parts utf8 D .edits .marks (fromLayout (x .layout) .0)) (parts utf8 D .edits .marks (fromLayout (y .layout) .0)) 4 (x .layout .rest) (λ n. before (100 + n))
     pub after : (n : ℕ) → before (section x + n) + section x ≡ section y
-    pub symbology : symbologyPart true (width y) .print (y .symbology) ≡ symbologyPart true (width x) .print (x .symbology)
+    pub symbology : symbologyPart true (width y) .codec .print (y .symbology) ≡ symbologyPart true (width x) .codec .print (x .symbology)
 
   total : (x y : Block) → B4 .legal x → B4 .legal y → (inner before : ℕ → ℕ) → ((n : ℕ) → before (100 + n) ≡ inner n)
-      → {a b : ℕ} → a ≡ length (layoutPart true sheet (width x) .print (x .layout)) → b ≡ length (layoutPart true sheet (width y) .print (y .layout))
+      → {a b : ℕ} → a ≡ length (layoutPart true sheet (width x) .codec .print (x .layout)) → b ≡ length (layoutPart true sheet (width y) .codec .print (y .layout))
       → ((n : ℕ) → a ≤ n → a + inner n ≡ b) → (n : ℕ) → before (section x + n) + section x ≡ section y
   total x y lx ly inner before is l l′ all n =
-      let L = length (layoutPart true sheet (width x) .print (x .layout)) in
+      let L = length (layoutPart true sheet (width x) .codec .print (x .layout)) in
       let p : section x + n ≡ 100 + (L + n) = omega (arith, header-length (x .header) (header-legal x lx)) in
       omega (arith, ap before p ∙ is (L + n), all (L + n) (omega arith), l, l′, header-length (x .header) (header-legal x lx), header-length (y .header) (header-legal y ly))
 
-  pub parted : (x y : Block) → B4 .legal x → B4 .legal y → (e : Edit (marks-block sheet .marks x) (marks-block sheet .marks y)) → Parted x y (put e)
-  unfolding marks-block marks-named marks-on marks-then marks-layout marks-judged marks-boxed marks-some marks-kept
+  pub parted : (x y : Block) → B4 .legal x → B4 .legal y → (e : Edit (block sheet v4 .edits .marks x) (block sheet v4 .edits .marks y)) → Parted x y (put e)
+  unfolding block layoutPart symbologyPart edits-named edits-on edits-then edits-judged edits-apart edits-asks edits-kept
   parted x y lx ly (Edit.pair _ _ _ _ e1 (Edit.pair _ _ _ _ e2 e3)) =
-      let h : length (bytesOf (marks-header .marks (x .header))) ≡ 100 = ap length (marks-header .marked (x .header)) ∙ header-length (x .header) (header-legal x lx) in
-      let h′ : length (bytesOf (marks-header .marks (y .header))) ≡ 100 = ap length (marks-header .marked (y .header)) ∙ header-length (y .header) (header-legal y ly) in
-      let l = ap length (marks-layout sheet (width x) .marked (x .layout)) in
-      let l′ = ap length (marks-layout sheet (width y) .marked (y .layout)) in
-      let i = inside 4 0 (marks-parts utf8 D .marks (fromLayout (x .layout) .0)) (x .layout .rest) _ e2 (marks-parts utf8 D .marks (fromLayout (y .layout) .0)) (y .layout .rest) refl in
-      let is = before-is (marks-header .marks (x .header)) (marks-header .marks (y .header)) (marks-layout sheet (width x) .marks (x .layout)) (marks-layout sheet (width y) .marks (y .layout)) _ _ e1 e2 e3 h h′ in
+      let h : length (bytesOf (header v4 .edits .marks (x .header))) ≡ 100 = ap length (header v4 .edits .marked (x .header)) ∙ header-length (x .header) (header-legal x lx) in
+      let h′ : length (bytesOf (header v4 .edits .marks (y .header))) ≡ 100 = ap length (header v4 .edits .marked (y .header)) ∙ header-length (y .header) (header-legal y ly) in
+      let l = ap length (layoutPart true sheet (width x) .edits .marked (x .layout)) in
+      let l′ = ap length (layoutPart true sheet (width y) .edits .marked (y .layout)) in
+      let i = inside 4 0 (parts utf8 D .edits .marks (fromLayout (x .layout) .0)) (x .layout .rest) _ e2 (parts utf8 D .edits .marks (fromLayout (y .layout) .0)) (y .layout .rest) refl in
+      let is = before-is (header v4 .edits .marks (x .header)) (header v4 .edits .marks (y .header)) (layoutPart true sheet (width x) .edits .marks (x .layout)) (layoutPart true sheet (width y) .edits .marks (y .layout)) _ _ e1 e2 e3 h h′ in
       record {
         layout = record { edit = i .edit; like = λ n less. is (4 + n) ∙ i .like n less };
         after = λ n. total x y lx ly (put e2) (put (Edit.pair _ _ _ _ e1 (Edit.pair _ _ _ _ e2 e3))) is l l′ (put-all e2) n;
@@ -146,26 +146,26 @@ module _ (sheet : List ℕ) where
       let u = fromLayout (x .layout) .0 in
       let v = fromLayout (y .layout) .0 in
       let f : ℕ → ℕ = λ n. n + before (104 + n) in
-      let l = ap length (marks-parts utf8 D .marked u) in
-      let b = length-append (bytesOf (marks-parts utf8 D .marks u)) (x .layout .rest) in
-      let m = moves-parts utf8 D .moved f 0 0 u v (i .edit) (layout-legal x lx) (layout-bare x y same) (λ n less.
+      let l = ap length (parts utf8 D .edits .marked u) in
+      let b = length-append (bytesOf (parts utf8 D .edits .marks u)) (x .layout .rest) in
+      let m = parts utf8 D .edits .moved f 0 0 u v (i .edit) (layout-legal x lx) (layout-bare x y same) (λ n less.
       let z : 104 + (0 + n) ≡ 100 + (4 + n) = omega arith in
       ap (λ k. k + before (104 + (0 + n))) (zero-add n) ∙ ap (λ k. n + k) (ap before z ∙ i .like n (omega arith)) ∙ sym (zero-add _)) in
-      ap rows (layout-at y) ∙ rows-move utf8 D f (parts utf8 D .locate 0 u) (parts utf8 D .locate 0 v) (x .layout .rest) (y .layout .rest) m ∙ ap (λ t. map (moveRow f) (rows t)) (sym (layout-at x))
+      ap rows (layout-at y) ∙ rows-move utf8 D f (parts utf8 D .codec .locate 0 u) (parts utf8 D .codec .locate 0 v) (x .layout .rest) (y .layout .rest) m ∙ ap (λ t. map (moveRow f) (rows t)) (sym (layout-at x))
 
   -- the symbology of the edited block is the same, with other places
   pub section-moved : (x y : Block) (before : ℕ → ℕ) → B4 .legal x → B4 .legal y → B4 .bare y ≡ B4 .bare x → Parted x y before
-      → B4 .locate 0 y .symbology ≡ symbology utf8 isDate (width x) .locate (section y + 4) (x .symbology)
+      → B4 .locate 0 y .symbology ≡ symbology utf8 isDate (width x) .codec .locate (section y + 4) (x .symbology)
   section-moved x y before lx ly same e =
       let w = width-bare x y same in
-      let c : ℕ → Codec Symbology = λ n. symbologyPart true n in
+      let c : ℕ → Codec Symbology = λ n. symbologyPart true n .codec in
       let ly′ : c (width x) .legal (y .symbology) = subst (λ n. c n .legal (y .symbology)) w (section-legal y ly) in
       let pr : c (width x) .print (y .symbology) ≡ c (width x) .print (x .symbology) = subst (λ n. c n .print (y .symbology) ≡ c (width x) .print (x .symbology)) w (e .symbology) in
       symbology-at y ∙ ap (λ n. c n .locate (section y) (y .symbology)) w
-      ∙ same-bytes (c (width x)) (law-symbologyPart true (width x)) (section y) (y .symbology) (x .symbology) ly′ (section-legal x lx) pr
+      ∙ same-bytes (c (width x)) (symbologyPart true (width x) .law) (section y) (y .symbology) (x .symbology) ly′ (section-legal x lx) pr
       ∙ contents-at (width x) (section y) (x .symbology)
 
-  pub section-stays : (x : Block) → B4 .locate 0 x .symbology ≡ symbology utf8 isDate (width x) .locate (section x + 4) (x .symbology)
+  pub section-stays : (x : Block) → B4 .locate 0 x .symbology ≡ symbology utf8 isDate (width x) .codec .locate (section x + 4) (x .symbology)
   section-stays x = symbology-at x ∙ contents-at (width x) (section x) (x .symbology)
 
   pub fives-move : (x y : Block) (before : ℕ → ℕ) → B4 .legal x → B4 .legal y → B4 .bare y ≡ B4 .bare x → Parted x y before
@@ -186,11 +186,11 @@ module _ (sheet : List ℕ) where
   layoutIn b = take (value (take 4 (drop 100 b))) (drop 104 b)
 
   pub layout-bytes : (x : Block) (r : List ℕ) → B4 .legal x → layoutIn (B4 .print x ++ r) ≡ printLayout utf8 D (x .layout)
-  unfolding block named _on_ _then_ layoutPart judged boxed some printLayout
+  unfolding block named _on_ _then_ layoutPart judged boxed asks printLayout
   layout-bytes x r lg =
-      let H = header v4 .print (x .header) in
-      let P = parts utf8 D .print (fromLayout (x .layout) .0) ++ x .layout .rest in
-      let S = symbologyPart true (width x) .print (x .symbology) in
+      let H = header v4 .codec .print (x .header) in
+      let P = parts utf8 D .codec .print (fromLayout (x .layout) .0) ++ x .layout .rest in
+      let S = symbologyPart true (width x) .codec .print (x .symbology) in
       let n = 0 + length P in
       let e : B4 .print x ++ r ≡ H ++ (little 4 n ++ (P ++ (S ++ r))) = simp append-assoc in
       let h = header-length (x .header) (lg .0) in
@@ -209,12 +209,12 @@ module _ (sheet : List ℕ) where
       ∙ ap (λ l. map (rowText (printLayout utf8 D t)) (rows l)) (layout-at x)
       ∙ row-texts utf8 D (printLayout utf8 D t) (locateLayout utf8 D t) (length (printLayout utf8 D t)) (layout-octets utf8 D t lt) (parse-print utf8 D t lt)
       ∙ texts-bare utf8 D (locateLayout utf8 D t)
-      ∙ ap (λ v. texts (toLayout (v, []))) (law-parts utf8 D .still 0 (fromLayout t .0))
+      ∙ ap (λ v. texts (toLayout (v, []))) (parts utf8 D .law .still 0 (fromLayout t .0))
 
-  fives-each : (x : Block) (r : List ℕ) → symbology utf8 isDate (width x) .each (Stands utf8 isDate (width x) (B4 .print x ++ r)) (B4 .locate 0 x .symbology)
+  fives-each : (x : Block) (r : List ℕ) → symbology utf8 isDate (width x) .codec .each (Stands utf8 isDate (width x) (B4 .print x ++ r)) (B4 .locate 0 x .symbology)
   unfolding block named _on_ _then_ symbologyPart full boxed header num
   fives-each x r =
-      law-block sheet v4 .spotted (Stands utf8 isDate (width x) (B4 .print x ++ r)) 0 x (λ n u q. rw zero-add (part-take (left-part r q))) .1 .1
+      block sheet v4 .law .spotted (Stands utf8 isDate (width x) (B4 .print x ++ r)) 0 x (λ n u q. rw zero-add (part-take (left-part r q))) .1 .1
 
   pub fives-texts : (x : Block) (r : List ℕ) → map (rowText (B4 .print x ++ r)) (fives (B4 .locate 0 x)) ≡ symbologyTexts (B4 .locate 0 x .symbology)
   fives-texts x r = symbology-texts utf8 isDate (width x) (B4 .print x ++ r) (B4 .locate 0 x .symbology) (fives-each x r)

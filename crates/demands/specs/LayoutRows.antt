@@ -1,19 +1,17 @@
 -- The rows of an edited layout: the same rows, each start moved by what was put in before it.
 -- Assumes nothing.
-use Prim.Native.Nat.{ℕ, zero, suc, _+_, _*_, _/_, _%_}
+use Prim.Native.Nat.{ℕ, suc}
 use mathlib.Core.Path.{_≡_, refl, sym, ap, ap₂, _∙_}
-use mathlib.Core.Bool.{Bool, true, false, cond}
+use mathlib.Core.Bool.{Bool, false, cond}
 use mathlib.Core.List.{List, [], _∷_, _++_, map, map-append}
 use lib.ListN.{length}
 use lib.Dec.{eqb}
-use Rattle.codec.specs.Codec.{Codec, raw, padded, num, byte, _then_, named, checked, placed, sized, times, distinct, counted, boxed}
-use Rattle.codec.specs.Edits.{Marks, Moves}
-use Rattle.codec.specs.MoveLaws.{moves-kept, moves-padded, moves-then, moves-named, moves-checked, moves-placed, moves-sized, times-moves, moves-times, moves-distinct, moves-boxed}
-use Rattle.wire.specs.Formats.{section, Name, text, name}
+use Rattle.codec.specs.Format.{Format, tail-one, raw-edits, num-edits}
+use Rattle.codec.specs.EditLaws.{edits-still, edits-padded, edits-then, edits-named, edits-checked, edits-placed, edits-sized, times-moves, edits-times, edits-distinct, edits-boxed}
+use Rattle.wire.specs.Formats.{section, Name, textOf, text, name}
 use Rattle.table.specs.Out.{flat}
-use Rattle.layout.specs.Layout.{Entry, Fields, RecordL, StructL, Label, LabelDef, Parts, Layout, toLayout, entry, fields, recordL, structL, label, labelDef, parts, groups}
-use Rattle.layout.specs.Rows.{headRow, row10, row12, row13, row14, row15, entryRow, nameRow, fieldRows, recordRows, structRows, labelRow, labelDefRows, rows}
-use Rattle.demands.specs.LayoutEdits.{moves-text, moves-name, u16-moves, u64-moves, marks-label, moves-label, moves-section, moves-labels, marks-labelDef, moves-labelDef, marks-entry, moves-entry, marks-name, moves-fields, marks-recordL, moves-recordL, marks-structL, moves-structL, moves-parts}
+use Rattle.layout.specs.Layout.{Entry, Fields, RecordL, StructL, Label, LabelDef, Parts, toLayout, entry, fields, recordL, structL, label, labelDef, parts, groups}
+use Rattle.layout.specs.Rows.{headRow, row12, entryRow, nameRow, fieldRows, recordRows, structRows, labelRow, labelDefRows, rows}
 
 -- a row with its start moved by f; a field's row has none
 abbrev pub moveRow : (ℕ → ℕ) → List ℕ → List ℕ
@@ -21,20 +19,23 @@ moveRow f [] = []
 moveRow f (k ∷ []) = k ∷ []
 moveRow f (k ∷ s ∷ r) = k ∷ cond (eqb k 11) s (f s) ∷ r
 
-module _ {A : Type 0} (c : Codec A) (M : Marks c) (K : Moves c M 0) (f : ℕ → ℕ) where
-  moved-length : (xs ys : List A) → times-moves c M K f xs ys → length ys ≡ length xs
+module _ {A : Type 0} (F : Format A false) (f : ℕ → ℕ) where
+  abbrev Moved : List A → List A → Type 0
+  Moved = times-moves (F .codec) (F .law) (F .edits) (tail-one false) f
+
+  moved-length : (xs ys : List A) → Moved xs ys → length ys ≡ length xs
   moved-length [] [] m = refl
   moved-length [] (y ∷ ys) m = absurd m
   moved-length (x ∷ xs) [] m = absurd m
   moved-length (x ∷ xs) (y ∷ ys) m = ap suc (moved-length xs ys (m .1))
 
-  moved-map : (row : A → List ℕ) → ((x y : A) → K .moves f x y → row y ≡ moveRow f (row x)) → (xs ys : List A) → times-moves c M K f xs ys → map row ys ≡ map (moveRow f) (map row xs)
+  moved-map : (row : A → List ℕ) → ((x y : A) → F .edits .moves f x y → row y ≡ moveRow f (row x)) → (xs ys : List A) → Moved xs ys → map row ys ≡ map (moveRow f) (map row xs)
   moved-map row h [] [] m = refl
   moved-map row h [] (y ∷ ys) m = absurd m
   moved-map row h (x ∷ xs) [] m = absurd m
   moved-map row h (x ∷ xs) (y ∷ ys) m = ap₂ _∷_ (h x y (m .0)) (moved-map row h xs ys (m .1))
 
-  moved-concat : (g : A → List (List ℕ)) → ((x y : A) → K .moves f x y → g y ≡ map (moveRow f) (g x)) → (xs ys : List A) → times-moves c M K f xs ys
+  moved-concat : (g : A → List (List ℕ)) → ((x y : A) → F .edits .moves f x y → g y ≡ map (moveRow f) (g x)) → (xs ys : List A) → Moved xs ys
       → flat (map g ys) ≡ map (moveRow f) (flat (map g xs))
   moved-concat g h [] [] m = refl
   moved-concat g h [] (y ∷ ys) m = absurd m
@@ -43,25 +44,25 @@ module _ {A : Type 0} (c : Codec A) (M : Marks c) (K : Moves c M 0) (f : ℕ →
 
 module _ (utf8 : List ℕ → Bool) (D : ℕ) (f : ℕ → ℕ) where
   -- what moved of a name: its start; its text is the same
-  name-is : (x y : Name) → moves-name utf8 .moves f x y → (y .start ≡ f (x .start)) × (y .text ≡ x .text)
-  unfolding moves-name moves-named moves-then moves-text moves-sized moves-placed moves-checked moves-kept name text
+  name-is : (x y : Name) → name utf8 .edits .moves f x y → (y .start ≡ f (x .start)) × (y .text ≡ x .text)
+  unfolding name edits-named edits-then text textOf edits-sized edits-placed edits-checked raw-edits edits-still
   name-is x y m = m .0
 
-  entry-is : (x y : Entry) → moves-entry utf8 D .moves f x y → entryRow y ≡ moveRow f (entryRow x)
-  unfolding moves-entry moves-named moves-padded entry
+  entry-is : (x y : Entry) → entry utf8 D .edits .moves f x y → entryRow y ≡ moveRow f (entryRow x)
+  unfolding entry edits-named edits-padded
   entry-is x y m = ap headRow m
 
-  fields-are : (x y : Fields) → moves-fields utf8 D .moves f x y → (length (y .entries) ≡ length (x .entries)) × (fieldRows y ≡ map (moveRow f) (fieldRows x))
-  unfolding moves-fields moves-named moves-sized moves-then moves-times fields
+  fields-are : (x y : Fields) → fields utf8 D .edits .moves f x y → (length (y .entries) ≡ length (x .entries)) × (fieldRows y ≡ map (moveRow f) (fieldRows x))
+  unfolding fields edits-named edits-sized edits-then edits-times
   fields-are x y m = (
-    moved-length (entry utf8 D) _ (moves-entry utf8 D) f (x .entries) (y .entries) (m .0),
-    ap₂ _++_ (moved-map (entry utf8 D) _ (moves-entry utf8 D) f entryRow entry-is (x .entries) (y .entries) (m .0))
-        (moved-map (name utf8) _ (moves-name utf8) f nameRow (λ u v n. let q = name-is u v n in ap₂ row12 (q .0) (ap length (q .1))) (x .names) (y .names) (m .1))
+    moved-length (entry utf8 D) f (x .entries) (y .entries) (m .0),
+    ap₂ _++_ (moved-map (entry utf8 D) f entryRow entry-is (x .entries) (y .entries) (m .0))
+        (moved-map (name utf8) f nameRow (λ u v n. let q = name-is u v n in ap₂ row12 (q .0) (ap length (q .1))) (x .names) (y .names) (m .1))
         ∙ sym (map-append (moveRow f) (map entryRow (x .entries)) (map nameRow (x .names))),
   )
 
-  record-is : (x y : RecordL) → moves-recordL utf8 D .moves f x y → recordRows y ≡ map (moveRow f) (recordRows x)
-  unfolding moves-recordL moves-named moves-section moves-boxed moves-then u16-moves u64-moves moves-kept recordL
+  record-is : (x y : RecordL) → recordL utf8 D .edits .moves f x y → recordRows y ≡ map (moveRow f) (recordRows x)
+  unfolding recordL edits-named section edits-boxed edits-then num-edits edits-still
   record-is x y m =
       let (a, (b, (c, (h, (n, g))))) = m in
       let q = name-is (x .name) (y .name) n in
@@ -69,37 +70,37 @@ module _ (utf8 : List ℕ → Bool) (D : ℕ) (f : ℕ → ℕ) where
       let t = ap length (q .1) in
       ap₂ _∷_ (rw (q .0, q .1, a, b, c, h, r .0)) (r .1)
 
-  struct-is : (x y : StructL) → moves-structL utf8 D .moves f x y → structRows y ≡ map (moveRow f) (structRows x)
-  unfolding moves-structL moves-named moves-section moves-boxed moves-then u16-moves moves-kept structL
+  struct-is : (x y : StructL) → structL utf8 D .edits .moves f x y → structRows y ≡ map (moveRow f) (structRows x)
+  unfolding structL edits-named section edits-boxed edits-then num-edits edits-still
   struct-is x y m =
       let (a, (n, g)) = m in
       let q = name-is (x .name) (y .name) n in
       let r = fields-are (x .fields) (y .fields) g in
       ap₂ _∷_ (rw (q .0, q .1, a, r .0)) (r .1)
 
-  label-is : (x y : Label) → moves-label utf8 .moves f x y → labelRow y ≡ moveRow f (labelRow x)
-  unfolding moves-label moves-named moves-then u16-moves moves-kept label
+  label-is : (x y : Label) → label utf8 .edits .moves f x y → labelRow y ≡ moveRow f (labelRow x)
+  unfolding label edits-named edits-then num-edits edits-still
   label-is x y m =
       let (a, n) = m in
       let q = name-is (x .name) (y .name) n in
       rw (q .0, q .1, a)
 
-  labelDef-is : (x y : LabelDef) → moves-labelDef utf8 .moves f x y → labelDefRows y ≡ map (moveRow f) (labelDefRows x)
-  unfolding moves-labelDef moves-named moves-section moves-boxed moves-then moves-labels moves-sized moves-distinct labelDef
+  labelDef-is : (x y : LabelDef) → labelDef utf8 .edits .moves f x y → labelDefRows y ≡ map (moveRow f) (labelDefRows x)
+  unfolding labelDef edits-named section edits-boxed edits-then edits-sized edits-distinct
   labelDef-is x y m =
       let (n, g) = m in
       let q = name-is (x .name) (y .name) n in
-      ap₂ _∷_ (rw (q .0, q .1, moved-length (label utf8) _ (moves-label utf8) f (x .labels) (y .labels) g))
-      (moved-map (label utf8) _ (moves-label utf8) f labelRow label-is (x .labels) (y .labels) g)
+      ap₂ _∷_ (rw (q .0, q .1, moved-length (label utf8) f (x .labels) (y .labels) g))
+      (moved-map (label utf8) f labelRow label-is (x .labels) (y .labels) g)
 
   -- the rows of a layout whose places are moved by f
-  pub rows-move : (x y : Parts) (r r′ : List ℕ) → moves-parts utf8 D .moves f x y → rows (toLayout (y, r′)) ≡ map (moveRow f) (rows (toLayout (x, r)))
-  unfolding rows moves-parts moves-then moves-sized moves-times parts groups counted
+  pub rows-move : (x y : Parts) (r r′ : List ℕ) → parts utf8 D .edits .moves f x y → rows (toLayout (y, r′)) ≡ map (moveRow f) (rows (toLayout (x, r)))
+  unfolding rows parts edits-then edits-sized edits-times groups
   rows-move x y r r′ m =
       let (v, (a, (b, c))) = m in
-      let A = moved-concat (recordL utf8 D) _ (moves-recordL utf8 D) f recordRows record-is (x .1 .0) (y .1 .0) a in
-      let B = moved-concat (structL utf8 D) _ (moves-structL utf8 D) f structRows struct-is (x .1 .1 .0) (y .1 .1 .0) b in
-      let C = moved-concat (labelDef utf8) _ (moves-labelDef utf8) f labelDefRows labelDef-is (x .1 .1 .1) (y .1 .1 .1) c in
+      let A = moved-concat (recordL utf8 D) f recordRows record-is (x .1 .0) (y .1 .0) a in
+      let B = moved-concat (structL utf8 D) f structRows struct-is (x .1 .1 .0) (y .1 .1 .0) b in
+      let C = moved-concat (labelDef utf8) f labelDefRows labelDef-is (x .1 .1 .1) (y .1 .1 .1) c in
       let rs = flat (map recordRows (x .1 .0)) in
       let ss = flat (map structRows (x .1 .1 .0)) in
       ap₂ _++_ (ap₂ _++_ A B ∙ sym (map-append (moveRow f) rs ss)) C ∙ sym (map-append (moveRow f) (rs ++ ss) (flat (map labelDefRows (x .1 .1 .1))))

@@ -1,7 +1,5 @@
-pub mod LayoutEdits
 pub mod LayoutRows
 pub mod SymbologyRows
-pub mod BlockEdits
 pub mod Edited
 pub mod Demand3
 pub mod Number28

@@ -4,13 +4,12 @@
 use Prim.Native.Nat.{ℕ}
 use native.Mathlib.Omega.{arith}
 use mathlib.Core.Path.{_≡_, refl, sym, _∙_}
-use mathlib.Core.Bool.{Bool, true, false}
 use mathlib.Core.List.{List, [], _∷_, _++_}
-use lib.ListN.{length, replicate}
-use Rattle.codec.specs.Codec.{Res, ok, refuse, _>>=_, raw, skip, num, _then_, _on_, named, checked, judged, some, asks, placed, sized, limited, counted, times, whole, boxed, full}
+use lib.ListN.{replicate}
+use Rattle.codec.specs.Codec.{Res, ok, refuse, _>>=_, raw, skip, num, named, checked, judged, asks, sized, limited, times, whole, boxed, full, _then_, _on_}
 use Rattle.codec.specs.Remainder.{remainder}
 use Rattle.text.specs.Utf8.{utf8}
-use Rattle.symbology.specs.Symbology.{symbol, list, mapping, symbology}
+use Rattle.symbology.specs.Symbology.{list, mapping, symbology}
 use Rattle.symbology.specs.SymbologyRows.{symbologyRows}
 use Rattle.layout.specs.Layout.{parts, groups}
 use Rattle.layout.specs.Rows.{rows}
@@ -44,7 +43,7 @@ unfolding blockOf lengths whole block header layoutPart symbologyPart remainder 
 accepts3 sheet = refl
 
 pub accepts4 : (sheet : List ℕ) → rowsRead (blockOf 4 sheet least4) ≡ ok ([], []) 132
-unfolding blockOf lengths whole block header layoutPart symbologyPart remainder named _then_ _on_ checked raw skip num sized utf8 symbology list mapping limited symbologyRows rows judged boxed some parts groups counted times full rulesOf seqsFault structsFault recordsFault
+unfolding blockOf lengths whole block header layoutPart symbologyPart remainder named _then_ _on_ checked raw skip num sized utf8 symbology list mapping limited symbologyRows rows judged boxed asks parts groups times full rulesOf seqsFault structsFault recordsFault
 accepts4 sheet = refl
 
 -- a block of version 2 with one symbol has a row, and one without has none
@@ -64,5 +63,5 @@ unfolding blockOf
 refuses13 sheet = refl
 
 pub refuses26 : (sheet : List ℕ) → blockOf 4 sheet least ≡ refuse 26
-unfolding blockOf lengths whole block header layoutPart symbologyPart named _then_ _on_ checked raw skip num sized utf8 judged boxed some
+unfolding blockOf lengths whole block header layoutPart symbologyPart named _then_ _on_ checked raw skip num sized utf8 judged boxed asks
 refuses26 sheet = refl

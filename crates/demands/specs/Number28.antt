@@ -1,28 +1,24 @@
 -- Demand 3, its last sentence: one byte or more added at the end of the symbology section, its length raised and fitting, is
 -- refused by 28.
 -- Assumes nothing.
-use Prim.Native.Nat.{ℕ, zero, suc, _+_, _^_, _≤_, _<_, zero-le}
-use native.Mathlib.Nat.{add-zero, zero-add}
+use Prim.Native.Nat.{ℕ, _+_, _^_, _≤_, _<_, zero-le}
+use native.Mathlib.Nat.{zero-add}
 use native.Mathlib.Omega.{arith}
-use mathlib.Core.Path.{_≡_, refl, sym, ap, ap₂, _∙_, subst}
-use mathlib.Core.Bool.{Bool, true, false}
+use mathlib.Core.Path.{_≡_, refl, sym, ap, _∙_, subst}
+use mathlib.Core.Bool.{true, false}
 use mathlib.Core.List.{List, [], _∷_, _++_, append-assoc, append-nil}
-use lib.ListN.{length, take, drop, length-append}
+use lib.ListN.{length, drop, length-append}
 use lib.Seq.{drop-append-seam, drop-drop}
-use lib.Dec.{leb}
 use borrow.Author.Tests.{le-leb}
-use Rattle.codec.specs.Codec.{Res, ok, refuse, _>>=_, need, Bytes, Codec, little, value, raw, skip, num, _then_, _on_, named, checked, judged, some, whole, boxed, isNil, full}
-use Rattle.codec.specs.Laws.{Law, Here, law-boxed, whole-back}
+use Rattle.codec.specs.Codec.{ok, refuse, Bytes, little, raw, skip, num, named, checked, judged, asks, whole, boxed, isNil, full, _then_, _on_}
+use Rattle.codec.specs.Laws.{Here, law-boxed, whole-back}
 use Rattle.text.specs.Utf8.{utf8}
 use Rattle.dates.specs.Date.{isDate}
 use Rattle.layout.specs.Given.{D}
 use Rattle.layout.specs.Layout.{printLayout}
 use Rattle.symbology.specs.Symbology.{Symbology, symbology}
-use Rattle.symbology.specs.SymbologyLaws.{law-symbology}
-use Rattle.block.specs.Block.{Header, Block, v4, lengths, header, widthOf, layoutPart, symbologyPart, block, blockOf}
-use Rattle.block.specs.BlockLaws.{law-header, law-layoutPart, law-block}
-use Rattle.demands.specs.Edited.{B4, width, layoutIn, layout-bytes, header-legal, symbology-legal}
-use Rattle.demands.specs.BlockEdits.{header-length}
+use Rattle.block.specs.Block.{Header, Block, v4, lengths, header, layoutPart, symbologyPart, block, blockOf}
+use Rattle.demands.specs.Edited.{header-length, B4, width, layoutIn, layout-bytes, header-legal, symbology-legal}
 use Rattle.demands.specs.Demand3.{whole-of}
 
 isNil-some : (u : List ℕ) → 0 < length u → isNil u ≡ false
@@ -31,30 +27,30 @@ isNil-some (x ∷ u) h = refl
 
 -- the symbology section of a block, with u added at its end and its length raised
 abbrev pub longer : ℕ → Symbology → List ℕ → List ℕ
-longer w t u = little 4 (0 + length (symbology utf8 isDate w .print t ++ u)) ++ (symbology utf8 isDate w .print t ++ u)
+longer w t u = little 4 (0 + length (symbology utf8 isDate w .codec .print t ++ u)) ++ (symbology utf8 isDate w .codec .print t ++ u)
 
-section28 : (w base : ℕ) (s : List ℕ) (i : ℕ) (t : Symbology) (u r : List ℕ) → symbology utf8 isDate w .legal t → Bytes u → 0 < length u
-    → 0 + length (symbology utf8 isDate w .print t ++ u) < 256 ^ 4 → Here s i (longer w t u) r → symbologyPart true w .parse base s i ≡ refuse 28
+section28 : (w base : ℕ) (s : List ℕ) (i : ℕ) (t : Symbology) (u r : List ℕ) → symbology utf8 isDate w .codec .legal t → Bytes u → 0 < length u
+    → 0 + length (symbology utf8 isDate w .codec .print t ++ u) < 256 ^ 4 → Here s i (longer w t u) r → symbologyPart true w .codec .parse base s i ≡ refuse 28
 unfolding symbologyPart full boxed
 section28 w base s i t u r lg bs some fit here =
-    rw (law-boxed (symbology utf8 isDate w) (law-symbology utf8 isDate w) 27 27 27 4 0 (λ p. p) (symbology utf8 isDate w .each) (law-symbology utf8 isDate w .spotted) .reads base s i (t, u) r (lg, bs, fit) here, isNil-some u some)
+    rw (law-boxed (symbology utf8 isDate w .codec) (symbology utf8 isDate w .law) 27 27 27 4 0 (λ p. p) (symbology utf8 isDate w .codec .each) (symbology utf8 isDate w .law .spotted) .reads base s i (t, u) r (lg, bs, fit) here, isNil-some u some)
 
-header-still : (p : ℕ) (h : Header) → header v4 .locate p h ≡ h
+header-still : (p : ℕ) (h : Header) → header v4 .codec .locate p h ≡ h
 unfolding header named _then_ checked raw num skip
 header-still p h = refl
 
 module _ (sheet : List ℕ) (z : Block) where
   abbrev H : List ℕ
-  H = header v4 .print (z .header)
+  H = header v4 .codec .print (z .header)
 
   abbrev L : List ℕ
-  L = layoutPart true sheet (width sheet z) .print (z .layout)
+  L = layoutPart true sheet (width sheet z) .codec .print (z .layout)
 
   -- the block with u added at the end of its symbology section, and r after it
   abbrev pub grown : List ℕ → List ℕ → List ℕ
   grown u r = H ++ (L ++ (longer (width sheet z) (z .symbology) u ++ r))
 
-  block28 : (u r : List ℕ) → B4 sheet .legal z → Bytes u → 0 < length u → 0 + length (symbology utf8 isDate (width sheet z) .print (z .symbology) ++ u) < 256 ^ 4
+  block28 : (u r : List ℕ) → B4 sheet .legal z → Bytes u → 0 < length u → 0 + length (symbology utf8 isDate (width sheet z) .codec .print (z .symbology) ++ u) < 256 ^ 4
       → B4 sheet .parse 0 (grown u r) 0 ≡ refuse 28
   unfolding block named _on_ _then_
   block28 u r lg bs some fit =
@@ -67,13 +63,13 @@ module _ (sheet : List ℕ) (z : Block) where
         bytes = sym (drop-drop (length L) (0 + length H) s) ∙ ap (drop (length L)) (h2 .bytes) ∙ drop-append-seam L (X ++ r);
       } in
       rw (
-        law-header v4 .reads 0 s 0 (z .header) (L ++ (X ++ r)) (lg .0) h1,
+        header v4 .law .reads 0 s 0 (z .header) (L ++ (X ++ r)) (lg .0) h1,
         header-still (0 + 0) (z .header),
-        law-layoutPart true sheet (width sheet z) .reads 0 s (0 + length H) (z .layout) (X ++ r) (lg .1 .0) h2,
+        layoutPart true sheet (width sheet z) .law .reads 0 s (0 + length H) (z .layout) (X ++ r) (lg .1 .0) h2,
         section28 (width sheet z) 0 s (0 + length H + length L) (z .symbology) u r (symbology-legal sheet z lg) bs some fit h3,
       )
 
-  whole28 : (u r : List ℕ) → B4 sheet .legal z → Bytes u → 0 < length u → 0 + length (symbology utf8 isDate (width sheet z) .print (z .symbology) ++ u) < 256 ^ 4
+  whole28 : (u r : List ℕ) → B4 sheet .legal z → Bytes u → 0 < length u → 0 + length (symbology utf8 isDate (width sheet z) .codec .print (z .symbology) ++ u) < 256 ^ 4
       → length (grown u r) ≤ 4294967295 → blockOf 4 sheet (grown u r) ≡ refuse 28
   unfolding blockOf lengths whole
   whole28 u r lg bs some fit high =
@@ -91,23 +87,23 @@ pub record Spanned (sheet b r : List ℕ) : Type 0 where
       → length (front ++ (little 4 (0 + length (contents ++ u)) ++ ((contents ++ u) ++ r))) ≤ 4294967295
       → blockOf 4 sheet (front ++ (little 4 (0 + length (contents ++ u)) ++ ((contents ++ u) ++ r))) ≡ refuse 28
 
-print-is : (sheet : List ℕ) (z : Block) → B4 sheet .print z ≡ H sheet z ++ (L sheet z ++ symbologyPart true (width sheet z) .print (z .symbology))
+print-is : (sheet : List ℕ) (z : Block) → B4 sheet .print z ≡ H sheet z ++ (L sheet z ++ symbologyPart true (width sheet z) .codec .print (z .symbology))
 unfolding block named _on_ _then_
 print-is sheet z = refl
 
-section-is : (w : ℕ) (t : Symbology) → symbologyPart true w .print t ≡ longer w t []
+section-is : (w : ℕ) (t : Symbology) → symbologyPart true w .codec .print t ≡ longer w t []
 unfolding symbologyPart full boxed
 section-is w t = refl
 
 layout-length : (sheet : List ℕ) (z : Block) → length (L sheet z) ≡ 4 + length (printLayout utf8 D (z .layout))
-unfolding layoutPart named judged boxed some printLayout
+unfolding layoutPart named judged boxed asks printLayout
 layout-length sheet z = omega arith
 
 -- DEMAND 3, the symbology section
 pub demand28 : (sheet b : List ℕ) (z : Block) (r : List ℕ) (k : ℕ) → Bytes b → blockOf 4 sheet b ≡ ok (z, r) k → Spanned sheet b r
 demand28 sheet b z r k bs read =
-    let w = whole-back (B4 sheet) (law-block sheet v4) 0 b (z, r) k bs (whole-of sheet b (z, r) k read) in
-    let T = symbology utf8 isDate (width sheet z) .print (z .symbology) in
+    let w = whole-back (B4 sheet) (block sheet v4 .law) 0 b (z, r) k bs (whole-of sheet b (z, r) k read) in
+    let T = symbology utf8 isDate (width sheet z) .codec .print (z .symbology) in
     record {
       front = H sheet z ++ L sheet z;
       contents = T;

@@ -2,14 +2,14 @@
 -- Assumes nothing.
 use Prim.Native.Nat.{ℕ}
 use mathlib.Core.Path.{_≡_, refl}
-use mathlib.Core.Bool.{Bool, true, false}
+use mathlib.Core.Bool.{true, false}
 use mathlib.Core.List.{List, [], _∷_}
-use Rattle.codec.specs.Codec.{Res, ok, refuse, _>>=_, raw, num, byte, _then_, named, checked, placed, sized, times, distinct, counted, whole, boxed}
+use Rattle.codec.specs.Codec.{Res, ok, refuse, _>>=_, raw, num, byte, named, checked, placed, sized, times, distinct, whole, boxed, _then_}
 use Rattle.text.specs.Utf8.{utf8}
 use Rattle.dates.specs.Date.{isDate}
 use Rattle.dates.specs.Hand.{p12}
 use Rattle.text.specs.Hand.{p13}
-use Rattle.wire.specs.Formats.{section, text, name}
+use Rattle.wire.specs.Formats.{section, textOf, text, name}
 use Rattle.layout.specs.Layout.{label, labelDef, parts, groups, readLayout}
 use Rattle.layout.specs.Given.{layoutOf}
 use Rattle.layout.specs.Rows.{rows}
@@ -24,19 +24,19 @@ abbrev pub answer : List ℕ → ℕ → List ℕ → Res (ℕ × List (List ℕ
 answer sheet width b = ruledOf sheet width b >>= λ t j. ok (t .version, rows t) j
 
 P6 : (sheet : List ℕ) (width : ℕ) → answer sheet width (1 ∷ 0 ∷ 0 ∷ 0 ∷ 0 ∷ 0 ∷ 0 ∷ 0 ∷ []) ≡ ok (1, []) 8
-unfolding ruledOf layoutOf readLayout whole parts groups counted sized num raw _then_ times rows rulesOf seqsFault structsFault recordsFault
+unfolding ruledOf layoutOf readLayout whole parts groups sized num raw _then_ times rows rulesOf seqsFault structsFault recordsFault
 P6 sheet width = refl
 
 P7 : (sheet : List ℕ) (width : ℕ) → answer sheet width p7 ≡ ok (1, p7rows) 22
-unfolding ruledOf layoutOf readLayout whole parts groups counted sized num raw byte _then_ times rows labelDef label named section boxed name text checked placed distinct utf8 rulesOf seqsFault structsFault recordsFault
+unfolding ruledOf layoutOf readLayout whole parts groups sized num raw byte _then_ times rows labelDef label named section boxed name text textOf checked placed distinct utf8 rulesOf seqsFault structsFault recordsFault
 P7 sheet width = refl
 
 P8 : (sheet : List ℕ) (width : ℕ) → answer sheet width p8 ≡ ok (1, p7rows) 24
-unfolding ruledOf layoutOf readLayout whole parts groups counted sized num raw byte _then_ times rows labelDef label named section boxed name text checked placed distinct utf8 rulesOf seqsFault structsFault recordsFault
+unfolding ruledOf layoutOf readLayout whole parts groups sized num raw byte _then_ times rows labelDef label named section boxed name text textOf checked placed distinct utf8 rulesOf seqsFault structsFault recordsFault
 P8 sheet width = refl
 
 P9 : (sheet : List ℕ) (width : ℕ) → answer sheet width p9 ≡ refuse 51
-unfolding ruledOf layoutOf readLayout whole parts groups counted sized num raw byte _then_ times rows labelDef label named section boxed name text checked placed distinct utf8
+unfolding ruledOf layoutOf readLayout whole parts groups sized num raw byte _then_ times rows labelDef label named section boxed name text textOf checked placed distinct utf8
 P9 sheet width = refl
 
 pub record TableP : Type 0 where

@@ -4,9 +4,9 @@ use Prim.Native.Nat.{ℕ, _≤_}
 use mathlib.Core.Path.{_≡_, refl}
 use mathlib.Core.List.{List, [], _∷_, _++_}
 use lib.ListN.{length, replicate}
-use Rattle.codec.specs.Codec.{raw, padded, num, byte, _then_, named, checked, placed, sized, times, distinct, counted, boxed}
+use Rattle.codec.specs.Codec.{raw, padded, num, byte, named, checked, placed, sized, times, distinct, boxed, _then_}
 use Rattle.text.specs.Utf8.{utf8}
-use Rattle.wire.specs.Formats.{section, text, name}
+use Rattle.wire.specs.Formats.{section, text, textOf, name}
 use Rattle.layout.specs.Layout.{entry, fields, recordL, structL, label, labelDef, parts, groups, printLayout}
 use Rattle.layout.specs.Given.{D}
 use Rattle.fields.specs.Sheet.{alignOf, defOf, idOf, isDecimal, isExtension, isPadding, isStruct, isSymbol, memberAlign, namesLabel, offOf, pastBase, sizeOf, typeOf}
@@ -37,7 +37,7 @@ table =
 
 -- neither 90 to 95 nor a rule refuses it
 pub well-formed : fault table (65 ∷ []) ≡ 0
-unfolding fault wellFormed both every rowTest rowFits limitOf inOrder walk secOk nameKind countsFit groupsFit countFits nameShort nameClean clean sectionsFit fitsAll secAt printed risesAt countKind countOf from namesFrom skip treeOf utf8 printLayout parts groups counted recordL structL labelDef label fields entry padded named _then_ sized times distinct num raw byte section boxed name text checked placed D
+unfolding fault wellFormed both every rowTest rowFits limitOf inOrder walk secOk nameKind countsFit groupsFit countFits nameShort nameClean clean sectionsFit fitsAll secAt printed risesAt countKind countOf from namesFrom skip treeOf utf8 printLayout parts groups recordL structL labelDef label fields entry padded named _then_ sized times distinct num raw byte section boxed name text textOf checked placed D
 well-formed = refl
 
 pub ruled : rowsRules sheet 71 table ≡ 0

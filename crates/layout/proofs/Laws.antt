@@ -152,7 +152,7 @@ module _ {A : Type 0} (f : A → List (List ℕ)) (to : Name × Fields → A) (h
   abbrev Told : Out
   Told = onGot (nameAt s at) λ len q. onGot (u16At s q) λ count _. row (h (base + (at + 1)) len count) (fieldsAt base s q)
 
-  pub name-fields : said (λ z. f (to z)) ((Formats.name utf8 then Layout.fields utf8 D) .parse base s at) ≡ Told
+  pub name-fields : said (λ z. f (to z)) ((name then Given.fields) .parse base s at) ≡ Told
   unfolding _then_
   name-fields =
       said-name (λ z. f (to z)) base s at (λ x q. Given.fields .parse base s q >>= λ y k. ok (x, y) k) _
@@ -170,9 +170,9 @@ pub struct-is : (base : ℕ) (s : List ℕ)
     → structBody base s ≡ (onGot (u16At s 0) λ size p. onGot (nameAt s p) λ len q. onGot (u16At s q) λ count _. row (row13 (base + (p + 1)) len size count) (fieldsAt base s q))
 unfolding structBody _then_
 struct-is base s =
-    said-num (λ z. structRows (toStruct (z, []))) base s 0 50 2 (λ x j. (Formats.name utf8 then Layout.fields utf8 D) .parse base s j >>= λ y k. ok (x, y) k) _
+    said-num (λ z. structRows (toStruct (z, []))) base s 0 50 2 (λ x j. (name then Given.fields) .parse base s j >>= λ y k. ok (x, y) k) _
     (λ size p.
-    said-named (λ z. structRows (toStruct (z, []))) (λ y. (size, y)) ((Formats.name utf8 then Layout.fields utf8 D) .parse base s p)
+    said-named (λ z. structRows (toStruct (z, []))) (λ y. (size, y)) ((name then Given.fields) .parse base s p)
     ∙ name-fields (λ z. structRows (toStruct (z, []))) (λ y. (size, y)) (λ a b c. row13 a b size c) (λ x y. refl) base s p)
 
 pub label-is : (base : ℕ) (s : List ℕ)
@@ -205,7 +205,7 @@ record-is base s =
     let h2 : 2 + 2 ≤ length s = omega arith in
     let h4 : 4 + 2 ≤ length s = omega arith in
     let h6 : 6 + 8 ≤ length s = omega arith in
-    let r : Res (Name × Fields) = (Formats.name utf8 then Layout.fields utf8 D) .parse base s 14 in
+    let r : Res (Name × Fields) = (name then Given.fields) .parse base s 14 in
     rw (
       take-ok 50 14 s 0 h,
       num-got 50 2 base s 0 h0,
@@ -279,15 +279,15 @@ module _ (kind n : ℕ) (s : List ℕ) (at : ℕ) where
 -- a count and as many items
 module _ (s : List ℕ) (p : ℕ) where
   kind0 : said (allRows recordRows) (counted Given.recordL 50 .parse 0 s p) ≡ groupAt 0 s p
-  unfolding groupAt sectionsAt counted sized times
+  unfolding groupAt sectionsAt sized times
   kind0 = said-num (allRows recordRows) 0 s p 50 2 (λ n j. timesParse Given.recordL n 0 s j) _ (λ v p. refl)
 
   kind1 : said (allRows structRows) (counted Given.structL 50 .parse 0 s p) ≡ groupAt 1 s p
-  unfolding groupAt sectionsAt counted sized times
+  unfolding groupAt sectionsAt sized times
   kind1 = said-num (allRows structRows) 0 s p 50 2 (λ n j. timesParse Given.structL n 0 s j) _ (λ v p. refl)
 
   kind2 : said (allRows labelDefRows) (counted Given.labelDef 50 .parse 0 s p) ≡ groupAt 2 s p
-  unfolding groupAt sectionsAt counted sized times
+  unfolding groupAt sectionsAt sized times
   kind2 = said-num (allRows labelDefRows) 0 s p 50 2 (λ n j. timesParse Given.labelDef n 0 s j) _ (λ v p. refl)
 
 -- records, structs and label defs

@@ -51,9 +51,9 @@ module _ (l : List ℕ) (h : length l ≤ 4294967295) where
   unfolding layoutOf Layout.readLayout whole Layout.parts _then_
   layout-no e = rw (le-leb (length l) 4294967295 h, num-is 50 2 l 0 0, e)
 
-  pub layout-ok : {v p : ℕ} → u16At l 0 ≡ Value v p → layoutOf l ≡ layoutFrom l v (Layout.groups utf8 D .parse 0 l p)
+  pub layout-ok : {v p : ℕ} → u16At l 0 ≡ Value v p → layoutOf l ≡ layoutFrom l v (Layout.groups utf8 D .codec .parse 0 l p)
   unfolding layoutOf Layout.readLayout whole Layout.parts _then_
-  layout-ok {v} {p} e = rw (le-leb (length l) 4294967295 h, num-is 50 2 l 0 0, e) (go (Layout.groups utf8 D .parse 0 l p))
+  layout-ok {v} {p} e = rw (le-leb (length l) 4294967295 h, num-is 50 2 l 0 0, e) (go (Layout.groups utf8 D .codec .parse 0 l p))
     where
       go : (r : Res Groups) → (((_>>=_ {B = ℕ × Groups} r λ z k. ok (v, z) k) >>= λ x j. ok (x, drop j l) (length l)) >>= λ z j. ok (toLayout z) j) ≡ layoutFrom l v r
       go (ok z j) = refl
@@ -68,7 +68,7 @@ ver-no l e = rw e
 module _ (l : List ℕ) {v p n q base : ℕ} {s t t′ : List ℕ} {r : Got} (h : length l ≤ 4294967295) (e : u16At l 0 ≡ Value v p) (g : Ran 9 base s (groupsAt l p) 0 t t′ r) where
   pub ver-ok : r ≡ Value n q → Accepted v n ≡ verdict (layoutOf l)
   unfolding groupsAt
-  ver-ok f = rw (layout-ok l h e) (go (Layout.groups utf8 D .parse 0 l p) (sym (g .answered) ∙ f))
+  ver-ok f = rw (layout-ok l h e) (go (Layout.groups utf8 D .codec .parse 0 l p) (sym (g .answered) ∙ f))
     where
       go : (r : Res Groups) → answer 0 (said groupRows r) ≡ Value n q → Accepted v n ≡ verdict (layoutFrom l v r)
       go (ok z k) a = let w : 0 + length (groupRows z) ≡ n = cc in ap (Accepted v) (sym w ∙ zero-add (length (groupRows z)) ∙ ap length (sym (same-rows v z (drop k l))))
@@ -77,7 +77,7 @@ module _ (l : List ℕ) {v p n q base : ℕ} {s t t′ : List ℕ} {r : Got} (h 
 module _ (l : List ℕ) {v p k base : ℕ} {s t t′ : List ℕ} {r : Got} (h : length l ≤ 4294967295) (e : u16At l 0 ≡ Value v p) (g : Ran 9 base s (groupsAt l p) 0 t t′ r) where
   pub ver-bad : r ≡ Got'.Refused k → Verdict'.Refused k ≡ verdict (layoutOf l)
   unfolding groupsAt
-  ver-bad f = rw (layout-ok l h e) (go (Layout.groups utf8 D .parse 0 l p) (sym (g .answered) ∙ f))
+  ver-bad f = rw (layout-ok l h e) (go (Layout.groups utf8 D .codec .parse 0 l p) (sym (g .answered) ∙ f))
     where
       go : (r : Res Groups) → answer 0 (said groupRows r) ≡ Got'.Refused k → Verdict'.Refused k ≡ verdict (layoutFrom l v r)
       go (ok z j) a = absurd (let z : _≡_ {A = ℕ} 0 1 = cc in omega arith)
@@ -91,7 +91,7 @@ pub record Accepts (l : List ℕ) (v n : ℕ) : Type 0 where
   pub two : 2 ≤ length l
   pub z : Groups
   pub k : ℕ
-  pub read : Layout.groups utf8 D .parse 0 l 2 ≡ ok z k
+  pub read : Layout.groups utf8 D .codec .parse 0 l 2 ≡ ok z k
   pub is : layoutOf l ≡ ok (toLayout ((v, z), drop k l)) (length l)
   pub many : length (rows (toLayout ((v, z), drop k l))) ≡ n
 
@@ -101,7 +101,7 @@ accepts l {v} {n} e =
     (λ h. number h (u16At l 0) refl)
     (λ h. let f : Accepted v n ≡ Verdict'.Refused 13 = e ∙ rw (layout-13 l h) in absurd (let z : _≡_ {A = ℕ} 0 1 = cc in omega arith))
   where
-    groups : (h : length l ≤ 4294967295) (w : ℕ) → u16At l 0 ≡ Value w 2 → 2 ≤ length l → (r : Res Groups) → Layout.groups utf8 D .parse 0 l 2 ≡ r → Accepts l v n
+    groups : (h : length l ≤ 4294967295) (w : ℕ) → u16At l 0 ≡ Value w 2 → 2 ≤ length l → (r : Res Groups) → Layout.groups utf8 D .codec .parse 0 l 2 ≡ r → Accepts l v n
     groups h w f two (ok y j) q =
         let i : layoutOf l ≡ ok (toLayout ((w, y), drop j l)) (length l) = layout-ok l h f ∙ ap (layoutFrom l w) q in
         let g : Accepted v n ≡ Accepted w (length (rows (toLayout ((w, y), drop j l)))) = e ∙ ap verdict i in
@@ -124,7 +124,7 @@ accepts l {v} {n} e =
     number h (Value w p) f =
         let y = u16-value l 0 f in
         let p2 : p ≡ 2 = y .1 in
-        groups h w (f ∙ ap (Value w) p2) (omega arith) (Layout.groups utf8 D .parse 0 l 2) refl
+        groups h w (f ∙ ap (Value w) p2) (omega arith) (Layout.groups utf8 D .codec .parse 0 l 2) refl
     number h (Got'.Refused j) f =
         let g : Accepted v n ≡ Verdict'.Refused j = e ∙ ap verdict (layout-no l h f) in
         absurd (let z : _≡_ {A = ℕ} 0 1 = cc in omega arith)

@@ -24,22 +24,22 @@ unfolding D
 D-is = refl
 
 abbrev pub entry : Codec Entry
-entry = Layout.entry utf8 D
+entry = Layout.entry utf8 D .codec
 
 abbrev pub fields : Codec Fields
-fields = Layout.fields utf8 D
+fields = Layout.fields utf8 D .codec
 
 abbrev pub label : Codec Label
-label = Layout.label utf8
+label = Layout.label utf8 .codec
 
 abbrev pub recordL : Codec RecordL
-recordL = Layout.recordL utf8 D
+recordL = Layout.recordL utf8 D .codec
 
 abbrev pub structL : Codec StructL
-structL = Layout.structL utf8 D
+structL = Layout.structL utf8 D .codec
 
 abbrev pub labelDef : Codec LabelDef
-labelDef = Layout.labelDef utf8
+labelDef = Layout.labelDef utf8 .codec
 
 -- what a layout given whole is read as
 unfoldable pub layoutOf : List ℕ → Res Layout.Layout

@@ -1,10 +1,12 @@
 -- The layout, as document 01's "Bytes on the wire" has it: the tree that keeps every byte, and the format of each part.
 -- Assumes nothing.
 use Prim.Native.Nat.{ℕ, _-_}
-use mathlib.Core.Bool.{Bool}
+use mathlib.Core.Path.{_≡_, refl}
+use mathlib.Core.Bool.{Bool, false}
 use mathlib.Core.List.{List, [], _++_}
-use lib.ListN.{length}
-use Rattle.codec.specs.Codec.{Res, ok, _>>=_, Bytes, Codec, padded, _then_, named, sized, times, distinct, counted, whole}
+use Rattle.codec.specs.Codec as plain
+use Rattle.codec.specs.Codec.{Res, ok, _>>=_, Bytes, whole}
+use Rattle.codec.specs.Format.{Format, _then_, named, padded, counted, keyed, countedBoth}
 use Rattle.wire.specs.Formats.{Name, u16, u64, section, name}
 
 -- ---- the tree
@@ -82,67 +84,70 @@ fromLayout t = ((t .version, (t .records, (t .structs, t .labels))), t .rest)
 
 module _ (utf8 : List ℕ → Bool) where
   -- code u16 and name
-  unfoldable pub label : Codec Label
-  label = named (λ z. record { code = z .0; name = z .1 }) (λ l. (l .code, l .name)) (u16 then name utf8)
+  unfoldable pub label : Format Label false
+  label = named (λ z. record { code = z .0; name = z .1 }) (λ l. (l .code, l .name)) (λ x. refl) (u16 then name utf8)
+
+  pub label-code : (l : Label) → label .codec .bare l .code ≡ l .code
+  unfolding label plain.named plain._then_ plain.num
+  label-code l = refl
 
   -- name, u16 count, then labels; 55 where a code comes again
-  abbrev pub labelBody : Codec (Name × List Label)
-  labelBody = name utf8 then sized 50 2 length (distinct label (λ l. l .code) 55)
+  abbrev pub labelBody : Format (Name × List Label) false
+  labelBody = name utf8 then keyed label (λ l. l .code) 50 55 label-code
 
-  unfoldable pub labelDef : Codec LabelDef
-  labelDef = named toLabelDef (λ d. ((d .name, d .labels), d .rest)) (section labelBody)
+  unfoldable pub labelDef : Format LabelDef false
+  labelDef = named toLabelDef (λ d. ((d .name, d .labels), d .rest)) (λ x. refl) (section labelBody)
 
 module _ (utf8 : List ℕ → Bool) (D : ℕ) where
-  unfoldable pub entry : Codec Entry
-  entry = named (λ z. record { head = z .0; skipped = z .1 }) (λ e. (e .head, e .skipped)) (padded 50 11 (D - 11))
+  unfoldable pub entry : Format Entry false
+  entry = named (λ z. record { head = z .0; skipped = z .1 }) (λ e. (e .head, e .skipped)) (λ x. refl) (padded 50 11 (D - 11))
 
   -- u16 count, entries, then one name each
-  unfoldable pub fields : Codec Fields
-  fields = named (λ z. record { entries = z .0; names = z .1 }) (λ f. (f .entries, f .names))
-      (sized 50 2 (λ z. length (z .0)) (λ n. times entry n then times (name utf8) n))
+  unfoldable pub fields : Format Fields false
+  fields = named (λ z. record { entries = z .0; names = z .1 }) (λ f. (f .entries, f .names)) (λ x. refl) (countedBoth entry (name utf8) 50)
 
   -- rtype, schema, base size (u16 each), hash u64, name, fields
-  abbrev pub recordBody : Codec (ℕ × (ℕ × (ℕ × (ℕ × (Name × Fields)))))
+  abbrev pub recordBody : Format (ℕ × (ℕ × (ℕ × (ℕ × (Name × Fields))))) false
   recordBody = u16 then u16 then u16 then u64 then name utf8 then fields
 
-  unfoldable pub recordL : Codec RecordL
-  recordL = named toRecord (λ r. ((r .rtype, (r .schema, (r .base, (r .hash, (r .name, r .fields))))), r .rest)) (section recordBody)
+  unfoldable pub recordL : Format RecordL false
+  recordL = named toRecord (λ r. ((r .rtype, (r .schema, (r .base, (r .hash, (r .name, r .fields))))), r .rest)) (λ x. refl) (section recordBody)
 
   -- size u16, name, fields
-  abbrev pub structBody : Codec (ℕ × (Name × Fields))
+  abbrev pub structBody : Format (ℕ × (Name × Fields)) false
   structBody = u16 then name utf8 then fields
 
-  unfoldable pub structL : Codec StructL
-  structL = named toStruct (λ s. ((s .size, (s .name, s .fields)), s .rest)) (section structBody)
+  unfoldable pub structL : Format StructL false
+  structL = named toStruct (λ s. ((s .size, (s .name, s .fields)), s .rest)) (λ x. refl) (section structBody)
 
   -- u16 version; u16 count and records; u16 count and structs; u16 count and label defs
-  unfoldable pub groups : Codec (List RecordL × (List StructL × List LabelDef))
+  unfoldable pub groups : Format (List RecordL × (List StructL × List LabelDef)) false
   groups = counted recordL 50 then counted structL 50 then counted (labelDef utf8) 50
 
-  unfoldable pub parts : Codec Parts
+  unfoldable pub parts : Format Parts false
   parts = u16 then groups
 
   -- what is accepted, and the refusal of all else
   unfoldable pub readLayout : List ℕ → Res Layout
-  readLayout b = whole parts 0 b >>= λ z j. ok (toLayout z) j
+  readLayout b = whole (parts .codec) 0 b >>= λ z j. ok (toLayout z) j
 
   -- the bytes of a layout, the layout with its places, and which layouts have bytes
   unfoldable pub printLayout : Layout → List ℕ
-  printLayout t = parts .print (fromLayout t .0) ++ t .rest
+  printLayout t = parts .codec .print (fromLayout t .0) ++ t .rest
 
   unfoldable pub locateLayout : Layout → Layout
-  locateLayout t = toLayout (parts .locate 0 (fromLayout t .0), t .rest)
+  locateLayout t = toLayout (parts .codec .locate 0 (fromLayout t .0), t .rest)
 
   unfoldable pub LegalLayout : Layout → Type 0
-  LegalLayout t = parts .legal (fromLayout t .0) × Bytes (t .rest)
+  LegalLayout t = parts .codec .legal (fromLayout t .0) × Bytes (t .rest)
 
   -- the layout without places and skipped bytes, and what is asked of a layout beyond that
   unfoldable pub bareLayout : Layout → Layout
-  bareLayout t = toLayout (parts .bare (fromLayout t .0), [])
+  bareLayout t = toLayout (parts .codec .bare (fromLayout t .0), [])
 
   unfoldable pub FitsLayout : Layout → Type 0
-  FitsLayout t = parts .fits (fromLayout t .0) × Bytes (t .rest)
+  FitsLayout t = parts .codec .fits (fromLayout t .0) × Bytes (t .rest)
 
   -- P holds of the start and the text of every name
   unfoldable pub EachName : (ℕ → List ℕ → Type 0) → Layout → Type 0
-  EachName P t = parts .each P (fromLayout t .0)
+  EachName P t = parts .codec .each P (fromLayout t .0)

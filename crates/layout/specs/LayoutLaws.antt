@@ -1,96 +1,64 @@
 -- The layout's laws, from those of its parts. Assumes nothing.
-use Prim.Native.Nat.{ℕ, _-_}
+use Prim.Native.Nat.{ℕ}
 use native.Mathlib.Nat.{zero-add}
-use mathlib.Core.Path.{_≡_, refl, sym, ap, _∙_, subst}
+use mathlib.Core.Path.{_≡_, sym, ap, _∙_, subst}
 use mathlib.Core.Bool.{Bool}
 use mathlib.Core.List.{List, []}
 use lib.ListN.{length, take, drop}
-use Rattle.codec.specs.Codec.{_then_, ok, Bytes, num, named, times, distinct, whole}
-use Rattle.codec.specs.Laws.{Law, bind-ok, left-part, part-take, bytes-append, law-padded, law-num, law-then, law-named, law-sized, law-times, length-bare, law-distinct, law-counted, whole-reads, whole-back}
-use Rattle.wire.specs.FormatLaws.{law-section, law-name}
-use Rattle.layout.specs.Layout.{Layout, entry, fields, recordL, structL, label, labelDef, parts, toLayout, fromLayout, groups, readLayout, printLayout, locateLayout, LegalLayout, bareLayout, FitsLayout, EachName}
+use Rattle.codec.specs.Codec.{ok, Bytes, whole}
+use Rattle.codec.specs.Laws.{bind-ok, left-part, part-take, bytes-append, whole-reads, whole-back}
+use Rattle.layout.specs.Layout.{Layout, parts, toLayout, fromLayout, readLayout, printLayout, locateLayout, LegalLayout, bareLayout, FitsLayout, EachName}
 
-module _ (utf8 : List ℕ → Bool) where
-  pub law-label : Law (label utf8)
-  unfolding label
-  law-label = law-named _ (law-then _ _ (law-num 50 2) (law-name utf8)) _ _ (λ x. refl)
+module _ (utf8 : List ℕ → Bool) (D : ℕ) where
+  -- (a): the bytes of a legal layout are read as that layout, with its places
+  pub parse-print : (t : Layout) → LegalLayout utf8 D t → readLayout utf8 D (printLayout utf8 D t) ≡ ok (locateLayout utf8 D t) (length (printLayout utf8 D t))
+  unfolding readLayout printLayout locateLayout LegalLayout
+  parse-print t lg = rw (whole-reads (parts utf8 D .codec) (parts utf8 D .law) 0 _ (t .rest) (lg .0))
 
-  pub law-labelDef : Law (labelDef utf8)
-  unfolding labelDef label _then_ num named distinct
-  law-labelDef = law-named _ (law-section _ (law-then _ _ (law-name utf8)
-      (law-sized 50 2 _ _ (law-distinct _ law-label _ 55 (λ x. refl)) (λ n x lg. lg .0) (λ n. length-bare _ law-label)))) _ _ (λ x. refl)
+  -- (b): what is read is legal, has its places, and is the bytes that were read
+  pub record Parsed (b : List ℕ) (t : Layout) : Type 0 where
+    pub bytes : printLayout utf8 D t ≡ b
+    pub located : locateLayout utf8 D t ≡ t
+    pub legal : LegalLayout utf8 D t
 
-  module _ (D : ℕ) where
-    pub law-entry : Law (entry utf8 D)
-    unfolding entry
-    law-entry = law-named _ (law-padded 50 11 (D - 11)) _ _ (λ x. refl)
+  pub print-parse : (b : List ℕ) (t : Layout) (j : ℕ) → Bytes b → readLayout utf8 D b ≡ ok t j → Parsed b t
+  unfolding readLayout printLayout locateLayout LegalLayout
+  print-parse b t j bs e =
+      let (z, k, ez, e1) = bind-ok (whole (parts utf8 D .codec) 0 b) _ t j e in
+      let w = whole-back (parts utf8 D .codec) (parts utf8 D .law) 0 b z k bs ez in
+      let p : toLayout z ≡ t = cc in
+      subst (λ v. Parsed b v) p (record { bytes = sym (w .bytes); located = ap (λ v. toLayout (v, z .1)) (w .located); legal = (w .legal, w .rest) })
 
-    pub law-fields : Law (fields utf8 D)
-    unfolding fields _then_ times
-    law-fields = law-named _ (law-sized 50 2 _ _ (λ n. law-then _ _ (law-times _ law-entry n) (law-times _ (law-name utf8) n)) (λ n x lg. lg .0 .0) (λ n x. length-bare _ law-entry (x .0))) _ _ (λ x. refl)
+  -- (c): other skipped bytes, with every length still fitting, are read to the same, places apart
+  pub record Reread (t t′ : Layout) : Type 0 where
+    pub accepted : readLayout utf8 D (printLayout utf8 D t′) ≡ ok (locateLayout utf8 D t′) (length (printLayout utf8 D t′))
+    pub same : bareLayout utf8 D (locateLayout utf8 D t′) ≡ bareLayout utf8 D t
 
-    pub law-recordL : Law (recordL utf8 D)
-    unfolding recordL
-    law-recordL = law-named _ (law-section _ (law-then _ _ (law-num 50 2) (law-then _ _ (law-num 50 2) (law-then _ _ (law-num 50 2)
-        (law-then _ _ (law-num 50 8) (law-then _ _ (law-name utf8) law-fields)))))) _ _ (λ x. refl)
+  pub skipped-free : (b : List ℕ) (t t′ : Layout) (j : ℕ) → Bytes b → readLayout utf8 D b ≡ ok t j
+      → bareLayout utf8 D t ≡ bareLayout utf8 D t′ → FitsLayout utf8 D t′ → Reread t t′
+  unfolding LegalLayout bareLayout FitsLayout locateLayout
+  skipped-free b t t′ j bs e same f =
+      let p = print-parse b t j bs e in
+      let q = ap (λ v. fromLayout v .0) same in
+      record {
+        accepted = parse-print t′ (parts utf8 D .law .swap _ _ (p .legal .0) q (f .0), f .1);
+        same = ap (λ v. toLayout (v, [])) (parts utf8 D .law .still 0 (fromLayout t′ .0)) ∙ sym same;
+      }
 
-    pub law-structL : Law (structL utf8 D)
-    unfolding structL
-    law-structL = law-named _ (law-section _ (law-then _ _ (law-num 50 2) (law-then _ _ (law-name utf8) law-fields))) _ _ (λ x. refl)
+  -- every name's text stands at its start
+  pub spots : (b : List ℕ) (t : Layout) (j : ℕ) → Bytes b → readLayout utf8 D b ≡ ok t j → EachName utf8 D (λ n u. take (length u) (drop n b) ≡ u) t
+  unfolding EachName printLayout locateLayout
+  spots b t j bs e =
+      let p = print-parse b t j bs e in
+      subst (λ v. EachName utf8 D (λ n u. take (length u) (drop n b) ≡ u) v) (p .located)
+      (parts utf8 D .law .spotted _ 0 (fromLayout t .0) (λ n u q. rw zero-add (subst (λ v. take (length u) (drop n v) ≡ u) (p .bytes) (part-take (left-part (t .rest) q)))))
 
-    pub law-parts : Law (parts utf8 D)
-    unfolding parts groups
-    law-parts = law-then _ _ (law-num 50 2) (law-then _ _ (law-counted _ law-recordL 50) (law-then _ _ (law-counted _ law-structL 50) (law-counted _ law-labelDef 50)))
+  pub layout-octets : (t : Layout) → LegalLayout utf8 D t → Bytes (printLayout utf8 D t)
+  unfolding LegalLayout printLayout
+  layout-octets t lg = bytes-append (parts utf8 D .codec .print (fromLayout t .0)) (t .rest) (parts utf8 D .law .octets _ (lg .0)) (lg .1)
 
-    -- (a): the bytes of a legal layout are read as that layout, with its places
-    pub parse-print : (t : Layout) → LegalLayout utf8 D t → readLayout utf8 D (printLayout utf8 D t) ≡ ok (locateLayout utf8 D t) (length (printLayout utf8 D t))
-    unfolding readLayout printLayout locateLayout LegalLayout
-    parse-print t lg = rw (whole-reads (parts utf8 D) law-parts 0 _ (t .rest) (lg .0))
-
-    -- (b): what is read is legal, has its places, and is the bytes that were read
-    pub record Parsed (b : List ℕ) (t : Layout) : Type 0 where
-      pub bytes : printLayout utf8 D t ≡ b
-      pub located : locateLayout utf8 D t ≡ t
-      pub legal : LegalLayout utf8 D t
-
-    pub print-parse : (b : List ℕ) (t : Layout) (j : ℕ) → Bytes b → readLayout utf8 D b ≡ ok t j → Parsed b t
-    unfolding readLayout printLayout locateLayout LegalLayout
-    print-parse b t j bs e =
-        let (z, k, ez, e1) = bind-ok (whole (parts utf8 D) 0 b) _ t j e in
-        let w = whole-back (parts utf8 D) law-parts 0 b z k bs ez in
-        let p : toLayout z ≡ t = cc in
-        subst (λ v. Parsed b v) p (record { bytes = sym (w .bytes); located = ap (λ v. toLayout (v, z .1)) (w .located); legal = (w .legal, w .rest) })
-
-    -- (c): other skipped bytes, with every length still fitting, are read to the same, places apart
-    pub record Reread (t t′ : Layout) : Type 0 where
-      pub accepted : readLayout utf8 D (printLayout utf8 D t′) ≡ ok (locateLayout utf8 D t′) (length (printLayout utf8 D t′))
-      pub same : bareLayout utf8 D (locateLayout utf8 D t′) ≡ bareLayout utf8 D t
-
-    pub skipped-free : (b : List ℕ) (t t′ : Layout) (j : ℕ) → Bytes b → readLayout utf8 D b ≡ ok t j
-        → bareLayout utf8 D t ≡ bareLayout utf8 D t′ → FitsLayout utf8 D t′ → Reread t t′
-    unfolding LegalLayout bareLayout FitsLayout locateLayout
-    skipped-free b t t′ j bs e same f =
-        let p = print-parse b t j bs e in
-        let q = ap (λ v. fromLayout v .0) same in
-        record {
-          accepted = parse-print t′ (law-parts .swap _ _ (p .legal .0) q (f .0), f .1);
-          same = ap (λ v. toLayout (v, [])) (law-parts .still 0 (fromLayout t′ .0)) ∙ sym same;
-        }
-
-    -- every name's text stands at its start
-    pub spots : (b : List ℕ) (t : Layout) (j : ℕ) → Bytes b → readLayout utf8 D b ≡ ok t j → EachName utf8 D (λ n u. take (length u) (drop n b) ≡ u) t
-    unfolding EachName printLayout locateLayout
-    spots b t j bs e =
-        let p = print-parse b t j bs e in
-        subst (λ v. EachName utf8 D (λ n u. take (length u) (drop n b) ≡ u) v) (p .located)
-        (law-parts .spotted _ 0 (fromLayout t .0) (λ n u q. rw zero-add (subst (λ v. take (length u) (drop n v) ≡ u) (p .bytes) (part-take (left-part (t .rest) q)))))
-
-    pub layout-octets : (t : Layout) → LegalLayout utf8 D t → Bytes (printLayout utf8 D t)
-    unfolding LegalLayout printLayout
-    layout-octets t lg = bytes-append (parts utf8 D .print (fromLayout t .0)) (t .rest) (law-parts .octets _ (lg .0)) (lg .1)
-
-    pub swap-legal : (b : List ℕ) (t t′ : Layout) (j : ℕ) → Bytes b → readLayout utf8 D b ≡ ok t j
-        → bareLayout utf8 D t ≡ bareLayout utf8 D t′ → FitsLayout utf8 D t′ → LegalLayout utf8 D t′
-    unfolding LegalLayout bareLayout FitsLayout
-    swap-legal b t t′ j bs e same f =
-        (law-parts .swap _ _ (print-parse b t j bs e .legal .0) (ap (λ v. fromLayout v .0) same) (f .0), f .1)
+  pub swap-legal : (b : List ℕ) (t t′ : Layout) (j : ℕ) → Bytes b → readLayout utf8 D b ≡ ok t j
+      → bareLayout utf8 D t ≡ bareLayout utf8 D t′ → FitsLayout utf8 D t′ → LegalLayout utf8 D t′
+  unfolding LegalLayout bareLayout FitsLayout
+  swap-legal b t t′ j bs e same f =
+      (parts utf8 D .law .swap _ _ (print-parse b t j bs e .legal .0) (ap (λ v. fromLayout v .0) same) (f .0), f .1)

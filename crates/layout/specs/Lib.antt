@@ -11,6 +11,4 @@ pub mod Examples
 pub mod Prints
 pub mod Single
 pub mod ReadLaws
-pub mod Moves
-pub mod MoveLaws
 pub mod Standing

@@ -15,7 +15,7 @@ use Rattle.layout.specs.Given.{D, layoutOf}
 use Rattle.layout.specs.Rows.{rows, entryRow, nameRow, fieldRows, recordRows, structRows, labelRow, labelDefRows}
 
 -- a layout of a length that fits is read by its format
-pub layout-whole : (s : List ℕ) → length s ≤ 4294967295 → layoutOf s ≡ (whole (Layout.parts utf8 D) 0 s >>= λ z j. ok (toLayout z) j)
+pub layout-whole : (s : List ℕ) → length s ≤ 4294967295 → layoutOf s ≡ (whole (Layout.parts utf8 D .codec) 0 s >>= λ z j. ok (toLayout z) j)
 unfolding layoutOf Layout.readLayout
 layout-whole s h = rw (le-leb (length s) 4294967295 h)
 

@@ -30,13 +30,13 @@ labelsAt base seen n s at = said (map labelRow) (distinctParse label (λ l. l .c
 
 -- a section's body by its kind: 0 a record, 1 a struct, else a label def
 unfoldable pub recordBody : ℕ → List ℕ → Out
-recordBody base s = said (λ z. recordRows (toRecord (z, []))) (Layout.recordBody utf8 D .parse base s 0)
+recordBody base s = said (λ z. recordRows (toRecord (z, []))) (Layout.recordBody utf8 D .codec .parse base s 0)
 
 unfoldable pub structBody : ℕ → List ℕ → Out
-structBody base s = said (λ z. structRows (toStruct (z, []))) (Layout.structBody utf8 D .parse base s 0)
+structBody base s = said (λ z. structRows (toStruct (z, []))) (Layout.structBody utf8 D .codec .parse base s 0)
 
 unfoldable pub labelBody : ℕ → List ℕ → Out
-labelBody base s = said (λ z. labelDefRows (toLabelDef (z, []))) (Layout.labelBody utf8 .parse base s 0)
+labelBody base s = said (λ z. labelDefRows (toLabelDef (z, []))) (Layout.labelBody utf8 .codec .parse base s 0)
 
 unfoldable pub bodyOf : ℕ → ℕ → List ℕ → Out
 bodyOf kind base s = pick (eqb kind 0) (recordBody base s) (pick (eqb kind 1) (structBody base s) (labelBody base s))
@@ -53,4 +53,4 @@ groupAt kind s at = onGot (u16At s at) λ count p. sectionsAt kind count s p
 
 -- records, structs, label defs
 unfoldable pub groupsAt : List ℕ → ℕ → Out
-groupsAt s at = said (λ z. allRows recordRows (z .0) ++ (allRows structRows (z .1 .0) ++ allRows labelDefRows (z .1 .1))) (Layout.groups utf8 D .parse 0 s at)
+groupsAt s at = said (λ z. allRows recordRows (z .0) ++ (allRows structRows (z .1 .0) ++ allRows labelDefRows (z .1 .1))) (Layout.groups utf8 D .codec .parse 0 s at)

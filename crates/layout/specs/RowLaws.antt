@@ -5,13 +5,13 @@ use mathlib.Core.Bool.{Bool, true, false}
 use mathlib.Core.List.{List, [], _∷_, _++_, map, map-append}
 use lib.ListN.{length}
 use lib.Dec.{eqb}
-use Rattle.codec.specs.Codec.{_then_, ok, Bytes, Codec, padded, num, named, sized, times, timesBare, distinct, counted}
+use Rattle.codec.specs.Codec.{_then_, ok, Bytes, Codec, padded, num, named, sized, times, timesBare, distinct}
 use Rattle.codec.specs.Laws.{length-bare}
 use Rattle.wire.specs.Formats.{name}
 use Rattle.wire.specs.FormatLaws.{section-bare, name-bare}
 use Rattle.layout.specs.Layout.{Fields, RecordL, StructL, LabelDef, Layout, entry, fields, recordL, structL, label, labelDef, parts, groups, readLayout, locateLayout, bareLayout, FitsLayout}
 use Rattle.table.specs.Out.{flat}
-use Rattle.layout.specs.LayoutLaws.{skipped-free, law-entry, law-label}
+use Rattle.layout.specs.LayoutLaws.{skipped-free}
 use Rattle.layout.specs.Rows.{entryRow, nameRow, fieldRows, recordRows, structRows, labelRow, labelDefRows, rows}
 
 abbrev keep : Bool → ℕ → ℕ
@@ -34,41 +34,41 @@ module _ {A : Type 0} (c : Codec A) where
   flat-bare f h (x ∷ xs) = map-append noStart (f x) (flat (map f xs)) ∙ ap₂ _++_ (h x) (flat-bare f h xs)
 
 module _ (utf8 : List ℕ → Bool) (D : ℕ) where
-  fields-bare : (f : Fields) → map noStart (fieldRows f) ≡ fieldRows (fields utf8 D .bare f)
+  fields-bare : (f : Fields) → map noStart (fieldRows f) ≡ fieldRows (fields utf8 D .codec .bare f)
   unfolding fields named sized _then_ times entry padded
   fields-bare f =
       map-append noStart (map entryRow (f .entries)) (map nameRow (f .names))
-      ∙ ap₂ _++_ (map-bare (entry utf8 D) entryRow (λ e. refl) (f .entries)) (map-bare (name utf8) nameRow (λ n. ap nameRow (sym (name-bare utf8 n))) (f .names))
+      ∙ ap₂ _++_ (map-bare (entry utf8 D .codec) entryRow (λ e. refl) (f .entries)) (map-bare (name utf8 .codec) nameRow (λ n. ap nameRow (sym (name-bare utf8 n))) (f .names))
 
-  record-bare : (r : RecordL) → map noStart (recordRows r) ≡ recordRows (recordL utf8 D .bare r)
+  record-bare : (r : RecordL) → map noStart (recordRows r) ≡ recordRows (recordL utf8 D .codec .bare r)
   unfolding recordL named _then_ num fields sized times
   record-bare r =
       rw (section-bare, name-bare utf8 (r .name))
       (ap₂ (λ m rs. (10 ∷ 0 ∷ length (r .name .text) ∷ r .rtype ∷ r .schema ∷ r .base ∷ m ∷ r .hash % 4294967296 ∷ r .hash / 4294967296 ∷ []) ∷ rs)
-      (sym (length-bare _ (law-entry utf8 D) (r .fields .entries))) (fields-bare (r .fields)))
+      (sym (length-bare _ (entry utf8 D .law) (r .fields .entries))) (fields-bare (r .fields)))
 
-  struct-bare : (s : StructL) → map noStart (structRows s) ≡ structRows (structL utf8 D .bare s)
+  struct-bare : (s : StructL) → map noStart (structRows s) ≡ structRows (structL utf8 D .codec .bare s)
   unfolding structL named _then_ num fields sized times
   struct-bare s =
       rw (section-bare, name-bare utf8 (s .name))
       (ap₂ (λ m rs. (13 ∷ 0 ∷ length (s .name .text) ∷ s .size ∷ m ∷ 0 ∷ 0 ∷ 0 ∷ 0 ∷ []) ∷ rs)
-      (sym (length-bare _ (law-entry utf8 D) (s .fields .entries))) (fields-bare (s .fields)))
+      (sym (length-bare _ (entry utf8 D .law) (s .fields .entries))) (fields-bare (s .fields)))
 
-  label-bare : (d : LabelDef) → map noStart (labelDefRows d) ≡ labelDefRows (labelDef utf8 .bare d)
+  label-bare : (d : LabelDef) → map noStart (labelDefRows d) ≡ labelDefRows (labelDef utf8 .codec .bare d)
   unfolding labelDef label named _then_ num sized distinct
   label-bare d =
       rw (section-bare, name-bare utf8 (d .name))
       (ap₂ (λ m rs. (14 ∷ 0 ∷ length (d .name .text) ∷ m ∷ 0 ∷ 0 ∷ 0 ∷ 0 ∷ 0 ∷ []) ∷ rs)
-      (sym (length-bare _ (law-label utf8) (d .labels))) (map-bare (label utf8) labelRow (λ l. rw (name-bare utf8 (l .name))) (d .labels)))
+      (sym (length-bare _ (label utf8 .law) (d .labels))) (map-bare (label utf8 .codec) labelRow (λ l. rw (name-bare utf8 (l .name))) (d .labels)))
 
   pub rows-bare : (t : Layout) → map noStart (rows t) ≡ rows (bareLayout utf8 D t)
-  unfolding rows bareLayout parts groups counted sized times _then_
+  unfolding rows bareLayout parts groups sized times _then_
   rows-bare t =
       map-append noStart (flat (map recordRows (t .records)) ++ flat (map structRows (t .structs))) (flat (map labelDefRows (t .labels)))
       ∙ ap₂ _++_
       (map-append noStart (flat (map recordRows (t .records))) (flat (map structRows (t .structs)))
-      ∙ ap₂ _++_ (flat-bare (recordL utf8 D) recordRows record-bare (t .records)) (flat-bare (structL utf8 D) structRows struct-bare (t .structs)))
-      (flat-bare (labelDef utf8) labelDefRows label-bare (t .labels))
+      ∙ ap₂ _++_ (flat-bare (recordL utf8 D .codec) recordRows record-bare (t .records)) (flat-bare (structL utf8 D .codec) structRows struct-bare (t .structs)))
+      (flat-bare (labelDef utf8 .codec) labelDefRows label-bare (t .labels))
 
   -- (c) for rows: skipped bytes change no row but by its start
   pub skipped-rows : (b : List ℕ) (t t′ : Layout) (j : ℕ) → Bytes b → readLayout utf8 D b ≡ ok t j

@@ -11,14 +11,16 @@ use lib.Seq.{take-take, drop-cons, getD-take, getD-drop}
 use lib.Dec.{leb}
 use borrow.Author.Tests.{le-leb, lt-leb}
 use native.Mathlib.Numerals.{add-one}
-use Rattle.codec.specs.Codec.{Res, ok, refuse, _>>=_, Codec, num, raw, padded, named, _then_, sized, times, timesParse, counted, whole, boxed, timesBare}
+use Rattle.codec.specs.Codec.{Res, ok, refuse, _>>=_, Codec, num, raw, padded, named, _then_, sized, times, timesParse, counted, whole, timesBare}
 use Rattle.codec.specs.Laws.{bind-ok, length-bare}
 use Rattle.codec.specs.Steps.{raw-got, raw-bad, times-length}
 use Rattle.codec.specs.Cases.{by-bool, by-le}
 use Rattle.text.specs.Utf8.{utf8}
 use Rattle.numbers.specs.Pick.{pick}
+use Rattle.codec.specs.Format.{Format}
+use Rattle.wire.specs.Formats
 use Rattle.wire.specs.Formats.{Name, section}
-use Rattle.wire.specs.FormatLaws.{law-name}
+use Rattle.wire.specs.FormatLaws.{section-bare}
 use Rattle.numbers.specs.Numbers.{numAt, u16At, part, le16}
 use Rattle.wire.specs.Wire.{name, nameAt, sectionAt}
 use Rattle.numbers.specs.NumberLaws.{numOf, num-is, num-value, u16-value}
@@ -28,7 +30,6 @@ use Rattle.numbers.specs.declared.Got.{Got}
 use Rattle.numbers.specs.declared.Got.the-variants.{Value, Refused}
 use Rattle.layout.specs.Layout
 use Rattle.layout.specs.Layout.{Entry, Fields, RecordL, StructL, LabelDef, Layout, Parts, toRecord, toStruct, toLayout}
-use Rattle.layout.specs.LayoutLaws.{law-entry, law-labelDef}
 use Rattle.layout.specs.Given.{D, D-least, entry, fields, recordL, structL, labelDef, layoutOf}
 use Rattle.entry.specs.Entry.{entryBytes}
 use Rattle.layout.specs.Rows.{recordRows, structRows, labelDefRows, rows}
@@ -177,7 +178,7 @@ fields-back base s h q {f} {j} eq e =
 
 -- ---- a struct's body, and a record's
 
-pub struct-body : (base : ℕ) (s : List ℕ) {z : ℕ × (Name × Fields)} {k : ℕ} → Layout.structBody utf8 D .parse base s 0 ≡ ok z k → (z .0 ≡ le16 s 0) × FieldsAt s 2 (z .1 .1)
+pub struct-body : (base : ℕ) (s : List ℕ) {z : ℕ × (Name × Fields)} {k : ℕ} → Layout.structBody utf8 D .codec .parse base s 0 ≡ ok z k → (z .0 ≡ le16 s 0) × FieldsAt s 2 (z .1 .1)
 struct-body base s e =
     let (a, e1, r1) = then-back _ _ base s 0 e in
     let (b, e2, r2) = then-back _ _ base s a r1 in
@@ -185,7 +186,7 @@ struct-body base s e =
     let at : a ≡ 2 = omega (arith, w .1) in
     (w .0, fields-back base s 2 b (name-back base s a e2 ∙ ap (countAt s) at) r2)
 
-pub record-body : (base : ℕ) (s : List ℕ) {z : ℕ × (ℕ × (ℕ × (ℕ × (Name × Fields))))} {k : ℕ} → Layout.recordBody utf8 D .parse base s 0 ≡ ok z k
+pub record-body : (base : ℕ) (s : List ℕ) {z : ℕ × (ℕ × (ℕ × (ℕ × (Name × Fields))))} {k : ℕ} → Layout.recordBody utf8 D .codec .parse base s 0 ≡ ok z k
     → (z .0 ≡ le16 s 0) × (z .1 .1 .0 ≡ le16 s 4) × FieldsAt s 14 (z .1 .1 .1 .1 .1)
 record-body base s e =
     let (a, e1, r1) = then-back _ _ base s 0 e in
@@ -209,13 +210,13 @@ pub record Boxed {A : Type 0} (c : Codec A) (s : List ℕ) (at : ℕ) (x : A) (j
   pub two : 2 ≤ le16 s at
   pub inside : at + le16 s at ≤ length s
 
-pub section-back : {A : Type 0} (c : Codec A) (s : List ℕ) (at : ℕ) {z : A × List ℕ} {j : ℕ} → section c .parse 0 s at ≡ ok z j → Boxed c s at (z .0) j
-section-back {A} c s at {z} {j} e = go (sectionAt s at) refl
+pub section-back : {A : Type 0} (F : Format A false) (s : List ℕ) (at : ℕ) {z : A × List ℕ} {j : ℕ} → section F .codec .parse 0 s at ≡ ok z j → Boxed (F .codec) s at (z .0) j
+section-back {A} F s at {z} {j} e = go (sectionAt s at) refl
   where
-    go : (g : Got) → sectionAt s at ≡ g → Boxed c s at (z .0) j
-    go (Refused k) f = absurd (let q = sym (section-bad c s at f) ∙ e in let y : _≡_ {A = ℕ} 0 1 = cc in omega arith)
+    go : (g : Got) → sectionAt s at ≡ g → Boxed (F .codec) s at (z .0) j
+    go (Refused k) f = absurd (let q = sym (section-bad F s at f) ∙ e in let y : _≡_ {A = ℕ} 0 1 = cc in omega arith)
     go (Value b n) f =
-        let (x, m, ex, e1) = bind-ok (c .parse b (part s b n) 0) _ z j (sym (section-got c s at f) ∙ e) in
+        let (x, m, ex, e1) = bind-ok (F .codec .parse b (part s b n) 0) _ z j (sym (section-got F s at f) ∙ e) in
         let w = section-of s at f in
         let v = u16-value s at (w .number) in
         let p : _≡_ {A = A × List ℕ} (x, drop m (part s b n)) z = cc in
@@ -224,8 +225,8 @@ section-back {A} c s at {z} {j} e = go (sectionAt s at) refl
         let en : n ≡ at + le16 s at = omega (arith, v .0, v .1, w .end, w .two) in
         record {
           stop = m;
-          body = subst (λ (y : A). c .parse (at + 2) (part s (at + 2) (at + le16 s at)) 0 ≡ ok y m) (ap (λ (y : A × List ℕ). y .0) p)
-              (subst (λ (a : ℕ). c .parse (at + 2) (part s (at + 2) a) 0 ≡ ok x m) en (subst (λ (a : ℕ). c .parse a (part s a n) 0 ≡ ok x m) eb ex));
+          body = subst (λ (y : A). F .codec .parse (at + 2) (part s (at + 2) (at + le16 s at)) 0 ≡ ok y m) (ap (λ (y : A × List ℕ). y .0) p)
+              (subst (λ (a : ℕ). F .codec .parse (at + 2) (part s (at + 2) a) 0 ≡ ok x m) en (subst (λ (a : ℕ). F .codec .parse a (part s a n) 0 ≡ ok x m) eb ex));
           next = sym q ∙ en;
           two = omega (arith, v .0, w .two);
           inside = omega (arith, w .inside);
@@ -370,7 +371,7 @@ times-at {A} c At s law (suc n) at {xs} {j} e =
 
 counted-at : {A : Type 0} (c : Codec A) (s : List ℕ) (at : ℕ) {xs : List A} {j : ℕ} → counted c 50 .parse 0 s at ≡ ok xs j
     → (at + 2 ≤ length s) × (timesParse c (le16 s at) 0 s (at + 2) ≡ ok xs j)
-unfolding counted sized times
+unfolding sized times
 counted-at c s at {xs} {j} e =
     let (n, p, en, e1) = bind-ok (num 50 2 .parse 0 s at) _ xs j e in
     let w = u16-back 0 s at en in
@@ -402,10 +403,10 @@ layout-at s t j e = by-le (length s) 4294967295 (λ h. go h (rw (le-leb (length 
     no : _≡_ {A = Res Layout} (refuse 13) (ok t j) → ⊥
     no q = let y : _≡_ {A = ℕ} 0 1 = cc in omega arith
 
-    go : length s ≤ 4294967295 → (whole (Layout.parts utf8 D) 0 s >>= λ z k. ok (toLayout z) k) ≡ ok t j → LayoutAt s t
+    go : length s ≤ 4294967295 → (whole (Layout.parts utf8 D .codec) 0 s >>= λ z k. ok (toLayout z) k) ≡ ok t j → LayoutAt s t
     go h q =
-        let (z, k, ez, e1) = bind-ok (whole (Layout.parts utf8 D) 0 s) _ t j q in
-        let (x, m, ex, e2) = bind-ok (Layout.parts utf8 D .parse 0 s 0) _ z k ez in
+        let (z, k, ez, e1) = bind-ok (whole (Layout.parts utf8 D .codec) 0 s) _ t j q in
+        let (x, m, ex, e2) = bind-ok (Layout.parts utf8 D .codec .parse 0 s 0) _ z k ez in
         let pz : _≡_ {A = Parts × List ℕ} (x, drop m s) z = cc in
         let pt : toLayout z ≡ t = cc in
         let (a, e3, r3) = then-back _ _ 0 s 0 ex in
@@ -450,24 +451,24 @@ module _ {B : Type 0} (view : ℕ → ℕ → ℕ → List (List ℕ) → B) whe
 
   fields-bare : (rtype base : ℕ) (f : Fields) → viewed rtype base (fields .bare f) ≡ viewed rtype base f
   unfolding Layout.fields named sized _then_ times Layout.entry padded
-  fields-bare rtype base f = ap₂ (view rtype base) (length-bare _ (law-name utf8) (f .names)) (map-bare entry (λ e. e .head) (λ e. refl) (f .entries))
+  fields-bare rtype base f = ap₂ (view rtype base) (length-bare _ (Formats.name utf8 .law) (f .names)) (map-bare entry (λ e. e .head) (λ e. refl) (f .entries))
 
   struct-bare : (s : StructL) → viewed 0 (structL .bare s .size) (structL .bare s .fields) ≡ viewed 0 (s .size) (s .fields)
-  unfolding Layout.structL named section boxed _then_ num
-  struct-bare s = fields-bare 0 (s .size) (s .fields)
+  unfolding Layout.structL named _then_ num
+  struct-bare s = rw section-bare (fields-bare 0 (s .size) (s .fields))
 
   record-bare : (r : RecordL) → viewed (recordL .bare r .rtype) (recordL .bare r .base) (recordL .bare r .fields) ≡ viewed (r .rtype) (r .base) (r .fields)
-  unfolding Layout.recordL named section boxed _then_ num
-  record-bare r = fields-bare (r .rtype) (r .base) (r .fields)
+  unfolding Layout.recordL named _then_ num
+  record-bare r = rw section-bare (fields-bare (r .rtype) (r .base) (r .fields))
 
-  pub structs-bare : (x : Parts) → map (λ s. viewed 0 (s .size) (s .fields)) (Layout.parts utf8 D .bare x .1 .1 .0) ≡ map (λ s. viewed 0 (s .size) (s .fields)) (x .1 .1 .0)
-  unfolding Layout.parts Layout.groups counted sized times _then_ num
+  pub structs-bare : (x : Parts) → map (λ s. viewed 0 (s .size) (s .fields)) (Layout.parts utf8 D .codec .bare x .1 .1 .0) ≡ map (λ s. viewed 0 (s .size) (s .fields)) (x .1 .1 .0)
+  unfolding Layout.parts Layout.groups sized times _then_ num
   structs-bare x = map-bare structL (λ s. viewed 0 (s .size) (s .fields)) struct-bare (x .1 .1 .0)
 
-  pub records-bare : (x : Parts) → map (λ r. viewed (r .rtype) (r .base) (r .fields)) (Layout.parts utf8 D .bare x .1 .0) ≡ map (λ r. viewed (r .rtype) (r .base) (r .fields)) (x .1 .0)
-  unfolding Layout.parts Layout.groups counted sized times _then_ num
+  pub records-bare : (x : Parts) → map (λ r. viewed (r .rtype) (r .base) (r .fields)) (Layout.parts utf8 D .codec .bare x .1 .0) ≡ map (λ r. viewed (r .rtype) (r .base) (r .fields)) (x .1 .0)
+  unfolding Layout.parts Layout.groups sized times _then_ num
   records-bare x = map-bare recordL (λ r. viewed (r .rtype) (r .base) (r .fields)) record-bare (x .1 .0)
 
-pub labels-bare : (x : Parts) → length (Layout.parts utf8 D .bare x .1 .1 .1) ≡ length (x .1 .1 .1)
-unfolding Layout.parts Layout.groups counted sized times _then_ num
-labels-bare x = length-bare _ (law-labelDef utf8) (x .1 .1 .1)
+pub labels-bare : (x : Parts) → length (Layout.parts utf8 D .codec .bare x .1 .1 .1) ≡ length (x .1 .1 .1)
+unfolding Layout.parts Layout.groups sized times _then_ num
+labels-bare x = length-bare _ (Layout.labelDef utf8 .law) (x .1 .1 .1)

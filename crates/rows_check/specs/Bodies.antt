@@ -14,7 +14,7 @@ use Rattle.numbers.specs.Pick.{pick}
 use Rattle.wire.specs.Wire.{name}
 use Rattle.layout.specs.Given.{D, D-least, entry, fields, label, recordL, structL, labelDef}
 use Rattle.layout.specs.Layout
-use Rattle.wire.specs.Prints.{name-print}
+use Rattle.wire.specs.FormatLaws.{name-print}
 use Rattle.layout.specs.Prints.{entry-print, fields-print, label-print, labelDef-print, labelBody-print, struct-print, structBody-print, record-print, recordBody-print, recordParts, layout-print}
 use Rattle.rows_check.specs.Tree.{cell, byKind, from, after, nameOf, headOf, entryOf, labelOf, fieldsOf, recordOf, structOf, labelDefOf, nextSec, kinds, structsFrom, labelsFrom, treeOf}
 use Rattle.rows_check.specs.Check.{secAt, printed}
@@ -44,13 +44,13 @@ headAt rows q = little 2 (cell rows q 3) ++ (little 2 (cell rows q 4) ++ (little
 -- ---- the bodies of sections
 
 unfoldable pub recordBody : List ℕ → List ℕ → ℕ → List ℕ
-recordBody rows text q = Layout.recordBody utf8 D .print (recordParts utf8 D (recordOf rows text q))
+recordBody rows text q = Layout.recordBody utf8 D .codec .print (recordParts utf8 D (recordOf rows text q))
 
 unfoldable pub structBody : List ℕ → List ℕ → ℕ → List ℕ
-structBody rows text q = Layout.structBody utf8 D .print (cell rows q 3, (nameOf rows text q, fieldsOf rows text (q + 1) (cell rows q 4)))
+structBody rows text q = Layout.structBody utf8 D .codec .print (cell rows q 3, (nameOf rows text q, fieldsOf rows text (q + 1) (cell rows q 4)))
 
 unfoldable pub labelBody : List ℕ → List ℕ → ℕ → List ℕ
-labelBody rows text q = Layout.labelBody utf8 .print (nameOf rows text q, from after (labelOf rows text) (q + 1) (cell rows q 3))
+labelBody rows text q = Layout.labelBody utf8 .codec .print (nameOf rows text q, from after (labelOf rows text) (q + 1) (cell rows q 3))
 
 unfoldable pub bodyAt : ℕ → List ℕ → List ℕ → ℕ → List ℕ
 bodyAt kind rows text q = byKind kind (recordBody rows text q) (structBody rows text q) (labelBody rows text q)

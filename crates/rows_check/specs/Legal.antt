@@ -15,7 +15,7 @@ use Rattle.wire.specs.Wire.{name}
 use Rattle.layout.specs.Given.{D, entry, fields, label, recordL, structL, labelDef}
 use Rattle.wire.specs.Formats.{noNul}
 use Rattle.layout.specs.Layout.{LegalLayout}
-use Rattle.wire.specs.Prints.{name-legal}
+use Rattle.wire.specs.FormatLaws.{name-legal}
 use Rattle.layout.specs.Prints.{label-legal, labelDef-legal, Rising, entry-legal, fields-legal, struct-legal, record-legal, layout-legal}
 use Rattle.rows_check.specs.Tree.{cell, rowCount, from, after, nameOf, headOf, entryOf, labelOf, fieldsOf, recordOf, structOf, labelDefOf, countOf, namesFrom, nextSec, kinds, structsFrom, labelsFrom, treeOf}
 use Rattle.rows_check.specs.Check.{both, every, limitOf, countFits, nameShort, clean, nameClean, rowTest, passes, nameKind, groupsFit, countsFit, secAt, fitsAll, sectionsFit, size, risesAt, fault}

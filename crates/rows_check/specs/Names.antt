@@ -7,7 +7,7 @@ use lib.ListN.{length, take, drop, length-take, length-drop}
 use Rattle.codec.specs.Codec.{Codec, timesEach}
 use Rattle.text.specs.Utf8.{utf8}
 use Rattle.wire.specs.Wire.{name}
-use Rattle.wire.specs.Prints.{name-each}
+use Rattle.wire.specs.FormatLaws.{name-each}
 use Rattle.layout.specs.Given.{D, fields, label, recordL, structL, labelDef}
 use Rattle.layout.specs.Layout.{EachName}
 use Rattle.layout.specs.Prints.{label-each, labelDef-each, fields-each, struct-each, record-each, layout-each}

@@ -142,6 +142,6 @@ ruled-is sheet width s = refl
 seq : ℕ → ℕ → ℕ → List (List ℕ) → Seq
 seq rtype base names es = record { rtype = rtype; base = base; names = names; entries = es }
 
-pub rules-blind : (sheet : List ℕ) (w : ℕ) (x : Parts) → rulesOf sheet w (parts utf8 D .bare x) ≡ rulesOf sheet w x
+pub rules-blind : (sheet : List ℕ) (w : ℕ) (x : Parts) → rulesOf sheet w (parts utf8 D .codec .bare x) ≡ rulesOf sheet w x
 unfolding rulesOf seq
 rules-blind sheet w x = rw (structs-bare seq x, records-bare seq x, labels-bare x)

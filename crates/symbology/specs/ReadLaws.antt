@@ -14,7 +14,7 @@ use Rattle.table.specs.Out.{flat, allRows}
 use Rattle.table.specs.TableLaws.{Wide, wide-append, wide-map, wide-all}
 use Rattle.table.specs.FlatLaws.{flat-length}
 use Rattle.symbology.specs.Symbology
-use Rattle.symbology.specs.Symbology.{Symbology}
+use Rattle.symbology.specs.Symbology.{Symbology, unspanned}
 use Rattle.symbology.specs.SymbologyRows.{symbologyRows, listRow, mappingRows, intervalRow}
 use Rattle.symbology.specs.Lists.{symbologyOf, sectionOf}
 use Rattle.symbology.specs.Answers.{judgeIf, leaveIf, Fives}
@@ -22,17 +22,17 @@ use Rattle.symbology.specs.declared.Listed.{Listed}
 use Rattle.symbology.specs.declared.Listed.the-variants as Listed'
 
 -- a symbology in a block of a length that fits is read by its format
-pub symbology-parse : (width base : ℕ) (s : List ℕ) → base + length s ≤ 4294967295 → symbologyOf width base s ≡ Symbology.symbology utf8 isDate width .parse base s 0
+pub symbology-parse : (width base : ℕ) (s : List ℕ) → base + length s ≤ 4294967295 → symbologyOf width base s ≡ Symbology.symbology utf8 isDate width .codec .parse base s 0
 unfolding symbologyOf
 symbology-parse width base s h = rw (le-leb (base + length s) 4294967295 h)
 
 -- a section of its own, by the format and what it leaves over; other bytes, by the format
 pub section-parse : (width base : ℕ) (s : List ℕ) → base + length s ≤ 4294967295
-    → sectionOf true width base s ≡ (Symbology.symbology utf8 isDate width .parse base s 0 >>= λ t j. need (isNil (drop j s)) 28 j >>= λ _ j. ok t j)
+    → sectionOf true width base s ≡ (Symbology.symbology utf8 isDate width .codec .parse base s 0 >>= λ t j. need (isNil (drop j s)) unspanned j >>= λ _ j. ok t j)
 unfolding sectionOf
 section-parse width base s h = rw (symbology-parse width base s h)
 
-pub rest-parse : (width base : ℕ) (s : List ℕ) → base + length s ≤ 4294967295 → sectionOf false width base s ≡ Symbology.symbology utf8 isDate width .parse base s 0
+pub rest-parse : (width base : ℕ) (s : List ℕ) → base + length s ≤ 4294967295 → sectionOf false width base s ≡ Symbology.symbology utf8 isDate width .codec .parse base s 0
 unfolding sectionOf
 rest-parse width base s h = symbology-parse width base s h
 

@@ -1,9 +1,18 @@
 -- The symbology, as document 01's "Bytes on the wire" has it: the tree that keeps every byte, and the format of each part.
 -- Assumes nothing.
-use Prim.Native.Nat.{ℕ, _+_}
-use mathlib.Core.Bool.{Bool}
+use Prim.Native.Nat.{ℕ, _+_, _≤_}
+use native.Mathlib.Omega.{arith}
+use mathlib.Core.Path.{refl}
+use mathlib.Core.Bool.{Bool, true}
 use mathlib.Core.List.{List}
-use Rattle.codec.specs.Codec.{Res, Codec, raw, num, _then_, named, checked, placed, asks, limited, whole, boxed, full}
+use lib.ListN.{length, length-append}
+use Rattle.codec.specs.Codec as plain
+use Rattle.codec.specs.Laws.{length-little}
+use Rattle.codec.specs.Format.{Format, _then_, named, placed, rawTest, numTest, asks, limited}
+
+-- what refuses a section that its contents do not span
+abbrev pub unspanned : ℕ
+unspanned = 28
 
 -- a symbol is its whole width; `start` is counted from the block
 pub record Symbol : Type 0 where
@@ -39,41 +48,47 @@ toSymbology z = record { symbols = z .0; partial = z .1 .0; notFound = z .1 .1 .
 
 module _ (utf8 : List ℕ → Bool) (isDate : ℕ → Bool) (width : ℕ) where
   -- k where it is cut short, k′ where it is not UTF-8
-  unfoldable pub symbol : ℕ → ℕ → Codec Symbol
-  symbol k k′ = named toSymbol (λ s. (s .start, s .text)) (placed (checked utf8 k′ (raw k width)))
+  unfoldable pub symbol : ℕ → ℕ → Format Symbol true
+  symbol k k′ = named toSymbol (λ s. (s .start, s .text)) (λ x. refl) (placed (rawTest utf8 k′ k width))
+
+  pub symbol-big : (k k′ : ℕ) (x : Symbol) → symbol k k′ .codec .legal x → width ≤ length (symbol k k′ .codec .print x)
+  unfolding symbol plain.named plain.placed plain.checked plain.raw
+  symbol-big k k′ x lg = omega (arith, lg .0 .0)
 
   -- year x 10000 + month x 100 + day in four bytes; k where they are cut short or no date
-  unfoldable pub date : ℕ → Codec ℕ
-  date k = checked isDate k (num k 4)
+  unfoldable pub date : ℕ → Format ℕ true
+  date k = numTest isDate k k 4
 
   -- u32 count, then fixed-width symbols; 30 where the count is missing, 31 where it is too large, 32 where one is not UTF-8
-  unfoldable pub list : Codec (List Symbol)
-  list = limited (symbol 31 32) 30 31 4 width
+  unfoldable pub list : Format (List Symbol) true
+  list = limited (symbol 31 32) 30 31 4 width (symbol-big 31 32)
 
   -- start date, end date, symbol; 38, 39 and 40
-  unfoldable pub interval : Codec Interval
-  interval = named toInterval (λ i. (i .from, (i .to, i .symbol)))
+  unfoldable pub interval : Format Interval true
+  interval = named toInterval (λ i. (i .from, (i .to, i .symbol))) (λ x. refl)
       (date 38 then date 39 then symbol 37 40)
 
+  pub interval-big : (x : Interval) → interval .codec .legal x → width + 8 ≤ length (interval .codec .print x)
+  unfolding interval plain.named plain._then_ date plain.checked plain.num
+  interval-big x lg = simp (length-append, length-little) (omega (arith, symbol-big 37 40 (x .symbol) (lg .1 .1)))
+
   -- raw symbol (36), u32 interval count (37 where it is too large), intervals
-  abbrev pub mappingBody : Codec (Symbol × List Interval)
-  mappingBody = symbol 35 36 then limited interval 35 37 4 (width + 8)
+  abbrev pub mappingBody : Format (Symbol × List Interval) true
+  mappingBody = symbol 35 36 then limited interval 35 37 4 (width + 8) interval-big
+
+  pub body-big : (x : Symbol × List Interval) → mappingBody .codec .legal x → width + 4 ≤ length (mappingBody .codec .print x)
+  unfolding plain._then_ plain.limited
+  body-big x lg = simp (length-append, length-little) (omega (arith, symbol-big 35 36 (x .0) (lg .0)))
 
   -- 35 where symbol and count do not fit, before anything in the item is judged
-  unfoldable pub mapping : Codec Mapping
-  mapping = named toMapping (λ m. (m .rawSymbol, m .intervals)) (asks 35 (width + 4) mappingBody)
+  unfoldable pub mapping : Format Mapping true
+  mapping = named toMapping (λ m. (m .rawSymbol, m .intervals)) (λ x. refl) (asks 35 (width + 4) mappingBody body-big)
+
+  pub mapping-big : (x : Mapping) → mapping .codec .legal x → width + 4 ≤ length (mapping .codec .print x)
+  unfolding mapping plain.named plain.asks
+  mapping-big x lg = body-big (x .rawSymbol, x .intervals) lg
 
   -- lists symbols, partial, not found; then u32 mapping count (33 where it is missing, 34 where it is too large), mappings
-  unfoldable pub symbology : Codec Symbology
-  symbology = named
-      toSymbology
-      (λ s. (s .symbols, (s .partial, (s .notFound, s .mappings))))
-      (list then list then list then limited mapping 33 34 4 (width + 4))
-
-  -- version 4: u32 length and that many bytes, which the contents span; 27 where they run past the end, 28 where some are left
-  unfoldable pub spanned : Codec Symbology
-  spanned = full 28 (boxed 27 27 27 4 0 (λ p. p) (symbology .each) symbology)
-
-  -- below version 4: the contents, and the bytes after them, which are ignored
-  unfoldable pub followed : ℕ → List ℕ → Res (Symbology × List ℕ)
-  followed base s = whole symbology base s
+  unfoldable pub symbology : Format Symbology true
+  symbology = named toSymbology (λ s. (s .symbols, (s .partial, (s .notFound, s .mappings)))) (λ x. refl)
+      (list then list then list then limited mapping 33 34 4 (width + 4) mapping-big)

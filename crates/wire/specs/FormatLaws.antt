@@ -1,67 +1,62 @@
--- The laws of names and sections, from those of their parts. Assumes nothing.
-use Prim.Native.Nat.{ℕ, _+_, _%_}
+-- The laws of names and sections: their places, their bytes, and which of them have bytes. Assumes nothing.
+use Prim.Native.Nat.{ℕ, _+_, _%_, _<_}
 use native.Mathlib.Omega.{arith}
 use mathlib.Core.Path.{_≡_, refl}
-use mathlib.Core.Bool.{Bool}
-use mathlib.Core.List.{List, [], _∷_}
+use mathlib.Core.Bool.{Bool, true, false}
+use mathlib.Core.List.{List, [], _∷_, _++_, append-nil}
 use lib.ListN.{length, length-append}
-use Rattle.codec.specs.Codec.{Codec, raw, byte, _then_, named, checked, placed, sized, boxed}
-use Rattle.codec.specs.Laws.{Law, law-raw, law-byte, law-then, law-named, law-checked, law-placed, law-sized, law-boxed}
-use Rattle.wire.specs.Formats.{Name, section, noNul, text, name}
+use Rattle.codec.specs.Codec.{Bytes, little, raw, byte, named, checked, placed, sized, boxed, _then_}
+use Rattle.codec.specs.Format.{Format}
+use Rattle.wire.specs.Formats.{Name, section, noNul, textOf, text, name}
 
-pub law-section : {A : Type 0} (c : Codec A) → Law c → Law (section c)
-unfolding section
-law-section c lc = law-boxed c lc 50 51 50 2 2 (λ p. p) (c .each) (lc .spotted)
-
-module _ {A : Type 0} (c : Codec A) where
+module _ {A : Type 0} (F : Format A false) where
   -- a section without places and leftovers; the places in it
-  pub section-bare : (z : A × List ℕ) → section c .bare z ≡ (c .bare (z .0), [])
+  pub section-bare : (z : A × List ℕ) → section F .codec .bare z ≡ (F .codec .bare (z .0), [])
   unfolding section boxed
   section-bare z = refl
 
-  pub section-each : (P : ℕ → List ℕ → Type 0) (z : A × List ℕ) → section c .each P z → c .each P (z .0)
+  pub section-each : (P : ℕ → List ℕ → Type 0) (z : A × List ℕ) → section F .codec .each P z → F .codec .each P (z .0)
   unfolding section boxed
   section-each P z e = e
 
-  -- a section's places and bytes
-  pub section-locate : (p : ℕ) (z : A × List ℕ) → section c .locate p z ≡ (c .locate (p + 2) (z .0), z .1)
+  pub section-holds : (P : ℕ → List ℕ → Type 0) (z : A × List ℕ) → F .codec .each P (z .0) → section F .codec .each P z
   unfolding section boxed
-  section-locate p z = refl
+  section-holds P z e = e
 
-  pub section-size : (z : A × List ℕ) → length (section c .print z) ≡ 2 + length (c .print (z .0)) + length (z .1)
+  -- what a section that has bytes tells of its contents
+  pub section-told : (z : A × List ℕ) → section F .codec .legal z → F .codec .legal (z .0)
   unfolding section boxed
-  section-size z = omega (arith, length-append (c .print (z .0)) (z .1))
+  section-told z lg = lg .0
 
-  pub section-legal : (z : A × List ℕ) → section c .legal z → c .legal (z .0)
+  -- a section without leftovers: its bytes, and that it has bytes
+  pub section-print : (x : A) → section F .codec .print (x, []) ≡ little 2 (2 + length (F .codec .print x)) ++ F .codec .print x
   unfolding section boxed
-  section-legal z lg = lg .0
+  section-print x = rw append-nil
+
+  pub section-legal : (x : A) → F .codec .legal x → 2 + length (F .codec .print x) < 65536 → section F .codec .legal (x, [])
+  unfolding section boxed
+  section-legal x lg h = (lg, (λ k. omega arith), rw append-nil h)
 
 module _ (utf8 : List ℕ → Bool) where
-  law-text : Law (text utf8)
-  unfolding text raw checked placed
-  law-text = law-sized 50 1 _ _
-      (λ n. law-placed _ (law-checked _ (law-checked _ (law-raw 50 n) noNul 52 (λ x. refl)) utf8 53 (λ x. refl)))
-      (λ n x lg. lg .0 .0 .0)
-      (λ n x. refl)
-
-  pub law-name : Law (name utf8)
-  unfolding name
-  law-name = law-named _ (law-then _ _ law-text (law-byte 50 54 0)) _ _ (λ x. refl)
-
-  -- a name without its place; its place
-  pub name-bare : (n : Name) → name utf8 .bare n ≡ record { start = 0; text = n .text }
-  unfolding name named _then_ text sized placed checked raw byte
+  -- a name without its place
+  pub name-bare : (n : Name) → name utf8 .codec .bare n ≡ record { start = 0; text = n .text }
+  unfolding name named _then_ text sized textOf placed checked raw byte
   name-bare n = refl
 
-  pub name-each : (P : ℕ → List ℕ → Type 0) (n : Name) → name utf8 .each P n → P (n .start) (n .text)
-  unfolding name named _then_ text sized placed checked raw byte
-  name-each P n e = e .0
+  -- what is said of its place is said of its start
+  pub name-start : (P : ℕ → List ℕ → Type 0) (n : Name) → name utf8 .codec .each P n → P (n .start) (n .text)
+  unfolding name named _then_ text sized textOf placed checked raw byte
+  name-start P n e = e .0
 
-  -- a name's place and bytes
-  pub name-locate : (p : ℕ) (n : Name) → name utf8 .locate p n ≡ record { start = p + 1; text = n .text }
-  unfolding name named _then_ text sized placed checked raw byte
-  name-locate p n = refl
+  pub name-each : (P : ℕ → List ℕ → Type 0) (n : Name) → P (n .start) (n .text) → name utf8 .codec .each P n
+  unfolding name named _then_ text sized textOf placed checked raw byte
+  name-each P n h = (h, tt)
 
-  pub name-size : (n : Name) → length (name utf8 .print n) ≡ length (n .text) + 2
-  unfolding name named _then_ text sized placed checked raw byte
-  name-size n = omega (arith, length-append (length (n .text) % 256 ∷ n .text) (0 ∷ []))
+  -- its bytes, and that it has bytes
+  pub name-print : (n : Name) → name utf8 .codec .print n ≡ little 1 (length (n .text)) ++ (n .text ++ (0 ∷ []))
+  unfolding name named _then_ text sized textOf placed checked raw byte
+  name-print n = refl
+
+  pub name-legal : (n : Name) → length (n .text) < 256 → Bytes (n .text) → noNul (n .text) ≡ true → utf8 (n .text) ≡ true → name utf8 .codec .legal n
+  unfolding name named _then_ text sized textOf placed checked raw byte
+  name-legal n l b c u = ((l, (((refl, b), c), u)), omega arith)

@@ -1,9 +1,7 @@
 pub mod Formats
 pub mod FormatLaws
 pub mod Wire
-pub mod WireLaws
 pub mod NameLaws
 pub mod SectionLaws
 pub mod Steps
-pub mod Prints
 pub mod Single

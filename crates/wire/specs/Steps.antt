@@ -2,15 +2,17 @@
 use Prim.Native.Nat.{ℕ, zero, suc, _+_, _-_, _≤_, _<_}
 use native.Mathlib.Omega.{arith}
 use mathlib.Core.Path.{_≡_, refl, sym, ap, _∙_}
+use mathlib.Core.Bool.{false}
 use mathlib.Core.List.{List, [], _∷_, _++_}
 use lib.ListN.{length, take, drop}
 use Rattle.codec.specs.Codec.{Res, ok, refuse, _>>=_, Codec, named, timesParse}
+use Rattle.codec.specs.Format.{Format}
 use Rattle.numbers.specs.Numbers.{part}
 use Rattle.table.specs.Out.{Out, allRows, said, seq, onGot}
 use Rattle.table.specs.Steps.{seq-ok, seq-no}
 use Rattle.wire.specs.Formats.{Name, section}
 use Rattle.wire.specs.Wire.{name, nameAt, sectionAt}
-use Rattle.wire.specs.NameLaws.{nameOf, name-is, name-length}
+use Rattle.wire.specs.NameLaws.{nameOf, name-is, name-place}
 use Rattle.wire.specs.SectionLaws.{section-got, section-bad}
 use Rattle.numbers.specs.declared.Got.{Got}
 use Rattle.numbers.specs.declared.Got.the-variants.{Value, Refused}
@@ -23,25 +25,25 @@ module _ {A : Type 0} (f : A → List (List ℕ)) (base : ℕ) (s : List ℕ) (a
   said-name c o h = rw (name-is s at base) (go (nameAt s at) refl)
     where
       go : (g : Got) → nameAt s at ≡ g → said f (nameOf base s at g >>= c) ≡ onGot g o
-      go (Value len p) e = h (record { start = base + (at + 1); text = take len (drop (at + 1) s) }) len p refl (name-length s at e)
+      go (Value len p) e = h (record { start = base + (at + 1); text = take len (drop (at + 1) s) }) len p refl (name-place s at e .2)
       go (Refused k) e = refl
 
 -- ---- sections
 
 -- n sections, by their rows
-module _ {A B : Type 0} (c : Codec A) (to : A × List ℕ → B) (from : B → A × List ℕ) (f : B → List (List ℕ)) (same : (x : A) (r : List ℕ) → f (to (x, r)) ≡ f (to (x, []))) (s : List ℕ) where
+module _ {A B : Type 0} (F : Format A false) (to : A × List ℕ → B) (from : B → A × List ℕ) (f : B → List (List ℕ)) (same : (x : A) (r : List ℕ) → f (to (x, r)) ≡ f (to (x, []))) (s : List ℕ) where
   abbrev item : Codec B
-  item = named to from (section c)
+  item = named to from (section F .codec)
 
   pub parts-end : (n at : ℕ) → n ≤ 0 → said (allRows f) (timesParse item n 0 s at) ≡ ok [] at
   parts-end zero at h = refl
   parts-end (suc n) at h = let z : ⊥ = omega arith in absurd z
 
   pub parts-run : (n at : ℕ) {b e : ℕ} → 0 < n → sectionAt s at ≡ Value b e
-      → said (allRows f) (timesParse item n 0 s at) ≡ seq (said (λ x. f (to (x, []))) (c .parse b (part s b e) 0)) (λ _. said (allRows f) (timesParse item (n - 1) 0 s e))
+      → said (allRows f) (timesParse item n 0 s at) ≡ seq (said (λ x. f (to (x, []))) (F .codec .parse b (part s b e) 0)) (λ _. said (allRows f) (timesParse item (n - 1) 0 s e))
   unfolding named
   parts-run zero at h q = let z : ⊥ = omega arith in absurd z
-  parts-run (suc n) at {b} {e} h q = let k : suc n - 1 ≡ n = omega arith in rw (section-got c s at q, k) (go (c .parse b (part s b e) 0))
+  parts-run (suc n) at {b} {e} h q = let k : suc n - 1 ≡ n = omega arith in rw (section-got F s at q, k) (go (F .codec .parse b (part s b e) 0))
     where
       tail : (x : A) (l : List ℕ) (r : Res (List B)) → said (allRows f) (r >>= λ xs k. ok (to (x, l) ∷ xs) k) ≡ (said (allRows f) r >>= λ qs p. ok (f (to (x, [])) ++ qs) p)
       tail x l (ok xs k) = ap (λ v. ok (v ++ allRows f xs) k) (same x l)
@@ -56,4 +58,4 @@ module _ {A B : Type 0} (c : Codec A) (to : A × List ℕ → B) (from : B → A
   pub parts-no : (n at : ℕ) {k : ℕ} → 0 < n → sectionAt s at ≡ Refused k → said (allRows f) (timesParse item n 0 s at) ≡ refuse k
   unfolding named
   parts-no zero at h q = let z : ⊥ = omega arith in absurd z
-  parts-no (suc n) at h q = rw (section-bad c s at q)
+  parts-no (suc n) at h q = rw (section-bad F s at q)

@@ -1,20 +1,37 @@
 // Names and sections at a place of a slice. Any slice and any place get an answer.
 use numbers::Got;
 ghost use mathlib.Core.Path.{_≡_};
-ghost use Prim.Native.Nat.{_+_, _-_, _≤_, _<_};
-ghost use lib.ListN.{length};
+ghost use Prim.Native.Nat.{_+_, _<_};
 ghost use Rattle.codec.specs.Codec.{among};
 ghost use Rattle.numbers.specs.Numbers.{Past};
-ghost use Rattle.wire.specs.Wire.{nameAt, textAt, closeAt, bodyAt, sectionAt, Lies};
+ghost use Rattle.wire.specs.Wire.{nameAt, textFault, sectionAt, Lies};
 
 // The length of the name's text at `at`, which starts one byte later, and the place after its closing NUL.
 pub fn name_at(s: &[u8], at: usize) -> Got
     ensures { λ r. ⌜ (r ≡ nameAt (now (s .entry)) at) × Past 256 2 (now (s .entry)) at r ⌝ }
 {
-    if 1 <= numbers::left(s, at) {
-        text_at(s, at + 1, wide(s[at]))
-    } else {
-        Got::Refused(refusal::LAYOUT_TRUNCATED)
+    if numbers::left(s, at) < 1 {
+        return Got::Refused(refusal::LAYOUT_TRUNCATED);
+    }
+    let len = wide(s[at]);
+    let b = at + 1;
+    if numbers::left(s, b) < len {
+        return Got::Refused(refusal::LAYOUT_TRUNCATED);
+    }
+    let e = b + len;
+    let why = text_fault(&s[b..e]);
+    if why != 0 {
+        return Got::Refused(why);
+    }
+    if numbers::left(s, e) < 1 {
+        return Got::Refused(refusal::LAYOUT_TRUNCATED);
+    }
+    if s[e] != 0 {
+        return Got::Refused(refusal::NAME_NOT_CLOSED);
+    }
+    Got::Value {
+        value: len,
+        next: e + 1,
     }
 }
 
@@ -23,7 +40,19 @@ pub fn section_at(s: &[u8], at: usize) -> Got
     ensures { λ r. ⌜ (r ≡ sectionAt (now (s .entry)) at) × Lies (now (s .entry)) (at + 2) r ⌝ }
 {
     match numbers::u16_at(s, at, refusal::LAYOUT_TRUNCATED) {
-        Got::Value { value, next } => body_at(s, next, value),
+        Got::Value { value, next } => {
+            if value < 2 {
+                return Got::Refused(refusal::SECTION_SHORT);
+            }
+            let n = value - 2;
+            if numbers::left(s, next) < n {
+                return Got::Refused(refusal::LAYOUT_TRUNCATED);
+            }
+            Got::Value {
+                value: next,
+                next: next + n,
+            }
+        }
         Got::Refused(why) => Got::Refused(why),
     }
 }
@@ -42,66 +71,20 @@ pub fn has_nul(s: &[u8]) -> bool
     false
 }
 
-// The byte that closes a name of len bytes.
-fn close_at(s: &[u8], e: usize, len: usize) -> Got
-    requires { ⌜ len < 256 ⌝ }
-    ensures { λ r. ⌜ (r ≡ closeAt (now (s .entry)) e len) × Past 256 1 (now (s .entry)) e r ⌝ }
+// The number that refuses a name's text, or 0. Plain texts, as most are, hold no NUL and are UTF-8.
+fn text_fault(t: &[u8]) -> u32
+    ensures { λ r. ⌜ r ≡ textFault (now (t .entry)) ⌝ }
 {
-    if 1 <= numbers::left(s, e) {
-        if s[e] == 0 {
-            Got::Value {
-                value: len,
-                next: e + 1,
-            }
-        } else {
-            Got::Refused(refusal::NAME_NOT_CLOSED)
-        }
-    } else {
-        Got::Refused(refusal::LAYOUT_TRUNCATED)
+    if plain_text::is_plain(t) {
+        return 0;
     }
-}
-
-// The text of len bytes from b on, and the byte that closes it.
-fn text_at(s: &[u8], b: usize, len: usize) -> Got
-    requires { ⌜ (b ≤ length (now s)) × (len < 256) ⌝ }
-    ensures { λ r. ⌜ (r ≡ textAt (now (s .entry)) b len) × Past 256 1 (now (s .entry)) b r ⌝ }
-{
-    if len <= numbers::left(s, b) {
-        let e = b + len;
-        let t = &s[b..e];
-        if plain_text::is_plain(t) {
-            return close_at(s, e, len);
-        }
-        if has_nul(t) {
-            return Got::Refused(refusal::NAME_HOLDS_NUL);
-        }
-        if text::is_utf8(t) {
-            close_at(s, e, len)
-        } else {
-            Got::Refused(refusal::NAME_NOT_UTF8)
-        }
-    } else {
-        Got::Refused(refusal::LAYOUT_TRUNCATED)
+    if has_nul(t) {
+        return refusal::NAME_HOLDS_NUL;
     }
-}
-
-// The body from b on of a section of this length.
-fn body_at(s: &[u8], b: usize, len: usize) -> Got
-    requires { ⌜ b ≤ length (now s) ⌝ }
-    ensures { λ r. ⌜ (r ≡ bodyAt (now (s .entry)) b len) × Lies (now (s .entry)) b r ⌝ }
-{
-    if 2 <= len {
-        let n = len - 2;
-        if n <= numbers::left(s, b) {
-            Got::Value {
-                value: b,
-                next: b + n,
-            }
-        } else {
-            Got::Refused(refusal::LAYOUT_TRUNCATED)
-        }
+    if text::is_utf8(t) {
+        0
     } else {
-        Got::Refused(refusal::SECTION_SHORT)
+        refusal::NAME_NOT_UTF8
     }
 }
 

@@ -2,7 +2,7 @@
 -- Assumes nothing.
 use native.Mathlib.Omega.{arith}
 use borrow.Author.Needs.{needs}
-use Rattle.wire.specs.WireLaws.{lies-at}
+use Rattle.wire.specs.SectionLaws.{lies-at}
 use Rattle.show_reader.proofs.show_layout.Statement.{statement}
 use Rattle.show_reader.proofs.show_layout.Tie as tie
 

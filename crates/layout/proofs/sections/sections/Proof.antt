@@ -2,7 +2,7 @@ use native.Mathlib.Omega.{arith}
 use borrow.Author.Needs.{needs}
 use mathlib.Core.Path.{sym, _∙_}
 use mathlib.Core.List.{[]}
-use Rattle.wire.specs.WireLaws.{lies-at}
+use Rattle.wire.specs.SectionLaws.{lies-at}
 use Rattle.table.specs.PartLaws.{part-room, part-few}
 use Rattle.layout.proofs.Laws.{sections-run, sections-no, sections-end}
 use Rattle.table.specs.OutLaws.{Going, going, going-run, going-halt, going-no, going-end, ran-at}
