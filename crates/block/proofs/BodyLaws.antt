@@ -14,33 +14,33 @@ use Rattle.layout.specs.Rows.{rows}
 use Rattle.symbology.specs.Symbology.{Symbology}
 use Rattle.symbology.specs.SymbologyRows.{symbologyRows}
 use Rattle.layout.specs.Answers.{leave}
-use Rattle.symbology.specs.ReadLaws.{Was, fives-read, fives-short, fives-no}
-use Rattle.symbology.specs.declared.Listed.{Listed}
-use Rattle.symbology.specs.declared.Listed.the-variants as Listed'
+use Rattle.symbology.specs.ReadLaws.{Was, rows-read, rows-counted, rows-refused}
+use Rattle.symbology.specs.declared.SectionAnswer.{SectionAnswer}
+use Rattle.symbology.specs.declared.SectionAnswer.the-variants as SectionAnswer'
 use Rattle.block.specs.Block.{Header, Block, lengths, header, widthOf, layoutPart, symbologyPart, toBlock, block, blockOf}
 use Rattle.block.specs.Fields.{fieldsWith, fieldsOf}
 use Rattle.block.specs.Read.{fives, nines, roomy, over, blockAnswer, blockSymbology, blockLayout, Promise}
-use Rattle.block.specs.Steps.{Fixed, faultOf, OfHeader, Headed, leaveIf, Layout-read, Lays, lays, lays-no, Lists, Does}
+use Rattle.block.specs.Parts.{Fixed, faultOf, OfHeader, Headed, layoutTable, LayoutRead, LayoutReads, lays, lays-no, SymbologyReads, Does}
 use Rattle.block.specs.declared.MetadataLengths.{MetadataLengths}
 use Rattle.block.specs.declared.Fields.{Fields}
-use Rattle.block.specs.declared.Laid.{Laid}
-use Rattle.block.specs.declared.Laid.the-variants as Laid'
+use Rattle.block.specs.declared.LayoutFound.{LayoutFound}
+use Rattle.block.specs.declared.LayoutFound.the-variants as LayoutFound'
 use Rattle.block.specs.declared.BlockAnswer.{BlockAnswer}
 use Rattle.block.specs.declared.BlockAnswer.the-variants.{Read, Refused, Short}
 use Rattle.block.proofs.HeaderLaws.{headerAt, header-got}
 
 -- ---- what the parts' readers said
 
-pub lays-at : {has : Bool} {sheet : List ℕ} {w : ℕ} {b : List ℕ} {r : Laid} {v n e : ℕ} → Lays has sheet w b r → r ≡ Laid'.Accepted v n e → Layout-read has sheet w b v n e
+pub lays-at : {has : Bool} {sheet : List ℕ} {w : ℕ} {b : List ℕ} {r : LayoutFound} {v n e : ℕ} → LayoutReads has sheet w b r → r ≡ LayoutFound'.Accepted v n e → LayoutRead has sheet w b v n e
 lays-at {has} {sheet} {w} {b} {v = v} {n} {e} h q = go (rw q at h)
   where
-    go : Lays has sheet w b (Laid'.Accepted v n e) → Layout-read has sheet w b v n e
+    go : LayoutReads has sheet w b (LayoutFound'.Accepted v n e) → LayoutRead has sheet w b v n e
     go (lays x) = x
 
-pub lays-bad : {has : Bool} {sheet : List ℕ} {w : ℕ} {b : List ℕ} {r : Laid} {k : ℕ} → Lays has sheet w b r → r ≡ Laid'.Refused k → layoutPart has sheet w .codec .parse 0 b 100 ≡ refuse k
+pub lays-bad : {has : Bool} {sheet : List ℕ} {w : ℕ} {b : List ℕ} {r : LayoutFound} {k : ℕ} → LayoutReads has sheet w b r → r ≡ LayoutFound'.Refused k → layoutPart has sheet w .codec .parse 0 b 100 ≡ refuse k
 lays-bad {has} {sheet} {w} {b} {k = k} h q = go (rw q at h)
   where
-    go : Lays has sheet w b (Laid'.Refused k) → layoutPart has sheet w .codec .parse 0 b 100 ≡ refuse k
+    go : LayoutReads has sheet w b (LayoutFound'.Refused k) → layoutPart has sheet w .codec .parse 0 b 100 ≡ refuse k
     go (lays-no x) = x
 
 -- ---- answers from what was read
@@ -86,23 +86,23 @@ module _ (sheet : List ℕ) (v : MetadataLengths) (b : List ℕ) (w : ℕ) (s l 
   pub body-no : {k : ℕ} → layoutPart (v .«has_layout») sheet w .codec .parse 0 b 100 ≡ refuse k → Does v (whole (block sheet v .codec) 0 b) s l (Refused k) s l
   body-no el = does-no v s l (whole-no sheet v b H w eh (hd .width-is H 100 eh) el)
 
-  module _ {n9 ver at : ℕ} (L : Layout-read (v .«has_layout») sheet w b ver n9 at)
-      {ready : Bool} {s′ : List ℕ} {r : Listed} (S : Lists (v .«has_layout») ready w b at s s′ r) where
-    pub body-bad : {k : ℕ} → r ≡ Listed'.Refused k → Does v (whole (block sheet v .codec) 0 b) s l (Refused k) s′ l
+  module _ {n9 ver at : ℕ} (L : LayoutRead (v .«has_layout») sheet w b ver n9 at)
+      {write : Bool} {s′ : List ℕ} {r : SectionAnswer} (S : SymbologyReads (v .«has_layout») write w b at s s′ r) where
+    pub body-bad : {k : ℕ} → r ≡ SectionAnswer'.Refused k → Does v (whole (block sheet v .codec) 0 b) s l (Refused k) s′ l
     body-bad {k} q =
-        let (e, es) = fives-no (S .fives) q in
+        let (e, es) = rows-refused (S .fives) q in
         rw es (does-no v s l (whole-bad sheet v b H w eh (hd .width-is H 100 eh) (L .is) (S .is ∙ rw e)))
 
     -- the layout table was asked first
-    module _ (er : ready ≡ leb n9 (length l / 9)) where
-      module _ {written : Bool} {n5 : ℕ} (W : Was written ready (S .part) s s′ n5) where
+    module _ (er : write ≡ leb n9 (length l / 9)) where
+      module _ {written : Bool} {n5 : ℕ} (W : Was written write (S .part) s s′ n5) where
         abbrev read : Block
         read = toBlock (H, (L .tree, W .tree))
 
         is : whole (block sheet v .codec) 0 b ≡ ok (read, drop (S .end (W .next)) b) (length b)
         is = whole-ok sheet v b H w eh (hd .width-is H 100 eh) {j = S .end (W .next)} (L .is) (S .is ∙ rw (W .is))
 
-        room9 : ready ≡ leb (length (rows (L .tree))) (length l / 9)
+        room9 : write ≡ leb (length (rows (L .tree))) (length l / 9)
         room9 = rw (L .many) er
 
         room : roomy read (length s) (length l) ≡ written
@@ -118,16 +118,16 @@ module _ (sheet : List ℕ) (v : MetadataLengths) (b : List ℕ) (w : ℕ) (s l 
         unfolding fieldsOf
         fields-is ef = ef H 100 eh ∙ rw (← W .many, ← L .many, ← L .version)
 
-      pub body-short : {n5 : ℕ} → r ≡ Listed'.Short n5 → Does v (whole (block sheet v .codec) 0 b) s l (Short n5 n9) s′ l
+      pub body-short : {n5 : ℕ} → r ≡ SectionAnswer'.Counted n5 → Does v (whole (block sheet v .codec) 0 b) s l (Short n5 n9) s′ l
       body-short {n5} q =
-          let W = fives-short (S .fives) q in
+          let W = rows-counted (S .fives) q in
           rw (W .leaves, ← W .many, ← L .many) (does-short v s l (is W) (room W))
 
-      pub body-read : {n5 j : ℕ} {l′ : List ℕ} {F : Fields} → r ≡ Listed'.Read n5 j → l′ ≡ leaveIf (v .«has_layout») (take (at - 104) (drop 104 b)) l
+      pub body-read : {n5 j : ℕ} {l′ : List ℕ} {F : Fields} → r ≡ SectionAnswer'.Read n5 j → l′ ≡ layoutTable (v .«has_layout») (take (at - 104) (drop 104 b)) l
           → OfHeader v b (λ h. F ≡ fieldsWith v h ver n5 n9) → Does v (whole (block sheet v .codec) 0 b) s l (Read F) s′ l′
       body-read q el ef =
-          let W = fives-read (S .fives) q in
-          does-read v s l (is W) (room W) (sym (room9 W) ∙ first ready _ (W .room)) (W .leaves) (el ∙ L .leaves l) (fields-is W ef)
+          let W = rows-read (S .fives) q in
+          does-read v s l (is W) (room W) (sym (room9 W) ∙ first write _ (W .room)) (W .leaves) (el ∙ L .leaves l) (fields-is W ef)
         where
           first : (x y : Bool) → (x && y) ≡ true → x ≡ true
           first true y e = refl

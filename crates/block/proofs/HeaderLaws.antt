@@ -12,7 +12,7 @@ use Rattle.codec.specs.Steps.{raw-got, num-got, byte-got}
 use Rattle.text.specs.Utf8.{utf8}
 use Rattle.text.specs.Trim.{trimmedLen}
 use Rattle.block.specs.Block.{Header, header, isSchema, isStype, isStypeIn, widthOf}
-use Rattle.block.specs.Steps.{Fixed, faultOf, OfHeader}
+use Rattle.block.specs.Parts.{Fixed, faultOf, OfHeader}
 use Rattle.block.specs.Fields.{fieldsWith, schemaOf, endOf, limitOf, stypeInOf, tsOutOf}
 use Rattle.block.specs.declared.MetadataLengths.{MetadataLengths}
 use Rattle.block.specs.declared.Fields.{Fields}

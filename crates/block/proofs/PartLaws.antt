@@ -19,22 +19,22 @@ use Rattle.dates.specs.Date.{isDate}
 use Rattle.layout.specs.Layout.{Layout, Parts, parts, toLayout, fromLayout}
 use Rattle.layout.specs.Given.{D, layoutOf}
 use Rattle.symbology.specs.Symbology.{Symbology, symbology}
-use Rattle.symbology.specs.Lists.{sectionOf}
+use Rattle.symbology.specs.Reader.{sectionOf}
 use Rattle.layout.specs.Answers.{leave, verdict}
-use Rattle.symbology.specs.Answers.{Fives}
+use Rattle.symbology.specs.Answers.{SectionPromise}
 use Rattle.layout.specs.ReadLaws.{layout-whole, no-rows}
-use Rattle.symbology.specs.ReadLaws.{section-parse, rest-parse, fives-refused}
+use Rattle.symbology.specs.ReadLaws.{section-parse, rest-parse, refused-promise}
 use Rattle.layout.specs.declared.Verdict.the-variants as Verdict'
-use Rattle.symbology.specs.declared.Listed.{Listed}
-use Rattle.symbology.specs.declared.Listed.the-variants as Listed'
+use Rattle.symbology.specs.declared.SectionAnswer.{SectionAnswer}
+use Rattle.symbology.specs.declared.SectionAnswer.the-variants as SectionAnswer'
 use Rattle.rules.specs.Rules.{rulesOf, ruledOf, ruled-is}
 use Rattle.block.specs.Block.{noItems, layoutPart, symbologyPart}
-use Rattle.block.specs.Steps.{spanOf, spanAt, Within, within, outside, sectionAt, leaveIf, Lays, lays, lays-no, Lists}
+use Rattle.block.specs.Parts.{spanOf, spanAt, Within, within, outside, sectionAt, layoutTable, LayoutReads, lays, lays-no, SymbologyReads}
 use Rattle.engines.specs.Verdicts.{verdict-ok, verdict-no, ruled-layout}
 use Rattle.block.specs.declared.Span.{Span}
 use Rattle.block.specs.declared.Span.the-variants.{Part}
 use Rattle.block.specs.declared.Span.the-variants as Span'
-use Rattle.block.specs.declared.Laid.the-variants as Laid'
+use Rattle.block.specs.declared.LayoutFound.the-variants as LayoutFound'
 
 -- ---- spans
 
@@ -127,11 +127,11 @@ module _ {A : Type 0} (why : ℕ) (inner : ℕ → ℕ) (spot : (ℕ → List �
       go (ok n p) = let z : n - 0 ≡ n = omega arith in rw (le-leb 0 n zero-le, z)
       go (refuse k) = refl
 
-  pub box-no : {k : ℕ} → spanAt why b at ≡ Span'.Refused k → boxed why why why 4 0 inner spot c .parse 0 b at ≡ refuse k
-  box-no e = box-is ∙ span-no why b at (λ n p x j. whole c (inner (0 + p)) x >>= λ z _. ok z j) e
+  pub boxed-cut : {k : ℕ} → spanAt why b at ≡ Span'.Refused k → boxed why why why 4 0 inner spot c .parse 0 b at ≡ refuse k
+  boxed-cut e = box-is ∙ span-no why b at (λ n p x j. whole c (inner (0 + p)) x >>= λ z _. ok z j) e
 
-  pub box-ok : {p n : ℕ} → Spanned why b at p n → boxed why why why 4 0 inner spot c .parse 0 b at ≡ (whole c (inner (0 + p)) (take n (drop p b)) >>= λ z _. ok z (p + n))
-  box-ok s = box-is ∙ rw (s .number, s .bytes)
+  pub boxed-read : {p n : ℕ} → Spanned why b at p n → boxed why why why 4 0 inner spot c .parse 0 b at ≡ (whole c (inner (0 + p)) (take n (drop p b)) >>= λ z _. ok z (p + n))
+  boxed-read s = box-is ∙ rw (s .number, s .bytes)
 
 -- ---- the layout part
 
@@ -148,14 +148,14 @@ module _ (sheet : List ℕ) (width : ℕ) (part : List ℕ) where
   abbrev ruling : Layout → ℕ → Res Layout
   ruling l j = need (eqb 0 (rulesOf sheet width (fromLayout l .0))) (rulesOf sheet width (fromLayout l .0)) j >>= λ _ j. ok l j
 
-  some-is : 0 < length part → whole (asks 26 1 (parts utf8 D .codec)) 0 part ≡ whole (parts utf8 D .codec) 0 part
+  asks-met : 0 < length part → whole (asks 26 1 (parts utf8 D .codec)) 0 part ≡ whole (parts utf8 D .codec) 0 part
   unfolding whole asks
-  some-is h = rw (le-leb (0 + 1) (length part) h)
+  asks-met h = rw (le-leb (0 + 1) (length part) h)
 
   pub ruled-part : 0 < length part → length part ≤ 4294967295 → (e : ℕ)
       → ((_>>=_ {B = Z} (whole (asks 26 1 (parts utf8 D .codec)) 0 part >>= λ z _. ok z e) λ x j. need (eqb 0 (rulesOf sheet width (x .0))) (rulesOf sheet width (x .0)) j >>= λ _ j. ok x j) >>= λ x j. ok (toLayout x) j)
       ≡ (ruledOf sheet width part >>= λ l _. ok l e)
-  ruled-part h s e = rw (some-is h, ruled-is sheet width part, layout-whole part s) (go (whole (parts utf8 D .codec) 0 part))
+  ruled-part h s e = rw (asks-met h, ruled-is sheet width part, layout-whole part s) (go (whole (parts utf8 D .codec) 0 part))
     where
       by : (z : Z) (j k : ℕ) (t : Bool) → (_>>=_ {B = Layout} (_>>=_ {B = Z} (need t k e) λ _ j. ok z j) λ x j. ok (toLayout x) j) ≡ ((need t k j >>= λ _ j. ok (toLayout z) j) >>= λ l _. ok l e)
       by z j k true = refl
@@ -167,10 +167,10 @@ module _ (sheet : List ℕ) (width : ℕ) (part : List ℕ) where
       go (refuse k) = refl
 
 module _ (sheet : List ℕ) (width : ℕ) (b : List ℕ) where
-  pub lay-no : (has : Bool) {k : ℕ} → spanAt 24 b 100 ≡ Span'.Refused k → layoutPart has sheet width .codec .parse 0 b 100 ≡ refuse k
+  pub layout-cut : (has : Bool) {k : ℕ} → spanAt 24 b 100 ≡ Span'.Refused k → layoutPart has sheet width .codec .parse 0 b 100 ≡ refuse k
   unfolding layoutPart named judged checked sized
-  lay-no true e = rw (box-no 24 (λ p. 0) (λ P x. Unit {0}) (asks 26 1 (parts utf8 D .codec)) b 100 e)
-  lay-no false {k} e = rw (plain ∙ span-no 24 b 100 (λ n p x j. ok x j) e)
+  layout-cut true e = rw (boxed-cut 24 (λ p. 0) (λ P x. Unit {0}) (asks 26 1 (parts utf8 D .codec)) b 100 e)
+  layout-cut false {k} e = rw (plain ∙ span-no 24 b 100 (λ n p x j. ok x j) e)
     where
       again : (r : Res (List ℕ)) → r ≡ (r >>= λ x j. ok x j)
       again (ok x j) = refl
@@ -187,21 +187,21 @@ module _ (sheet : List ℕ) (width : ℕ) (b : List ℕ) where
     size : length (take n (drop p b)) ≡ n
     size = simp (length-take, length-drop) (omega arith)
 
-    pub lay-26 : n ≡ 0 → layoutPart true sheet width .codec .parse 0 b 100 ≡ refuse 26
+    pub layout-empty-26 : n ≡ 0 → layoutPart true sheet width .codec .parse 0 b 100 ≡ refuse 26
     unfolding layoutPart named judged whole asks
-    lay-26 e = rw (box-ok 24 (λ p. 0) (λ P x. Unit {0}) (asks 26 1 (parts utf8 D .codec)) b 100 s, e)
+    layout-empty-26 e = rw (boxed-read 24 (λ p. 0) (λ P x. Unit {0}) (asks 26 1 (parts utf8 D .codec)) b 100 s, e)
 
-    pub lay-25 : 0 < n → layoutPart false sheet width .codec .parse 0 b 100 ≡ refuse 25
+    pub layout-there-25 : 0 < n → layoutPart false sheet width .codec .parse 0 b 100 ≡ refuse 25
     unfolding layoutPart named checked sized
-    lay-25 h = let z : 0 < length (take n (drop p b)) = omega (arith, size) in rw (s .number, s .bytes, nil-not (take n (drop p b)) z)
+    layout-there-25 h = let z : 0 < length (take n (drop p b)) = omega (arith, size) in rw (s .number, s .bytes, nil-not (take n (drop p b)) z)
 
-    pub lay-none : n ≡ 0 → layoutPart false sheet width .codec .parse 0 b 100 ≡ ok (noItems []) (p + n)
+    pub layout-empty : n ≡ 0 → layoutPart false sheet width .codec .parse 0 b 100 ≡ ok (noItems []) (p + n)
     unfolding layoutPart named checked sized
-    lay-none e = rw (s .number, s .bytes, e)
+    layout-empty e = rw (s .number, s .bytes, e)
 
-    pub lay-ruled : 0 < n → n ≤ 4294967295 → layoutPart true sheet width .codec .parse 0 b 100 ≡ (ruledOf sheet width (take n (drop p b)) >>= λ l _. ok l (p + n))
+    pub layout-ruled : 0 < n → n ≤ 4294967295 → layoutPart true sheet width .codec .parse 0 b 100 ≡ (ruledOf sheet width (take n (drop p b)) >>= λ l _. ok l (p + n))
     unfolding layoutPart named judged
-    lay-ruled h l = rw (box-ok 24 (λ p. 0) (λ P x. Unit {0}) (asks 26 1 (parts utf8 D .codec)) b 100 s)
+    layout-ruled h l = rw (boxed-read 24 (λ p. 0) (λ P x. Unit {0}) (asks 26 1 (parts utf8 D .codec)) b 100 s)
         (ruled-part sheet width (take n (drop p b)) (omega (arith, size)) (omega (arith, size)) (p + n))
 
 module _ (sheet : List ℕ) (width : ℕ) (b : List ℕ) where
@@ -214,16 +214,16 @@ module _ (sheet : List ℕ) (width : ℕ) (b : List ℕ) where
     S : Spanned 24 b 100 p n
     S = spanned 24 b 100 e (w .1)
 
-    pub lays-26 : has ≡ true → n ≡ 0 → Lays has sheet width b (Laid'.Refused 26)
-    lays-26 t z = rw t (lays-no (lay-26 sheet width b S (w .1) z))
+    pub lays-26 : has ≡ true → n ≡ 0 → LayoutReads has sheet width b (LayoutFound'.Refused 26)
+    lays-26 t z = rw t (lays-no (layout-empty-26 sheet width b S (w .1) z))
 
-    pub lays-25 : has ≡ false → 0 < n → Lays has sheet width b (Laid'.Refused 25)
-    lays-25 t z = rw t (lays-no (lay-25 sheet width b S (w .1) z))
+    pub lays-25 : has ≡ false → 0 < n → LayoutReads has sheet width b (LayoutFound'.Refused 25)
+    lays-25 t z = rw t (lays-no (layout-there-25 sheet width b S (w .1) z))
 
-    pub lays-none : has ≡ false → n ≡ 0 → Lays has sheet width b (Laid'.Accepted 0 0 (p + n))
+    pub lays-none : has ≡ false → n ≡ 0 → LayoutReads has sheet width b (LayoutFound'.Accepted 0 0 (p + n))
     lays-none t z = rw t (lays (record {
       tree = noItems [];
-      is = lay-none sheet width b S (w .1) z;
+      is = layout-empty sheet width b S (w .1) z;
       from = omega (arith, w .0);
       to = w .1;
       leaves = λ l. rw (no-rows 0 [], le-leb 0 (length l / 9) zero-le);
@@ -233,12 +233,12 @@ module _ (sheet : List ℕ) (width : ℕ) (b : List ℕ) where
 
     module _ (t : has ≡ true) (some′ : 0 < n) where
       ruled : layoutPart true sheet width .codec .parse 0 b 100 ≡ (ruledOf sheet width (take n (drop p b)) >>= λ l _. ok l (p + n))
-      ruled = lay-ruled sheet width b S (w .1) some′ (omega (arith, w .1))
+      ruled = layout-ruled sheet width b S (w .1) some′ (omega (arith, w .1))
 
-      pub lays-bad : {k : ℕ} → Verdict'.Refused k ≡ verdict (ruledOf sheet width (take (p + n - p) (drop p b))) → Lays has sheet width b (Laid'.Refused k)
+      pub lays-bad : {k : ℕ} → Verdict'.Refused k ≡ verdict (ruledOf sheet width (take (p + n - p) (drop p b))) → LayoutReads has sheet width b (LayoutFound'.Refused k)
       lays-bad {k} q = rw t (lays-no {k = k} (ruled ∙ rw (verdict-no (ruledOf sheet width (take n (drop p b))) (rw (slice p n b) at q))))
 
-      leaves-is : (l : Layout) (i : ℕ) → layoutOf (take n (drop p b)) ≡ ok l i → (x : List ℕ) → leaveIf true (take (p + n - 104) (drop 104 b)) x ≡ leave x (ok l (p + n))
+      leaves-is : (l : Layout) (i : ℕ) → layoutOf (take n (drop p b)) ≡ ok l i → (x : List ℕ) → layoutTable true (take (p + n - 104) (drop 104 b)) x ≡ leave x (ok l (p + n))
       leaves-is l i e x =
           let q : p ≡ 104 = start-is (omega (arith, w .0, w .1)) S in
           let z : p + n - 104 ≡ n = omega arith in
@@ -247,11 +247,11 @@ module _ (sheet : List ℕ) (width : ℕ) (b : List ℕ) where
       is-ok : (l : Layout) (j : ℕ) → ruledOf sheet width (take n (drop p b)) ≡ ok l j → layoutPart true sheet width .codec .parse 0 b 100 ≡ ok l (p + n)
       is-ok l j el = ruled ∙ rw el
 
-      pub lays-ok : {v m : ℕ} → Verdict'.Accepted v m ≡ verdict (ruledOf sheet width (take (p + n - p) (drop p b))) → Lays has sheet width b (Laid'.Accepted v m (p + n))
+      pub lays-ok : {v m : ℕ} → Verdict'.Accepted v m ≡ verdict (ruledOf sheet width (take (p + n - p) (drop p b))) → LayoutReads has sheet width b (LayoutFound'.Accepted v m (p + n))
       lays-ok {v} {m} q =
           let (l, j, el, ev, em) = verdict-ok (ruledOf sheet width (take n (drop p b))) (rw (slice p n b) at q) in
           let (i, e1) = ruled-layout sheet width (take n (drop p b)) l j el in
-          subst (λ (h : Bool). Lays h sheet width b (Laid'.Accepted v m (p + n))) (sym t) (lays {v = v} {n = m} {e = p + n} (record {
+          subst (λ (h : Bool). LayoutReads h sheet width b (LayoutFound'.Accepted v m (p + n))) (sym t) (lays {v = v} {n = m} {e = p + n} (record {
             tree = l;
             is = is-ok l j el;
             from = omega (arith, w .0);
@@ -264,18 +264,18 @@ module _ (sheet : List ℕ) (width : ℕ) (b : List ℕ) where
 -- ---- the symbology part
 
 module _ (width : ℕ) (b : List ℕ) (at : ℕ) where
-  pub lists-span : (has : Bool) {ready : Bool} {t : List ℕ} {k : ℕ} → sectionAt has b at ≡ Span'.Refused k → Lists has ready width b at t t (Listed'.Refused k)
+  pub symbology-cut : (has : Bool) {write : Bool} {t : List ℕ} {k : ℕ} → sectionAt has b at ≡ Span'.Refused k → SymbologyReads has write width b at t t (SectionAnswer'.Refused k)
   unfolding symbologyPart full
-  lists-span true {k = k} e = record { part = refuse k; end = λ j. j; is = rw (box-no 27 (λ p. p) (symbology utf8 isDate width .codec .each) (symbology utf8 isDate width .codec) b at e); fives = fives-refused }
-  lists-span false e = absurd (let z : _≡_ {A = ℕ} 0 1 = cc in omega arith)
+  symbology-cut true {k = k} e = record { part = refuse k; end = λ j. j; is = rw (boxed-cut 27 (λ p. p) (symbology utf8 isDate width .codec .each) (symbology utf8 isDate width .codec) b at e); fives = refused-promise }
+  symbology-cut false e = absurd (let z : _≡_ {A = ℕ} 0 1 = cc in omega arith)
 
   module _ (small : length b ≤ 4294967295) where
-    list-section : {p n : ℕ} → Spanned 27 b at p n → p + n ≤ length b → symbologyPart true width .codec .parse 0 b at ≡ (sectionOf true width p (take n (drop p b)) >>= λ x _. ok x (p + n))
+    symbology-section : {p n : ℕ} → Spanned 27 b at p n → p + n ≤ length b → symbologyPart true width .codec .parse 0 b at ≡ (sectionOf true width p (take n (drop p b)) >>= λ x _. ok x (p + n))
     unfolding symbologyPart full whole
-    list-section {p} {n} s h =
+    symbology-section {p} {n} s h =
         let part : List ℕ = take n (drop p b) in
         let l : length part ≡ n = simp (length-take, length-drop) (omega arith) in
-        rw (box-ok 27 (λ p. p) (symbology utf8 isDate width .codec .each) (symbology utf8 isDate width .codec) b at s, zero-add p, section-parse width p part (omega arith))
+        rw (boxed-read 27 (λ p. p) (symbology utf8 isDate width .codec .each) (symbology utf8 isDate width .codec) b at s, zero-add p, section-parse width p part (omega arith))
         (go part (symbology utf8 isDate width .codec .parse p part 0))
       where
         by : (x : Symbology) (j : ℕ) (y : Bool) → (need y 28 (p + n) >>= λ _ m. ok x m) ≡ ((need y 28 j >>= λ _ m. ok x m) >>= λ x _. ok x (p + n))
@@ -288,14 +288,14 @@ module _ (width : ℕ) (b : List ℕ) (at : ℕ) where
         go part (ok x j) = by x j (isNil (drop j part))
         go part (refuse k) = refl
 
-    list-rest : at ≤ length b → symbologyPart false width .codec .parse 0 b at ≡ (sectionOf false width at (drop at b) >>= λ x j. ok x (at + j))
+    symbology-rest : at ≤ length b → symbologyPart false width .codec .parse 0 b at ≡ (sectionOf false width at (drop at b) >>= λ x j. ok x (at + j))
     unfolding symbologyPart remainder
-    list-rest h = rw (zero-add at, rest-parse width at (drop at b) (simp length-drop (omega arith)))
+    symbology-rest h = rw (zero-add at, rest-parse width at (drop at b) (simp length-drop (omega arith)))
 
     -- one law for both: the bytes from p up to p + n
     module _ (has : Bool) {p n : ℕ} (e : sectionAt has b at ≡ Part p n) (w : (at ≤ p) × (p + n ≤ length b)) where
       section-is : has ≡ true → symbologyPart has width .codec .parse 0 b at ≡ (sectionOf has width p (take (p + n - p) (drop p b)) >>= λ x _. ok x (p + n))
-      section-is y = rw (y, slice p n b) (list-section (spanned 27 b at (rw y at e) (w .1)) (w .1))
+      section-is y = rw (y, slice p n b) (symbology-section (spanned 27 b at (rw y at e) (w .1)) (w .1))
 
       rest-is : has ≡ false → symbologyPart has width .codec .parse 0 b at ≡ (sectionOf has width p (take (p + n - p) (drop p b)) >>= λ x j. ok x (at + j))
       rest-is y =
@@ -303,9 +303,9 @@ module _ (width : ℕ) (b : List ℕ) (at : ℕ) where
           let ap′ : at ≡ p = cc in
           let an : length b - at ≡ n = cc in
           let l : length (drop at b) ≡ n = length-drop at b ∙ an in
-          rw (y, slice p n b, ← ap′, take-all n (drop at b) (omega (arith, l))) (list-rest (omega (arith, w .0, w .1)))
+          rw (y, slice p n b, ← ap′, take-all n (drop at b) (omega (arith, l))) (symbology-rest (omega (arith, w .0, w .1)))
 
-      pub lists-part : {ready : Bool} {t t′ : List ℕ} {r : Listed} → Fives ready (sectionOf has width p (take (p + n - p) (drop p b))) t t′ r → Lists has ready width b at t t′ r
-      lists-part f = by-bool has
+      pub symbology-reads : {write : Bool} {t t′ : List ℕ} {r : SectionAnswer} → SectionPromise write (sectionOf has width p (take (p + n - p) (drop p b))) t t′ r → SymbologyReads has write width b at t t′ r
+      symbology-reads f = by-bool has
           (λ y. record { part = sectionOf has width p (take (p + n - p) (drop p b)); end = λ _. p + n; is = section-is y; fives = f })
           (λ y. record { part = sectionOf has width p (take (p + n - p) (drop p b)); end = λ j. at + j; is = rest-is y; fives = f })

@@ -2,6 +2,6 @@ pub mod Block
 pub mod Fields
 pub mod Read
 pub mod BlockLaws
-pub mod Steps
+pub mod Parts
 pub mod Single
 pub mod Examples

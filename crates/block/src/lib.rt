@@ -6,7 +6,7 @@ ghost use mathlib.Core.Path.{_≡_};
 ghost use Rattle.codec.specs.Codec.{whole};
 ghost use Rattle.block.specs.Block as Block;
 ghost use Rattle.block.specs.Read.{Promise};
-ghost use Rattle.block.specs.Steps.{Headed, Does};
+ghost use Rattle.block.specs.Parts.{Headed, Does};
 
 // What may be absent.
 pub enum Optional {
@@ -53,7 +53,7 @@ pub struct MetadataLengths {
 }
 
 // The layout part: its version, its rows and the place after it; or the refusal.
-enum Laid {
+enum LayoutFound {
     Accepted {
         version: usize,
         rows: usize,
@@ -108,27 +108,27 @@ fn read_body(
 {
     let has_layout = v.has_layout;
     match parts::layout_part(block, has_layout, width, sheet) {
-        Laid::Accepted {
+        LayoutFound::Accepted {
             version,
             rows: nines,
             end: at,
         } => {
-            let ready = nines <= layout.len() / 9;
-            match parts::symbology_part(block, at, has_layout, width, ready, symbology) {
-                symbology::Listed::Read {
+            let write = nines <= layout.len() / 9;
+            match parts::symbology_part(block, at, has_layout, width, write, symbology) {
+                symbology::SectionAnswer::Read {
                     rows: fives,
                     next: _,
                 } => {
                     parts::put_layout(block, has_layout, at, layout);
                     BlockAnswer::Read(header::fields_of(block, v, version, fives, nines))
                 }
-                symbology::Listed::Short(fives) => BlockAnswer::Short {
+                symbology::SectionAnswer::Counted(fives) => BlockAnswer::Short {
                     symbology: fives,
                     layout: nines,
                 },
-                symbology::Listed::Refused(why) => BlockAnswer::Refused(why),
+                symbology::SectionAnswer::Refused(why) => BlockAnswer::Refused(why),
             }
         }
-        Laid::Refused(why) => BlockAnswer::Refused(why),
+        LayoutFound::Refused(why) => BlockAnswer::Refused(why),
     }
 }

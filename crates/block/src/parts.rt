@@ -1,73 +1,78 @@
 // What follows the header: the layout part and the symbology part.
-use super::Laid;
+use super::LayoutFound;
 use super::Span;
 use super::header;
-use symbology::Listed;
+use symbology::SectionAnswer;
 ghost use mathlib.Core.Path.{_≡_};
 ghost use Prim.Native.Nat.{_+_, _-_, _≤_};
 ghost use lib.ListN.{length, take, drop};
-ghost use Rattle.block.specs.Steps.{spanAt, Within, sectionAt, leaveIf, Lays, Lists};
+ghost use Rattle.block.specs.Parts.{spanAt, Within, sectionAt, layoutTable, LayoutReads, SymbologyReads};
 
 // The layout part at byte 100: read and ruled on in version 4, empty below.
-pub(crate) fn layout_part(block: &[u8], has_layout: bool, width: u16, sheet: &[u16; 520]) -> Laid
+pub(crate) fn layout_part(
+    block: &[u8],
+    has_layout: bool,
+    width: u16,
+    sheet: &[u16; 520],
+) -> LayoutFound
     requires { ⌜ (100 ≤ length (now block)) × (length (now block) ≤ 4294967295) ⌝ }
-    ensures { λ r. ⌜ Lays «has_layout» (now (sheet .entry)) width (now (block .entry)) r ⌝ }
+    ensures { λ r. ⌜ LayoutReads «has_layout» (now (sheet .entry)) width (now (block .entry)) r ⌝ }
 {
     match span_at(block, 100, refusal::LAYOUT_PAST_END) {
         Span::Part { start, len } => {
             let end = start + len;
             if has_layout {
                 if len == 0 {
-                    return Laid::Refused(refusal::NO_LAYOUT);
+                    return LayoutFound::Refused(refusal::NO_LAYOUT);
                 }
                 let part = &block[start..end];
                 match engines::check_layout(part, width, sheet) {
                     layout::Verdict::Accepted { version, rows } => {
-                        Laid::Accepted { version, rows, end }
+                        LayoutFound::Accepted { version, rows, end }
                     }
-                    layout::Verdict::Refused(why) => Laid::Refused(why),
+                    layout::Verdict::Refused(why) => LayoutFound::Refused(why),
                 }
             } else {
                 if len == 0 {
-                    return Laid::Accepted {
+                    return LayoutFound::Accepted {
                         version: 0,
                         rows: 0,
                         end,
                     };
                 }
-                Laid::Refused(refusal::LAYOUT_BELOW_4)
+                LayoutFound::Refused(refusal::LAYOUT_BELOW_4)
             }
         }
-        Span::Refused(why) => Laid::Refused(why),
+        Span::Refused(why) => LayoutFound::Refused(why),
     }
 }
 
-// The symbology part from `at` on, its rows in the table where `ready` holds. In version 4 the contents span the section.
+// The symbology part from `at` on, its rows in the table where `write` holds. In version 4 the contents span the section.
 pub(crate) fn symbology_part(
     block: &[u8],
     at: usize,
     has_layout: bool,
     width: u16,
-    ready: bool,
+    write: bool,
     table: &mut [u32],
-) -> Listed
+) -> SectionAnswer
     requires { ⌜ (at ≤ length (now block)) × (length (now block) ≤ 4294967295) ⌝ }
-    ensures { λ r. ⌜ Lists «has_layout» ready width (now (block .entry)) at (now (table .entry)) (now (table .exit)) r ⌝ }
+    ensures { λ r. ⌜ SymbologyReads «has_layout» write width (now (block .entry)) at (now (table .entry)) (now (table .exit)) r ⌝ }
 {
     match section_at(block, at, has_layout) {
         Span::Part { start, len } => {
             let end = start + len;
             let part = &block[start..end];
-            symbology::read_section_rows(part, start, width, has_layout, ready, table)
+            symbology::read_section_rows(part, start, width, has_layout, write, table)
         }
-        Span::Refused(why) => Listed::Refused(why),
+        Span::Refused(why) => SectionAnswer::Refused(why),
     }
 }
 
 // The rows of the layout part that ends at `end`, in the table, where the version has a layout.
 pub(crate) fn put_layout(block: &[u8], has_layout: bool, end: usize, table: &mut [u32])
     requires { ⌜ (104 ≤ end) × (end ≤ length (now block)) ⌝ }
-    ensures { λ _. ⌜ now (table .exit) ≡ leaveIf «has_layout» (take (end - 104) (drop 104 (now (block .entry)))) (now (table .entry)) ⌝ }
+    ensures { λ _. ⌜ now (table .exit) ≡ layoutTable «has_layout» (take (end - 104) (drop 104 (now (block .entry)))) (now (table .entry)) ⌝ }
 {
     if has_layout {
         let start = 104;

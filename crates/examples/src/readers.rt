@@ -6,7 +6,7 @@ use block::BlockAnswer;
 use block::Fields;
 use layout::Answer;
 use layout::Verdict;
-use symbology::Listed;
+use symbology::SectionAnswer;
 ghost use Prim.Native.Nat.{_≤_};
 
 // A block of a case: its fields and rows, the rows needed, or the refusal.
@@ -55,12 +55,12 @@ pub(crate) fn symbology(s: &[u8]) {
     let base = bytes::u16_at(s, 2) as usize;
     let mut table = [0u32; 2560];
     match symbology::read_section_rows(bytes::from(s, 4), base, width, false, true, &mut table) {
-        Listed::Read { rows, next } => {
+        SectionAnswer::Read { rows, next } => {
             show::read(next, rows);
             show::rows(&[], &table, 5, rows);
         }
-        Listed::Short(rows) => show::short(rows),
-        Listed::Refused(why) => show::refused(why),
+        SectionAnswer::Counted(rows) => show::short(rows),
+        SectionAnswer::Refused(why) => show::refused(why),
     }
 }
 

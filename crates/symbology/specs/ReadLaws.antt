@@ -16,10 +16,10 @@ use Rattle.table.specs.FlatLaws.{flat-length}
 use Rattle.symbology.specs.Symbology
 use Rattle.symbology.specs.Symbology.{Symbology, unspanned}
 use Rattle.symbology.specs.SymbologyRows.{symbologyRows, listRow, mappingRows, intervalRow}
-use Rattle.symbology.specs.Lists.{symbologyOf, sectionOf}
-use Rattle.symbology.specs.Answers.{judgeIf, leaveIf, Fives}
-use Rattle.symbology.specs.declared.Listed.{Listed}
-use Rattle.symbology.specs.declared.Listed.the-variants as Listed'
+use Rattle.symbology.specs.Reader.{symbologyOf, sectionOf}
+use Rattle.symbology.specs.Answers.{sectionAnswer, sectionTable, SectionPromise}
+use Rattle.symbology.specs.declared.SectionAnswer.{SectionAnswer}
+use Rattle.symbology.specs.declared.SectionAnswer.the-variants as SectionAnswer'
 
 -- a symbology in a block of a length that fits is read by its format
 pub symbology-parse : (width base : ℕ) (s : List ℕ) → base + length s ≤ 4294967295 → symbologyOf width base s ≡ Symbology.symbology utf8 isDate width .codec .parse base s 0
@@ -36,9 +36,9 @@ pub rest-parse : (width base : ℕ) (s : List ℕ) → base + length s ≤ 42949
 unfolding sectionOf
 rest-parse width base s h = symbology-parse width base s h
 
-pub rows-five : (t : Symbology) → Wide 5 (symbologyRows t)
+pub rows-of-five : (t : Symbology) → Wide 5 (symbologyRows t)
 unfolding symbologyRows
-rows-five t =
+rows-of-five t =
     wide-append 5 (map (listRow 0) (t .symbols) ++ map (listRow 1) (t .partial) ++ map (listRow 2) (t .notFound)) (allRows mappingRows (t .mappings))
     (wide-append 5 (map (listRow 0) (t .symbols) ++ map (listRow 1) (t .partial)) (map (listRow 2) (t .notFound))
     (wide-append 5 (map (listRow 0) (t .symbols)) (map (listRow 1) (t .partial)) (wide-map 5 (listRow 0) (λ s. refl) (t .symbols)) (wide-map 5 (listRow 1) (λ s. refl) (t .partial)))
@@ -47,55 +47,57 @@ rows-five t =
 
 -- the rows, one after the other, are five numbers each
 pub symbology-flat : (t : Symbology) → length (flat (symbologyRows t)) ≡ 5 * length (symbologyRows t)
-symbology-flat t = flat-length 5 (symbologyRows t) (rows-five t)
+symbology-flat t = flat-length 5 (symbologyRows t) (rows-of-five t)
 
 -- ---- what an answer says
 
 -- what was read has n rows, and whether they were written
-pub record Was (written ready : Bool) (z : Res Symbology) (t t′ : List ℕ) (n : ℕ) : Type 0 where
+pub record Was (written write : Bool) (z : Res Symbology) (t t′ : List ℕ) (n : ℕ) : Type 0 where
   pub tree : Symbology
   pub next : ℕ
   pub is : z ≡ ok tree next
   pub many : length (symbologyRows tree) ≡ n
-  pub room : (ready && leb (length (symbologyRows tree)) (length t / 5)) ≡ written
+  pub room : (write && leb (length (symbologyRows tree)) (length t / 5)) ≡ written
   pub leaves : t′ ≡ pick written (flat (symbologyRows tree) ++ drop (5 * length (symbologyRows tree)) t) t
 
-data Says (ready : Bool) (z : Res Symbology) (t t′ : List ℕ) : Listed → Type 0 where
-  read : {n j : ℕ} → Was true ready z t t′ n → Says ready z t t′ (Listed'.Read n j)
-  short : {n : ℕ} → Was false ready z t t′ n → Says ready z t t′ (Listed'.Short n)
-  no : {k : ℕ} → z ≡ refuse k → t′ ≡ t → Says ready z t t′ (Listed'.Refused k)
+data Says (write : Bool) (z : Res Symbology) (t t′ : List ℕ) : SectionAnswer → Type 0 where
+  read : {n j : ℕ} → Was true write z t t′ n → Says write z t t′ (SectionAnswer'.Read n j)
+  short : {n : ℕ} → Was false write z t t′ n → Says write z t t′ (SectionAnswer'.Counted n)
+  no : {k : ℕ} → z ≡ refuse k → t′ ≡ t → Says write z t t′ (SectionAnswer'.Refused k)
 
-module _ {ready : Bool} {z : Res Symbology} {t t′ : List ℕ} {r r′ : Listed} (f : Fives ready z t t′ r) (e : r ≡ r′) where
-  says : Says ready z t t′ r′
-  says = subst (Says ready z t t′) (sym (f .is) ∙ e) (go z (f .leaves))
+module _ {write : Bool} {z : Res Symbology} {t t′ : List ℕ} {r r′ : SectionAnswer} (f : SectionPromise write z t t′ r) (e : r ≡ r′) where
+  says : Says write z t t′ r′
+  unfolding sectionAnswer sectionTable
+  says = subst (Says write z t t′) (sym (f .is) ∙ e) (go z (f .leaves))
     where
-      by : (x : Symbology) (j : ℕ) (b : Bool) → (ready && leb (length (symbologyRows x)) (length t / 5)) ≡ b → t′ ≡ pick b (flat (symbologyRows x) ++ drop (5 * length (symbologyRows x)) t) t
-          → Says ready (ok x j) t t′ (pick b (Listed'.Read (length (symbologyRows x)) j) (Listed'.Short (length (symbologyRows x))))
+      by : (x : Symbology) (j : ℕ) (b : Bool) → (write && leb (length (symbologyRows x)) (length t / 5)) ≡ b → t′ ≡ pick b (flat (symbologyRows x) ++ drop (5 * length (symbologyRows x)) t) t
+          → Says write (ok x j) t t′ (pick b (SectionAnswer'.Read (length (symbologyRows x)) j) (SectionAnswer'.Counted (length (symbologyRows x))))
       by x j true q l = read {j = j} (record { tree = x; next = j; is = refl; many = refl; room = q; leaves = l })
       by x j false q l = short (record { tree = x; next = j; is = refl; many = refl; room = q; leaves = l })
 
-      go : (z : Res Symbology) → t′ ≡ leaveIf ready t z → Says ready z t t′ (judgeIf ready (length t / 5) z)
-      go (ok x j) l = by x j (ready && leb (length (symbologyRows x)) (length t / 5)) refl l
+      go : (z : Res Symbology) → t′ ≡ sectionTable write t z → Says write z t t′ (sectionAnswer write (length t / 5) z)
+      go (ok x j) l = by x j (write && leb (length (symbologyRows x)) (length t / 5)) refl l
       go (refuse k) l = no {k = k} refl l
 
-module _ {ready : Bool} {z : Res Symbology} {t t′ : List ℕ} {r : Listed} (f : Fives ready z t t′ r) where
-  pub fives-read : {n j : ℕ} → r ≡ Listed'.Read n j → Was true ready z t t′ n
-  fives-read {n} {j} e = go (says f e)
+module _ {write : Bool} {z : Res Symbology} {t t′ : List ℕ} {r : SectionAnswer} (f : SectionPromise write z t t′ r) where
+  pub rows-read : {n j : ℕ} → r ≡ SectionAnswer'.Read n j → Was true write z t t′ n
+  rows-read {n} {j} e = go (says f e)
     where
-      go : Says ready z t t′ (Listed'.Read n j) → Was true ready z t t′ n
+      go : Says write z t t′ (SectionAnswer'.Read n j) → Was true write z t t′ n
       go (read w) = w
 
-  pub fives-short : {n : ℕ} → r ≡ Listed'.Short n → Was false ready z t t′ n
-  fives-short {n} e = go (says f e)
+  pub rows-counted : {n : ℕ} → r ≡ SectionAnswer'.Counted n → Was false write z t t′ n
+  rows-counted {n} e = go (says f e)
     where
-      go : Says ready z t t′ (Listed'.Short n) → Was false ready z t t′ n
+      go : Says write z t t′ (SectionAnswer'.Counted n) → Was false write z t t′ n
       go (short w) = w
 
-  pub fives-no : {k : ℕ} → r ≡ Listed'.Refused k → (z ≡ refuse k) × (t′ ≡ t)
-  fives-no {k} e = go (says f e)
+  pub rows-refused : {k : ℕ} → r ≡ SectionAnswer'.Refused k → (z ≡ refuse k) × (t′ ≡ t)
+  rows-refused {k} e = go (says f e)
     where
-      go : Says ready z t t′ (Listed'.Refused k) → (z ≡ refuse k) × (t′ ≡ t)
+      go : Says write z t t′ (SectionAnswer'.Refused k) → (z ≡ refuse k) × (t′ ≡ t)
       go (no q l) = (q, l)
 
-pub fives-refused : {ready : Bool} {t : List ℕ} {k : ℕ} → Fives ready (refuse k) t t (Listed'.Refused k)
-fives-refused = record { is = refl; leaves = refl }
+pub refused-promise : {write : Bool} {t : List ℕ} {k : ℕ} → SectionPromise write (refuse k) t t (SectionAnswer'.Refused k)
+unfolding sectionAnswer sectionTable
+refused-promise = record { is = refl; leaves = refl }

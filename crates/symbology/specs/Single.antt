@@ -5,8 +5,8 @@ use mathlib.Core.Bool.{Bool}
 use mathlib.Core.List.{List}
 use Rattle.codec.specs.Codec.{Res}
 use Rattle.symbology.specs.Symbology.{Symbology}
-use Rattle.symbology.specs.Answers.{Fives}
-use Rattle.symbology.specs.declared.Listed.{Listed}
+use Rattle.symbology.specs.Answers.{SectionPromise}
+use Rattle.symbology.specs.declared.SectionAnswer.{SectionAnswer}
 
-pub read-section-rows : {ready : Bool} {z : Res Symbology} {t t₁ t₂ : List ℕ} {r₁ r₂ : Listed} → Fives ready z t t₁ r₁ → Fives ready z t t₂ r₂ → (t₁ ≡ t₂) × (r₁ ≡ r₂)
+pub read-section-rows : {write : Bool} {z : Res Symbology} {t t₁ t₂ : List ℕ} {r₁ r₂ : SectionAnswer} → SectionPromise write z t t₁ r₁ → SectionPromise write z t t₂ r₂ → (t₁ ≡ t₂) × (r₁ ≡ r₂)
 read-section-rows a b = (a .leaves ∙ sym (b .leaves), a .is ∙ sym (b .is))

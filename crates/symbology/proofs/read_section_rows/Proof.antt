@@ -1,6 +1,6 @@
 use native.Mathlib.Omega.{arith}
 use mathlib.Core.Path.{sym, _∙_}
-use Rattle.symbology.proofs.Public.{finds, fives-read, fives-short, fives-wait, fives-no}
+use Rattle.symbology.proofs.Public.{finds, rows-read, rows-counted, rows-unasked, rows-refused}
 use borrow.Author.Needs.{needs}
 use Rattle.symbology.proofs.read_section_rows.Statement.{statement}
 use Rattle.symbology.proofs.read_section_rows.Tie as tie
@@ -9,16 +9,16 @@ symbology-requires : tie.Need-symbology-requires
 symbology-requires c κs = let a = finds _ _ _ _ (sym (c .before .before .before .before .rows .given .1) ∙ c .before .before .before .before .before .before .section-verdict .ensures) in (omega (arith, a .small), omega arith)
 
 returns : tie.Need-returns
-returns c = fives-read (finds _ _ _ _ (sym (c .before .before .before .before .before .before .before .rows .given .1) ∙ c .before .before .before .before .before .before .before .before .before .section-verdict .ensures)) (c .before .before .before .before .before .if1 .taken) (c .before .before .before .before .if2 .taken) (c .before .before .symbology .ensures)
+returns c = rows-read (finds _ _ _ _ (sym (c .before .before .before .before .before .before .before .rows .given .1) ∙ c .before .before .before .before .before .before .before .before .before .section-verdict .ensures)) (c .before .before .before .before .before .if1 .taken) (c .before .before .before .before .if2 .taken) (c .before .before .symbology .ensures)
 
 returns-2 : tie.Need-returns-2
-returns-2 c = fives-short (finds _ _ _ _ (sym (c .before .before .before .rows .given .1) ∙ c .before .before .before .before .before .section-verdict .ensures)) (c .before .if1 .taken) (c .if2 .left)
+returns-2 c = rows-counted (finds _ _ _ _ (sym (c .before .before .before .rows .given .1) ∙ c .before .before .before .before .before .section-verdict .ensures)) (c .before .if1 .taken) (c .if2 .left)
 
 returns-3 : tie.Need-returns-3
-returns-3 c = fives-wait (finds _ _ _ _ (sym (c .before .before .rows .given .1) ∙ c .before .before .before .before .section-verdict .ensures)) (c .if1 .left)
+returns-3 c = rows-unasked (finds _ _ _ _ (sym (c .before .before .rows .given .1) ∙ c .before .before .before .before .section-verdict .ensures)) (c .if1 .left)
 
 returns-4 : tie.Need-returns-4
-returns-4 c = fives-no _ _ _ (sym (c .before .why .given .1) ∙ c .before .before .before .section-verdict .ensures)
+returns-4 c = rows-refused _ _ _ (sym (c .before .why .given .1) ∙ c .before .before .before .section-verdict .ensures)
 
 pub read-section-rows-spec : {M : Type 1} → statement M
 read-section-rows-spec =

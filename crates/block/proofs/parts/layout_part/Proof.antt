@@ -1,7 +1,7 @@
 use mathlib.Core.Path.{_≡_, refl, sym, ap, _∙_}
 use native.Mathlib.Omega.{arith}
-use Rattle.block.specs.Steps.{lays-no}
-use Rattle.block.proofs.PartLaws.{within-at, lay-no, lays-26, lays-25, lays-none, lays-bad, lays-ok}
+use Rattle.block.specs.Parts.{lays-no}
+use Rattle.block.proofs.PartLaws.{within-at, layout-cut, lays-26, lays-25, lays-none, lays-bad, lays-ok}
 use borrow.Author.Needs.{needs}
 use Rattle.block.proofs.parts.layout_part.Statement.{statement}
 use Rattle.block.proofs.parts.layout_part.Tie as tie
@@ -52,7 +52,7 @@ returns-5 : tie.Need-returns-5
 returns-5 c = lays-25 (c .before .before .before .before .before .before .before .args .sheet .now) _ (c .before .before .before .before .before .before .before .args .block .now) _ (sym (c .before .before .before .before .before .span-at .ensures .0) ∙ c .before .before .before .start .given .1) (within-at (c .before .before .before .before .before .span-at .ensures .1) (c .before .before .before .start .given .1)) (c .before .before .before .before .before .before .before .pre .1) (c .before .if1 .left) (omega (arith, c .if3 .left))
 
 returns-6 : tie.Need-returns-6
-returns-6 c = lays-no {k = c .before .why2 .given .0 .0} (lay-no (c .before .before .before .before .before .args .sheet .now) _ (c .before .before .before .before .before .args .block .now) _ (sym (c .before .before .before .span-at .ensures .0) ∙ c .before .why2 .given .1))
+returns-6 c = lays-no {k = c .before .why2 .given .0 .0} (layout-cut (c .before .before .before .before .before .args .sheet .now) _ (c .before .before .before .before .before .args .block .now) _ (sym (c .before .before .before .span-at .ensures .0) ∙ c .before .why2 .given .1))
 
 pub layout-part-spec : {M : Type 1} → statement M
 layout-part-spec =

@@ -1,6 +1,6 @@
 use mathlib.Core.Path.{sym, _∙_}
 use native.Mathlib.Omega.{arith}
-use Rattle.block.proofs.PartLaws.{within-at, lists-span, lists-part}
+use Rattle.block.proofs.PartLaws.{within-at, symbology-cut, symbology-reads}
 use borrow.Author.Needs.{needs}
 use Rattle.block.proofs.parts.symbology_part.Statement.{statement}
 use Rattle.block.proofs.parts.symbology_part.Tie as tie
@@ -18,10 +18,10 @@ part-part-end : tie.Need-part-part-end
 part-part-end c = omega (arith, (within-at (c .before .before .before .section-at .ensures .1) (c .before .start .given .1)))
 
 returns : tie.Need-returns
-returns c = lists-part _ (c .before .before .before .before .before .before .before .before .before .before .before .args .block .now) _ (c .before .before .before .before .before .before .before .before .before .before .before .pre .1) _ (sym (c .before .before .before .before .before .before .before .before .section-at .ensures .0) ∙ c .before .before .before .before .before .before .start .given .1) (within-at (c .before .before .before .before .before .before .before .before .section-at .ensures .1) (c .before .before .before .before .before .before .start .given .1)) (c .before .before .read-section-rows .ensures)
+returns c = symbology-reads _ (c .before .before .before .before .before .before .before .before .before .before .before .args .block .now) _ (c .before .before .before .before .before .before .before .before .before .before .before .pre .1) _ (sym (c .before .before .before .before .before .before .before .before .section-at .ensures .0) ∙ c .before .before .before .before .before .before .start .given .1) (within-at (c .before .before .before .before .before .before .before .before .section-at .ensures .1) (c .before .before .before .before .before .before .start .given .1)) (c .before .before .read-section-rows .ensures)
 
 returns-2 : tie.Need-returns-2
-returns-2 c = lists-span _ (c .before .before .before .before .before .before .args .block .now) _ _ (sym (c .before .before .before .section-at .ensures .0) ∙ c .before .why .given .1)
+returns-2 c = symbology-cut _ (c .before .before .before .before .before .before .args .block .now) _ _ (sym (c .before .before .before .section-at .ensures .0) ∙ c .before .why .given .1)
 
 pub symbology-part-spec : {M : Type 1} → statement M
 symbology-part-spec =

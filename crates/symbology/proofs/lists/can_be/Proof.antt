@@ -1,5 +1,5 @@
-use Rattle.symbology.specs.Lists.{canBe}
-use Rattle.symbology.proofs.Listing.{can-0}
+use Rattle.symbology.specs.Reader.{canBe}
+use Rattle.symbology.proofs.ReaderLaws.{can-0}
 use borrow.Author.Needs.{needs}
 use Rattle.symbology.proofs.lists.can_be.Statement.{statement}
 use Rattle.symbology.proofs.lists.can_be.Tie as tie

@@ -10,8 +10,8 @@ use Rattle.layout.specs.Layout.{Layout}
 use Rattle.layout.specs.Rows.{rows}
 use Rattle.layout.specs.Given.{layoutOf}
 use Rattle.symbology.specs.Symbology.{Symbology}
-use Rattle.symbology.specs.Answers.{Fives}
-use Rattle.symbology.specs.declared.Listed.{Listed}
+use Rattle.symbology.specs.Answers.{SectionPromise}
+use Rattle.symbology.specs.declared.SectionAnswer.{SectionAnswer}
 use Rattle.layout.specs.Answers.{leave}
 use Rattle.block.specs.Block.{Header, Block, header, widthOf, layoutPart, symbologyPart}
 use Rattle.block.specs.Read.{answerOf, symbologyAfter, layoutAfter}
@@ -20,8 +20,8 @@ use Rattle.block.specs.declared.Fields.{Fields}
 use Rattle.block.specs.declared.Span.{Span}
 use Rattle.block.specs.declared.Span.the-variants.{Part}
 use Rattle.block.specs.declared.Span.the-variants as Span'
-use Rattle.block.specs.declared.Laid.{Laid}
-use Rattle.block.specs.declared.Laid.the-variants as Laid'
+use Rattle.block.specs.declared.LayoutFound.{LayoutFound}
+use Rattle.block.specs.declared.LayoutFound.the-variants as LayoutFound'
 use Rattle.block.specs.declared.BlockAnswer.{BlockAnswer}
 
 -- a version's header is 100 bytes, and the block has these and no more than fit
@@ -65,29 +65,29 @@ sectionAt true b at = spanAt 27 b at
 sectionAt false b at = Part at (length b - at)
 
 -- the table after a layout, where a version has one
-abbrev pub leaveIf : Bool → List ℕ → List ℕ → List ℕ
-leaveIf has part t = pick has (leave t (layoutOf part)) t
+abbrev pub layoutTable : Bool → List ℕ → List ℕ → List ℕ
+layoutTable has part t = pick has (leave t (layoutOf part)) t
 
 -- the layout part that was read: it ends at e, and its rows make of a table what its bytes make of it
-pub record Layout-read (has : Bool) (sheet : List ℕ) (width : ℕ) (b : List ℕ) (v n e : ℕ) : Type 0 where
+pub record LayoutRead (has : Bool) (sheet : List ℕ) (width : ℕ) (b : List ℕ) (v n e : ℕ) : Type 0 where
   pub tree : Layout
   pub is : layoutPart has sheet width .codec .parse 0 b 100 ≡ ok tree e
   pub from : 104 ≤ e
   pub to : e ≤ length b
-  pub leaves : (t : List ℕ) → leaveIf has (take (e - 104) (drop 104 b)) t ≡ leave t (ok tree e)
+  pub leaves : (t : List ℕ) → layoutTable has (take (e - 104) (drop 104 b)) t ≡ leave t (ok tree e)
   pub version : tree .version ≡ v
   pub many : length (rows tree) ≡ n
 
-pub data Lays (has : Bool) (sheet : List ℕ) (width : ℕ) (b : List ℕ) : Laid → Type 0 where
-  lays : {v n e : ℕ} → Layout-read has sheet width b v n e → Lays has sheet width b (Laid'.Accepted v n e)
-  lays-no : {k : ℕ} → layoutPart has sheet width .codec .parse 0 b 100 ≡ refuse k → Lays has sheet width b (Laid'.Refused k)
+pub data LayoutReads (has : Bool) (sheet : List ℕ) (width : ℕ) (b : List ℕ) : LayoutFound → Type 0 where
+  lays : {v n e : ℕ} → LayoutRead has sheet width b v n e → LayoutReads has sheet width b (LayoutFound'.Accepted v n e)
+  lays-no : {k : ℕ} → layoutPart has sheet width .codec .parse 0 b 100 ≡ refuse k → LayoutReads has sheet width b (LayoutFound'.Refused k)
 
 -- what reading the symbology part into the table t answers and leaves; `part` is what its bytes are read as
-pub record Lists (has ready : Bool) (width : ℕ) (b : List ℕ) (at : ℕ) (t t′ : List ℕ) (r : Listed) : Type 0 where
+pub record SymbologyReads (has write : Bool) (width : ℕ) (b : List ℕ) (at : ℕ) (t t′ : List ℕ) (r : SectionAnswer) : Type 0 where
   pub part : Res Symbology
   pub end : ℕ → ℕ
   pub is : symbologyPart has width .codec .parse 0 b at ≡ (part >>= λ x j. ok x (end j))
-  pub fives : Fives ready part t t′ r
+  pub fives : SectionPromise write part t t′ r
 
 -- the answer and the tables after reading z
 pub record Does (v : MetadataLengths) (z : Res (Block × List ℕ)) (s l : List ℕ) (r : BlockAnswer) (s′ l′ : List ℕ) : Type 0 where
