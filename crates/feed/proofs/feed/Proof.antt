@@ -43,13 +43,13 @@ part-pour-start c =
 add-second : tie.Need-add-second
 add-second c =
     let a = c .before .before .before .before .before .before .before .before .before .before .before .before .before .args in
-    let h = fed-fits (a .state .held) (a .store .now) (a .piece .now) (c .before .before .before .before .before .before .before .pour .result) (c .before .before .pour2 .result) _ _ (c .before .before .before .before .before .before .before .pour .ensures .0) (c .before .before .before .before .before .before .before .pour .ensures .1) (c .before .before .pour2 .ensures .0) in
+    let h = fed-fits (a .state .held) (a .store .now) (a .piece .now) _ _ _ _ (c .before .before .before .before .before .before .before .pour .ensures .0) (c .before .before .before .before .before .before .before .pour .ensures .1) (c .before .before .pour2 .ensures .0) in
     omega arith
 
 add-t18 : tie.Need-add-t18
 add-t18 c =
     let a = c .before .before .before .before .before .before .before .before .before .before .before .before .before .before .before .before .before .before .before .before .before .args in
-    let h = fed-fits (a .state .held) (a .store .now) (a .piece .now) (c .before .before .before .before .before .before .before .before .before .before .before .before .before .before .before .pour .result) (c .before .before .before .before .before .before .before .before .before .before .pour2 .result) _ _ (c .before .before .before .before .before .before .before .before .before .before .before .before .before .before .before .pour .ensures .0) (c .before .before .before .before .before .before .before .before .before .before .before .before .before .before .before .pour .ensures .1) (c .before .before .before .before .before .before .before .before .before .before .pour2 .ensures .0) in
+    let h = fed-fits (a .state .held) (a .store .now) (a .piece .now) _ _ _ _ (c .before .before .before .before .before .before .before .before .before .before .before .before .before .before .before .pour .ensures .0) (c .before .before .before .before .before .before .before .before .before .before .before .before .before .before .before .pour .ensures .1) (c .before .before .before .before .before .before .before .before .before .before .pour2 .ensures .0) in
     omega arith
 
 returns : tie.Need-returns
