@@ -12,7 +12,7 @@ pub fn name_at(s: &[u8], at: usize) -> Got
     ensures { λ r. ⌜ (r ≡ nameAt (now (s .entry)) at) × Past 256 2 (now (s .entry)) at r ⌝ }
 {
     if 1 <= numbers::left(s, at) {
-        text_at(s, at + 1, wide(s[at]))
+        text_at(s, at + 1, numbers::wide(s[at]))
     } else {
         Got::Refused(refusal::LAYOUT_TRUNCATED)
     }
@@ -103,10 +103,4 @@ fn body_at(s: &[u8], b: usize, len: usize) -> Got
     } else {
         Got::Refused(refusal::SECTION_SHORT)
     }
-}
-
-fn wide(x: u8) -> usize
-    ensures { λ r. ⌜ (r ≡ x) × (r < 256) ⌝ }
-{
-    x as usize
 }
