@@ -1,7 +1,7 @@
 -- The block, as document 01's "Bytes on the wire" has it: the tree that keeps every byte, and one format for versions 1 to 4.
 -- Assumes nothing.
 use Prim.Native.Nat.{ℕ, zero, suc, _+_}
-use mathlib.Core.Bool.{Bool, true, false, _||_, _&&_}
+use mathlib.Core.Bool.{Bool, true, false, _||_}
 use mathlib.Core.List.{List, [], _∷_, _++_}
 use lib.ListN.{length}
 use lib.Dec.{leb, eqb}
@@ -10,6 +10,7 @@ use Rattle.codec.specs.Remainder.{remainder}
 use Rattle.text.specs.Utf8.{utf8}
 use Rattle.dates.specs.Date.{isDate}
 use Rattle.numbers.specs.Pick.{pick}
+use Rattle.prelude.specs.Prelude.{isVersion}
 use Rattle.layout.specs.Layout.{Layout, Parts, parts, toLayout, fromLayout}
 use Rattle.layout.specs.Given.{D}
 use Rattle.symbology.specs.Symbology.{Symbology, symbology}
@@ -53,10 +54,6 @@ v4 = record { «dataset_cstr_len» = 38; «record_count_len» = 0; «symbol_cstr
 
 unfoldable pub lengths : ℕ → MetadataLengths
 lengths version = pick (eqb version 1) v1 (pick (eqb version 4) v4 v2)
-
--- the versions are 1 to 4
-abbrev pub isVersion : ℕ → Bool
-isVersion version = leb 1 version && leb version 4
 
 -- ---- accepted codes
 
