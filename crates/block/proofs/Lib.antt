@@ -1,4 +1,3 @@
-pub mod NumberLaws
 pub mod HeaderLaws
 pub mod PartLaws
 pub mod BodyLaws

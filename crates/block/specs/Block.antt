@@ -3,7 +3,7 @@
 use Prim.Native.Nat.{ℕ, zero, suc, _<_}
 use native.Mathlib.Omega.{arith}
 use mathlib.Core.Path.{_≡_, refl, ap}
-use mathlib.Core.Bool.{Bool, true, false, _||_, _&&_}
+use mathlib.Core.Bool.{Bool, true, false, _||_}
 use mathlib.Core.List.{List, []}
 use lib.ListN.{length}
 use lib.Dec.{leb, eqb}
@@ -13,6 +13,7 @@ use Rattle.codec.specs.Format.{Format, raw, num, skip, rawTest, numTest, _then_
 use Rattle.text.specs.Utf8.{utf8}
 use Rattle.dates.specs.Date.{isDate}
 use Rattle.numbers.specs.Pick.{pick}
+use Rattle.prelude.specs.Prelude.{isVersion}
 use Rattle.layout.specs.Layout.{Layout, Parts, parts, toLayout, fromLayout}
 use Rattle.layout.specs.Given.{D}
 use Rattle.symbology.specs.Symbology.{Symbology, symbology, unspanned}
@@ -56,10 +57,6 @@ v4 = record { «dataset_cstr_len» = 38; «record_count_len» = 0; «symbol_cstr
 
 unfoldable pub lengths : ℕ → MetadataLengths
 lengths version = pick (eqb version 1) v1 (pick (eqb version 4) v4 v2)
-
--- the versions are 1 to 4
-abbrev pub isVersion : ℕ → Bool
-isVersion version = leb 1 version && leb version 4
 
 -- ---- accepted codes
 

@@ -60,7 +60,7 @@ pub(crate) fn fields_of(
     let dataset = &block[0..end];
     let at = end + 26 + v.record_count_len;
     let schema = half(block, end);
-    let stype_in = wide(block[at]);
+    let stype_in = numbers::wide(block[at]) as u64;
     let limit = long(block, end + 18);
     Fields {
         dataset_len: text::trimmed_len(dataset),
@@ -157,30 +157,14 @@ fn end_of(n: u64) -> Optional
 
 // The u64 at `at`.
 fn long(s: &[u8], at: usize) -> u64
-    requires { ⌜ at + 8 ≤ length (now s) ⌝ }
     ensures { λ r. ⌜ r ≡ value (take 8 (drop at (now (s .entry)))) ⌝ }
 {
-    word(s, at) + 4294967296 * word(s, at + 4)
-}
-
-// The u32 at `at`.
-pub(crate) fn word(s: &[u8], at: usize) -> u64
-    requires { ⌜ at + 4 ≤ length (now s) ⌝ }
-    ensures { λ r. ⌜ (r ≡ value (take 4 (drop at (now (s .entry))))) × (r < 4294967296) ⌝ }
-{
-    half(s, at) + 65536 * half(s, at + 2)
+    numbers::u64_of(s, at) as u64
 }
 
 // The u16 at `at`.
 fn half(s: &[u8], at: usize) -> u64
-    requires { ⌜ at + 2 ≤ length (now s) ⌝ }
     ensures { λ r. ⌜ (r ≡ value (take 2 (drop at (now (s .entry))))) × (r < 65536) ⌝ }
 {
-    wide(s[at]) + 256 * wide(s[at + 1])
-}
-
-fn wide(x: u8) -> u64
-    ensures { λ r. ⌜ (r ≡ x) × (r < 256) ⌝ }
-{
-    x as u64
+    numbers::u16_of(s, at) as u64
 }

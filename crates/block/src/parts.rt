@@ -104,7 +104,7 @@ fn span_at(block: &[u8], at: usize, why: u32) -> Span
         return Span::Refused(why);
     }
     let start = at + 4;
-    let len = header::word(block, at) as usize;
+    let len = numbers::u32_of(block, at);
     if block.len() - start < len {
         return Span::Refused(why);
     }

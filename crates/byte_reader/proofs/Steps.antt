@@ -1,4 +1,4 @@
--- The calls of `ByteReader::u16` and `ByteReader::name` on a reader in a local that is lent to them (`Lent.antt`): what each is passed, and that the caller has what it asks.
+-- The call of `ByteReader::u16` on a reader in a local that is lent to it (`Lent.antt`): what it is passed, and that the caller has what it asks.
 -- Assumes nothing.
 use mathlib.Core.Path.{refl}
 use Prim.Native.Nat.{ℕ, _<_, _^_}
@@ -25,14 +25,10 @@ use denote.Triple.Spec.{tripleOf}
 use Rattle.byte_reader.specs.declared.ByteReader.{ByteReader}
 use Rattle.byte_reader.proofs.Lent.{Toks, ref, Ref}
 use Rattle.byte_reader.proofs.ByteReader.u16 as u16
-use Rattle.byte_reader.proofs.ByteReader.name as name
 
 module _ {M : Type 1} (𝓤 : URA M) (H : Heap 𝓤) (A : Atoms 𝓤) (mem : Memory → SProp 𝓤) (run : Routine → Fun 𝓤) where
   abbrev pub U16 : Contract 𝓤
   U16 = tripleOf 𝓤 H A u16.signature (u16.spec 𝓤 H A mem run)
-
-  abbrev pub Name : Contract 𝓤
-  Name = tripleOf 𝓤 H A name.signature (name.spec 𝓤 H A mem run)
 
 -- the reader d at l is lent under the name γ, for the meet of κ and ν
 module _ {M : Type 1} (𝓤 : URA M) (H : Heap 𝓤) (A : Atoms 𝓤) (W : Given 𝓤 H A) (mem : Memory → SProp 𝓤) (run : Routine → Fun 𝓤) (κ : Lft) (q : Share) (l ν : ℕ) (γ : GName) (d : ByteReader) where
@@ -43,10 +39,3 @@ module _ {M : Type 1} (𝓤 : URA M) (H : Heap 𝓤) (A : Atoms 𝓤) (W : Given
   goes-u16 why fits =
       qed W (Toks 𝓤 H A W κ q l ν ∷ ‵ (Ref 𝓤 H A W κ q l ν γ d) ∷ []) ∵ nothing ! $ owned ! u32 (Is u32) (uint-makes 𝓤 H A W w32) why _ (refl, fits) $ fjoin ! $
       move ! (2 ∷ 0 ∷ []) $ fjoin ! $ move ! (1 ∷ 0 ∷ []) $ join ! $ frame ! $ done !
-
-  abbrev pub to-name : Name 𝓤 H A mem run .Ghost
-  to-name = (((ν ∷ κ, (κ, tt)), (PosShare·left q, (PosShare·right q, tt)), (meet-⊑-right (ν ∷ []) κ, tt), (ref 𝓤 H A W κ q l γ d, tt), (vptr l 0 ∷ [], tt)), tt)
-
-  pub goes-name : ent 𝓤 (⋆ 𝓤 H A (Toks 𝓤 H A W κ q l ν ∷ ‵ (Ref 𝓤 H A W κ q l ν γ d) ∷ [])) (Name 𝓤 H A mem run .pre to-name)
-  goes-name =
-      qed W (Toks 𝓤 H A W κ q l ν ∷ ‵ (Ref 𝓤 H A W κ q l ν γ d) ∷ []) ∵ nothing ! $ move ! (2 ∷ 0 ∷ []) $ fjoin ! $ move ! (1 ∷ 0 ∷ []) $ join ! $ frame ! $ done !

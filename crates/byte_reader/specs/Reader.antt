@@ -5,7 +5,7 @@ use Prim.Native.Nat.{ℕ}
 use mathlib.Core.Path.{_≡_}
 use mathlib.Core.List.{List}
 use denote.Ref.{now}
-use Rattle.numbers.specs.Numbers.{u16At, Past}
+use Rattle.numbers.specs.Numbers.{u16At, gotOn, Past}
 use Rattle.wire.specs.Wire.{nameAt}
 use Rattle.numbers.specs.declared.Got.{Got}
 use Rattle.numbers.specs.declared.Got.the-variants.{Value, Refused}
@@ -27,9 +27,13 @@ pub record Stepped (b m : ℕ) (f : List ℕ → ℕ → Got) (d d′ : ByteRead
   pub reader : d′ ≡ moved d r
   pub past : Past b m (now (d .buf)) (d .pos) r
 
--- the label at `at`: its code, and its name after the code
+-- the label of a code c: its name after the code, or the code's refusal
+pub record LabelAfter (s : List ℕ) (c : Got) (r : Label) : Type 0 where
+  pub code : r .code ≡ c
+  pub name : r .name ≡ gotOn c (λ _ p. nameAt s p)
+  pub past : (v p : ℕ) → c ≡ Value v p → Past 256 2 s p (r .name)
+
+-- the label at `at`
 pub record LabelIs (s : List ℕ) (at : ℕ) (r : Label) : Type 0 where
-  pub code : r .code ≡ u16At s at
-  pub name : r .name ≡ nameAt s (after (r .code) at)
-  pub code-past : Past 65536 2 s at (r .code)
-  pub name-past : Past 256 2 s (after (r .code) at) (r .name)
+  pub after : LabelAfter s (u16At s at) r
+  pub past : Past 65536 2 s at (r .code)

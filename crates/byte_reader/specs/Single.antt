@@ -5,10 +5,9 @@ use mathlib.Core.Path.{_≡_, sym, ap, _∙_}
 use mathlib.Core.List.{List}
 use denote.Ref.{RefT}
 use Rattle.numbers.specs.declared.Got.{Got}
-use Rattle.byte_reader.specs.Reader.{after, moved, Stepped, LabelIs}
+use Rattle.byte_reader.specs.Reader.{moved, Stepped, LabelIs}
 use Rattle.byte_reader.specs.declared.ByteReader.{ByteReader}
 use Rattle.byte_reader.specs.declared.Label.{Label}
-use Rattle.wire.specs.Wire.{nameAt}
 
 -- of `new`
 pub new-one : (s : RefT (List ℕ)) (x y : ByteReader) → (x .buf ≡ s) × (x .pos ≡ 0) → (y .buf ≡ s) × (y .pos ≡ 0) → x ≡ y
@@ -22,7 +21,4 @@ step-one {d = d} g h =
 
 -- of `label_in`
 pub label-one : {s : List ℕ} {at : ℕ} {x y : Label} → LabelIs s at x → LabelIs s at y → x ≡ y
-label-one {s} {at} {x} {y} g h =
-    let e : x .code ≡ y .code = g .code ∙ sym (h .code) in
-    let f : x .name ≡ y .name = g .name ∙ (ap (λ c. nameAt s (after c at)) e ∙ sym (h .name)) in
-    λ i. record { code = e i; name = f i }
+label-one g h = λ i. record { code = (g .after .code ∙ sym (h .after .code)) i; name = (g .after .name ∙ sym (h .after .name)) i }

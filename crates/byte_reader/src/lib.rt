@@ -6,7 +6,7 @@ ghost use mathlib.Core.Path.{_≡_};
 ghost use Prim.Native.Nat.{_+_};
 ghost use Rattle.numbers.specs.Numbers.{takeAt, numAt};
 ghost use Rattle.wire.specs.Wire.{nameAt};
-ghost use Rattle.byte_reader.specs.Reader.{after, Stepped, LabelIs};
+ghost use Rattle.byte_reader.specs.Reader.{after, Stepped, LabelAfter, LabelIs};
 
 // A section, and the place in it where the next read begins.
 pub struct ByteReader<'a> {
@@ -56,22 +56,29 @@ pub struct Label {
     pub name: Got,
 }
 
-impl Label {
-    fn new(code: Got, name: Got) -> Self
-        ensures { λ r. ⌜ (r .code ≡ code) × (r .name ≡ name) ⌝ }
-    {
-        Label { code, name }
-    }
-}
-
-// The label at `at`: the name is read where the reader stands after the code.
+// The label at `at`: its name stands after its code. Where the code is refused no name is looked for, and that refusal is the name's too.
 pub fn label_in(s: &[u8], at: usize) -> Label
     ensures { λ r. ⌜ LabelIs (now (s .entry)) at r ⌝ }
 {
     let mut reader = ByteReader { buf: s, pos: at };
     let code = reader.u16(refusal::LAYOUT_TRUNCATED);
-    let name = reader.name();
-    Label::new(code, name)
+    label_after(s, code)
+}
+
+// The label of a code: its name, where the code was read.
+fn label_after(s: &[u8], code: Got) -> Label
+    ensures { λ r. ⌜ LabelAfter (now (s .entry)) code r ⌝ }
+{
+    match code {
+        Got::Value { value: _, next } => {
+            let name = wire::name_at(s, next);
+            Label { code, name }
+        }
+        Got::Refused(why) => {
+            let name = Got::Refused(why);
+            Label { code, name }
+        }
+    }
 }
 
 // Where a reader that stood at `pos` stands after this answer.

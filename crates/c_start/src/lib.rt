@@ -156,6 +156,7 @@ fn present(o: Optional) -> u64
     }
 }
 
+// 1 for true, 0 for false.
 fn bit(x: bool) -> u64
     ensures { λ r. ⌜ r ≡ bit x ⌝ }
 {

@@ -17,7 +17,7 @@ use Rattle.writer.specs.Write.{writeLayout, outAfter, Writes}
 use Rattle.writer.specs.RoundTrip.{ReadsBack, accepted, reads-back}
 use Rattle.writer.specs.declared.Written.the-variants.{Length}
 use Rattle.feed.specs.Feeding.{Feeding}
-use Rattle.feed.specs.Pieces.{Lent, Handed, any-cutting, any-cutting-handed}
+use Rattle.feed.specs.PieceLaws.{Lent, Handed, any-cutting, any-cutting-handed}
 use Rattle.feed.specs.Single.{Same}
 use Rattle.feed.specs.declared.Fed.{Fed}
 

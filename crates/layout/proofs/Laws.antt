@@ -11,17 +11,17 @@ use native.Mathlib.Omega.{arith}
 use borrow.Author.Tests.{eq-eqb, ne-eqb}
 use Rattle.codec.specs.Codec.{Res, ok, refuse, _>>=_, padded, num, named, _then_, sized, times, timesParse, among, distinct, distinctParse, counted}
 use Rattle.codec.specs.Laws.{bind-ok}
-use Rattle.codec.specs.Steps.{raw-got, raw-bad, num-got, num-bad, value2, times-length, distinct-length}
+use Rattle.codec.specs.Steps.{raw-got, raw-bad, num-got, num-bad, times-length, distinct-length}
 use Rattle.codec.specs.Cases.{by-bool, by-le}
 use Rattle.text.specs.Utf8.{utf8}
 use Rattle.wire.specs.Formats
 use Rattle.wire.specs.Formats.{Name}
 use Rattle.wire.specs.Wire.{name, nameAt, sectionAt}
 use Rattle.numbers.specs.Numbers.{takeAt, u16At, part, le16, le32, le64}
-use Rattle.numbers.specs.NumberLaws.{take-ok, take-no, take-value, take-refused, num-is, value8}
+use Rattle.numbers.specs.NumberLaws.{take-ok, take-no, take-value, take-refused, num-is, u16-is, u64-is}
 use Rattle.wire.specs.NameLaws.{name-ok, name-no}
 use Rattle.table.specs.Out.{Out, said, row, seq, onGot, allRows}
-use Rattle.table.specs.Steps.{items-end, items-row, items-no, both, both-seq, said-named, count-row, said-num, seq-same}
+use Rattle.table.specs.StepLaws.{items-end, items-row, items-no, both, both-seq, said-named, count-row, said-num, seq-same}
 use Rattle.wire.specs.Steps.{said-name, parts-end, parts-run, parts-no}
 use Rattle.numbers.specs.declared.Got.{Got}
 use Rattle.numbers.specs.declared.Got.the-variants.{Value, Refused}
@@ -209,13 +209,13 @@ record-is base s =
     rw (
       take-ok 50 14 s 0 h,
       num-got 50 2 base s 0 h0,
-      value2 s 0 h0,
+      u16-is s 0,
       num-got 50 2 base s 2 h2,
-      value2 s 2 h2,
+      u16-is s 2,
       num-got 50 2 base s 4 h4,
-      value2 s 4 h4,
+      u16-is s 4,
       num-got 50 8 base s 6 h6,
-      value8 s 6 h6,
+      u64-is s 6,
     ) (
     said-tagged F (le16 s 0) (le16 s 2) (le16 s 4) (le64 s 6) r
     ∙ name-fields F (λ y. (le16 s 0, (le16 s 2, (le16 s 4, (le64 s 6, y))))) (λ a b c. row10 a b (le16 s 0) (le16 s 2) (le16 s 4) c (le64 s 6)) (λ x y. refl) base s 14

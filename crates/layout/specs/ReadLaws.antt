@@ -7,8 +7,7 @@ use borrow.Author.Tests.{le-leb}
 use Rattle.codec.specs.Codec.{ok, _>>=_, whole}
 use Rattle.text.specs.Utf8.{utf8}
 use Rattle.table.specs.Out.{flat, allRows}
-use Rattle.table.specs.TableLaws.{Wide, wide-append, wide-map, wide-all}
-use Rattle.table.specs.FlatLaws.{flat-length}
+use Rattle.table.specs.TableLaws.{Wide, wide-append, wide-map, wide-all, flat-length}
 use Rattle.layout.specs.Layout
 use Rattle.layout.specs.Layout.{Layout, Fields, toLayout}
 use Rattle.layout.specs.Given.{D, layoutOf}

@@ -1,18 +1,15 @@
 -- A layout's rows, as document 01's "Rows" has them: nine numbers each, in wire order. Assumes nothing.
-use Prim.Native.Nat.{ℕ, suc, _+_, _*_, _/_, _%_}
+use Prim.Native.Nat.{ℕ, _/_, _%_}
 use mathlib.Core.List.{List, [], _∷_, _++_, map}
 use lib.ListN.{length, getD}
+use Rattle.numbers.specs.Numbers.{le16}
 use Rattle.table.specs.Out.{allRows}
 use Rattle.wire.specs.Formats.{Name}
 use Rattle.layout.specs.Layout.{Entry, Fields, RecordL, StructL, Label, LabelDef, Layout}
 
--- the u16 at byte i of an entry
-abbrev pub pair : List ℕ → ℕ → ℕ
-pair e i = getD e i 0 + 256 * getD e (suc i) 0
-
 -- 11 field (id, offset, size, type, flags, def index, scale byte)
 abbrev pub headRow : List ℕ → List ℕ
-headRow e = 11 ∷ pair e 0 ∷ pair e 2 ∷ pair e 4 ∷ getD e 6 0 ∷ getD e 7 0 ∷ pair e 8 ∷ getD e 10 0 ∷ 0 ∷ []
+headRow e = 11 ∷ le16 e 0 ∷ le16 e 2 ∷ le16 e 4 ∷ getD e 6 0 ∷ getD e 7 0 ∷ le16 e 8 ∷ getD e 10 0 ∷ 0 ∷ []
 
 abbrev pub entryRow : Entry → List ℕ
 entryRow f = headRow (f .head)

@@ -101,10 +101,6 @@ bool-no : (b : Bool) → (b ≡ true → ⊥) → b ≡ false
 bool-no true h = absurd (h refl)
 bool-no false h = refl
 
-or-right : (a b : Bool) → b ≡ true → (a || b) ≡ true
-or-right true b h = refl
-or-right false b h = h
-
 or-split : (a b : Bool) → (a || b) ≡ true → (a ≡ false) → b ≡ true
 or-split a b h e = rw e at h
 

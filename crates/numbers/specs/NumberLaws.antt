@@ -1,12 +1,14 @@
 -- What reading a number or some bytes at a place gives, where it reads and where it refuses. Assumes nothing.
-use Prim.Native.Nat.{ℕ, suc, _+_, _-_, _*_, _≤_, _<_}
+use Prim.Native.Nat.{ℕ, zero, suc, _+_, _-_, _*_, _^_, _≤_, _<_, zero-le}
 use mathlib.Core.Path.{_≡_, refl, sym, ap, _∙_}
-use mathlib.Core.List.{List}
-use native.Mathlib.Nat.{add-zero}
+use mathlib.Core.List.{List, [], _∷_}
+use native.Mathlib.Nat.{add-zero, zero-add, suc-add, mul-comm, mul-assoc, pow-suc}
+use native.Mathlib.Numerals.{add-one}
 use native.Mathlib.Omega.{arith}
 use lib.ListN.{length, getD, take, drop, length-take, length-drop}
+use lib.Seq.{take-all}
 use Rattle.codec.specs.Codec.{Res, ok, refuse, raw, value, num}
-use Rattle.codec.specs.Steps.{raw-got, raw-bad, num-got, num-bad, value-step, value2}
+use Rattle.codec.specs.Steps.{raw-got, raw-bad, num-got, num-bad}
 use Rattle.codec.specs.Cases.{by-le}
 use Rattle.numbers.specs.Numbers.{gotOf, Past, past, refused, takeAt, numAt, u16At, part, le16, le32, le64}
 use Rattle.numbers.specs.declared.Got.{Got}
@@ -37,33 +39,46 @@ module _ (why n : ℕ) (s : List ℕ) (at : ℕ) where
 
 -- ---- numbers
 
-pub value-at : (n : ℕ) (s : List ℕ) (i j : ℕ) → i + 1 ≡ j → i < length s → value (take (suc n) (drop i s)) ≡ getD s i 0 + 256 * value (take n (drop j s))
-value-at n s i j e h = value-step n s i h ∙ ap (λ m. getD s i 0 + 256 * value (take n (drop m s))) e
+value-one : (n : ℕ) (s : List ℕ) (i : ℕ) → value (take (suc n) (drop i s)) ≡ getD s i 0 + 256 * value (take n (drop (i + 1) s))
+value-one n s i = rw add-one (go s i)
+  where
+    go : (s : List ℕ) (i : ℕ) → value (take (suc n) (drop i s)) ≡ getD s i 0 + 256 * value (take n (drop (suc i) s))
+    go [] zero = rw (take-all n [] zero-le)
+    go [] (suc i) = rw (take-all n [] zero-le)
+    go (x ∷ s) zero = refl
+    go (x ∷ s) (suc i) = go s i
 
-pub value1 : (s : List ℕ) (i : ℕ) → i < length s → value (take 1 (drop i s)) ≡ getD s i 0
-value1 s i h = value-step 0 s i h ∙ add-zero (getD s i 0)
+-- a number of m + n bytes, from the number of its first m bytes and that of the n after them
+value-join : (m n : ℕ) (s : List ℕ) (i : ℕ) → value (take (m + n) (drop i s)) ≡ value (take m (drop i s)) + 256 ^ m * value (take n (drop (i + m) s))
+value-join zero n s i = rw (zero-add n, add-zero i) (omega arith)
+value-join (suc m) n s i =
+    let p : i + 1 + m ≡ i + suc m = omega arith in
+    let v = value (take n (drop (i + suc m) s)) in
+    let tail = rw p at (value-join m n s (i + 1)) in
+    let pow : 256 ^ suc m * v ≡ 256 * (256 ^ m * v) = rw (pow-suc, mul-comm (256 ^ m) 256, mul-assoc) in
+    rw suc-add (omega (arith, value-one (m + n) s i, value-one m s i))
 
-pub value4 : (s : List ℕ) (i : ℕ) → i + 4 ≤ length s → value (take 4 (drop i s)) ≡ le32 s i
-value4 s i h = omega (
-  arith,
-  value-at 3 s i (i + 1) refl (omega arith),
-  value-at 2 s (i + 1) (i + 2) (omega arith) (omega arith),
-  value-at 1 s (i + 2) (i + 2 + 1) refl (omega arith),
-  value-at 0 s (i + 2 + 1) (i + 4) (omega arith) (omega arith),
-)
+-- one, two, four and eight bytes as little-endian numbers
+module _ (s : List ℕ) (i : ℕ) where
+  pub u8-is : value (take 1 (drop i s)) ≡ getD s i 0
+  u8-is = value-one 0 s i ∙ add-zero (getD s i 0)
 
-pub value8 : (s : List ℕ) (i : ℕ) → i + 8 ≤ length s → value (take 8 (drop i s)) ≡ le64 s i
-value8 s i h = omega (
-  arith,
-  value-at 7 s i (i + 1) refl (omega arith),
-  value-at 6 s (i + 1) (i + 2) (omega arith) (omega arith),
-  value-at 5 s (i + 2) (i + 2 + 1) refl (omega arith),
-  value-at 4 s (i + 2 + 1) (i + 4) (omega arith) (omega arith),
-  value-at 3 s (i + 4) (i + 4 + 1) refl (omega arith),
-  value-at 2 s (i + 4 + 1) (i + 4 + 2) (omega arith) (omega arith),
-  value-at 1 s (i + 4 + 2) (i + 4 + 2 + 1) refl (omega arith),
-  value-at 0 s (i + 4 + 2 + 1) (i + 8) (omega arith) (omega arith),
-)
+  pub u16-is : value (take 2 (drop i s)) ≡ le16 s i
+  u16-is = value-one 1 s i ∙ ap (λ v. getD s i 0 + 256 * v) (value-one 0 s (i + 1) ∙ add-zero (getD s (i + 1) 0))
+
+pub u32-is : (s : List ℕ) (i : ℕ) → value (take 4 (drop i s)) ≡ le32 s i
+u32-is s i = value-join 2 2 s i ∙ rw (u16-is s i, u16-is s (i + 2))
+
+pub u64-is : (s : List ℕ) (i : ℕ) → value (take 8 (drop i s)) ≡ le64 s i
+u64-is s i = value-join 4 4 s i ∙ rw (u32-is s i, u32-is s (i + 4))
+
+-- what is read at a place depends on the bytes from there on
+module _ (s : List ℕ) (i j : ℕ) (e : drop i s ≡ drop j s) where
+  pub u16-on : le16 s i ≡ le16 s j
+  u16-on = sym (u16-is s i) ∙ ap (λ t. value (take 2 t)) e ∙ u16-is s j
+
+  pub u32-on : le32 s i ≡ le32 s j
+  u32-on = sym (u32-is s i) ∙ ap (λ t. value (take 4 t)) e ∙ u32-is s j
 
 -- a number that was read, in the words of the format
 abbrev pub numOf : Got → Res ℕ
@@ -95,17 +110,17 @@ module _ (why w : ℕ) (s : List ℕ) (at : ℕ) where
       (λ h. let q = sym (num-no h) ∙ e in absurd (let z : _≡_ {A = ℕ} 0 1 = cc in omega arith))
 
 pub u8-ok : (why : ℕ) (s : List ℕ) (at : ℕ) → 1 ≤ length s - at → Value (getD s at 0) (at + 1) ≡ numAt why 1 s at
-u8-ok why s at h = sym (num-ok why 1 s at (omega arith) ∙ ap (λ v. Value v (at + 1)) (value1 s at (omega arith)))
+u8-ok why s at h = sym (num-ok why 1 s at (omega arith) ∙ ap (λ v. Value v (at + 1)) (u8-is s at))
 
 pub u16-ok : (why : ℕ) (s : List ℕ) (at : ℕ) → 2 ≤ length s - at → Value (le16 s at) (at + 2) ≡ numAt why 2 s at
-u16-ok why s at h = sym (num-ok why 2 s at (omega arith) ∙ ap (λ v. Value v (at + 2)) (value2 s at (omega arith)))
+u16-ok why s at h = sym (num-ok why 2 s at (omega arith) ∙ ap (λ v. Value v (at + 2)) (u16-is s at))
 
 pub u32-ok : (why : ℕ) (s : List ℕ) (at : ℕ) → 4 ≤ length s - at → Value (le32 s at) (at + 4) ≡ numAt why 4 s at
-u32-ok why s at h = sym (num-ok why 4 s at (omega arith) ∙ ap (λ v. Value v (at + 4)) (value4 s at (omega arith)))
+u32-ok why s at h = sym (num-ok why 4 s at (omega arith) ∙ ap (λ v. Value v (at + 4)) (u32-is s at))
 
 -- the u16 that was read, and where
 pub u16-value : (s : List ℕ) (at : ℕ) {v p : ℕ} → u16At s at ≡ Value v p → (v ≡ le16 s at) × (p ≡ at + 2) × (at + 2 ≤ length s)
-u16-value s at e = let (x, y, z) = num-value 50 2 s at e in (x ∙ value2 s at z, y, z)
+u16-value s at e = let (x, y, z) = num-value 50 2 s at e in (x ∙ u16-is s at, y, z)
 
 -- what a number that was read tells
 pub past-at : {b m at v p : ℕ} {s : List ℕ} {r : Got} → Past b m s at r → r ≡ Value v p → (at + m ≤ p) × (p ≤ length s) × (v < b)

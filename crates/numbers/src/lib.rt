@@ -1,8 +1,8 @@
 // Numbers and bytes at a place of a slice. Any slice and any place get an answer.
 ghost use mathlib.Core.Path.{_≡_};
 ghost use Prim.Native.Nat.{_+_, _-_, _*_, _≤_, _<_};
-ghost use lib.ListN.{length};
-ghost use Rattle.numbers.specs.Numbers.{takeAt, numAt, le16, Past};
+ghost use lib.ListN.{length, getD, drop};
+ghost use Rattle.numbers.specs.Numbers.{takeAt, numAt, le16, le32, le64, Past};
 
 // What reading at a place gives: a number and the place after it, or a refusal.
 pub enum Got {
@@ -52,7 +52,7 @@ pub fn u16_at(s: &[u8], at: usize, why: u32) -> Got
 {
     if 2 <= left(s, at) {
         Got::Value {
-            value: half(s, at),
+            value: u16_of(s, at),
             next: at + 2,
         }
     } else {
@@ -66,7 +66,7 @@ pub fn u32_at(s: &[u8], at: usize, why: u32) -> Got
 {
     if 4 <= left(s, at) {
         Got::Value {
-            value: half(s, at) + 65536 * half(s, at + 2),
+            value: u32_of(s, at),
             next: at + 4,
         }
     } else {
@@ -74,15 +74,60 @@ pub fn u32_at(s: &[u8], at: usize, why: u32) -> Got
     }
 }
 
-fn wide(x: u8) -> usize
+// A byte, as wide as lengths and places are.
+pub fn wide(x: u8) -> usize
     ensures { λ r. ⌜ (r ≡ x) × (r < 256) ⌝ }
 {
     x as usize
 }
 
+// The u16 at `at`, where a byte past the end counts as 0.
+pub fn u16_of(s: &[u8], at: usize) -> usize
+    ensures { λ r. ⌜ (r ≡ le16 (now (s .entry)) at) × (r < 65536) ⌝ }
+{
+    if left(s, at) < 2 {
+        u8_of(s, at)
+    } else {
+        half(s, at)
+    }
+}
+
+// The u32 at `at`, where a byte past the end counts as 0.
+pub fn u32_of(s: &[u8], at: usize) -> usize
+    ensures { λ r. ⌜ (r ≡ le32 (now (s .entry)) at) × (r < 4294967296) ⌝ }
+{
+    if left(s, at) < 4 {
+        u16_of(s, at) + 65536 * u16_of(s, ahead(s, at, 2))
+    } else {
+        half(s, at) + 65536 * half(s, at + 2)
+    }
+}
+
+// The u64 at `at`, where a byte past the end counts as 0.
+pub fn u64_of(s: &[u8], at: usize) -> usize
+    ensures { λ r. ⌜ r ≡ le64 (now (s .entry)) at ⌝ }
+{
+    u32_of(s, at) + 4294967296 * u32_of(s, ahead(s, at, 4))
+}
+
+// The u16 at `at`, which ends within s.
 fn half(s: &[u8], at: usize) -> usize
     requires { ⌜ at + 2 ≤ length (now s) ⌝ }
     ensures { λ r. ⌜ (r ≡ le16 (now (s .entry)) at) × (r < 65536) ⌝ }
 {
     wide(s[at]) + 256 * wide(s[at + 1])
+}
+
+// The byte at `at`; 0 past the end.
+fn u8_of(s: &[u8], at: usize) -> usize
+    ensures { λ r. ⌜ (r ≡ getD (now (s .entry)) at 0) × (r < 256) ⌝ }
+{
+    if at < s.len() { wide(s[at]) } else { 0 }
+}
+
+// The place n bytes after `at`, or the end where that comes first.
+fn ahead(s: &[u8], at: usize, n: usize) -> usize
+    ensures { λ r. ⌜ drop r (now (s .entry)) ≡ drop (at + n) (now (s .entry)) ⌝ }
+{
+    if n <= left(s, at) { at + n } else { s.len() }
 }

@@ -1,13 +1,13 @@
 -- Plain texts eight bytes at a time. Assumes nothing.
-use Prim.Native.Nat.{ℕ, zero, suc, _+_, _-_, _≤_, _<_}
+use Prim.Native.Nat.{ℕ, suc, _+_, _-_, _≤_, _<_}
 use mathlib.Core.Path.{_≡_, refl, sym, ap, _∙_}
-use mathlib.Core.List.{List, [], _∷_}
+use mathlib.Core.List.{List}
 use mathlib.Core.Bool.{Bool, true, false, _&&_}
-use native.Mathlib.Numerals.{add-one}
 use native.Mathlib.Omega.{arith}
-use lib.ListN.{length, getD, take, drop, length-drop, drop-of-length-le}
+use lib.ListN.{length, getD, take, drop, length-drop}
 use lib.Seq.{drop-cons, drop-drop, take-all}
-use Rattle.text.specs.And.{and-true, and-false, and-join}
+use Rattle.text.specs.AndLaws.{and-true, and-false, and-join}
+use Rattle.text.specs.AllLaws.{Scan, all-parts}
 use Rattle.plain_text.specs.Plain.{plainByte, plain}
 
 -- one byte more of the eight from a on
@@ -26,37 +26,14 @@ eight-none x s a j h =
     let none : 8 - j ≡ 0 = omega arith in
     rw none (and-true x)
 
--- a text is plain before a place and after it
-split : (n : ℕ) (s : List ℕ) → plain s ≡ (plain (take n s) && plain (drop n s))
-split zero s = refl
-split (suc n) [] = refl
-split (suc n) (x ∷ s) = ap (λ b. plainByte x && b) (split n s) ∙ and-join (plainByte x) (plain (take n s)) (plain (drop n s))
-
--- all before i is plain
-pub record Scan (s : List ℕ) (i : ℕ) : Type 0 where
-  pub bound : i ≤ length s
-  pub same : plain s ≡ plain (drop i s)
-
-scan-step : (s : List ℕ) (i : ℕ) → i < length s → plain (drop i s) ≡ (plainByte (getD s i 0) && plain (drop (i + 1) s))
-scan-step s i h = rw (add-one, drop-cons s i 0)
-
-module _ {s : List ℕ} {i : ℕ} (v : Scan s i) where
-  pub scan-miss : i < length s → false ≡ plainByte (getD s i 0) → false ≡ plain s
-  scan-miss h e = sym (v .same ∙ scan-step s i h ∙ ap (λ b. b && plain (drop (i + 1) s)) (sym e))
-
-  pub scan-next : i < length s → true ≡ plainByte (getD s i 0) → Scan s (i + 1)
-  scan-next h e = record { bound = omega arith; same = v .same ∙ scan-step s i h ∙ ap (λ b. b && plain (drop (i + 1) s)) (sym e) }
-
-  pub scan-end : length s ≤ i → true ≡ plain s
-  scan-end h = sym (v .same ∙ rw (drop-of-length-le s h))
-
+module _ {s : List ℕ} {i : ℕ} (v : Scan plainByte s i) where
   eight : plain s ≡ (plain (take 8 (drop i s)) && plain (drop (i + 8) s))
-  eight = v .same ∙ split 8 (drop i s) ∙ ap (λ t. plain (take 8 (drop i s)) && plain t) (drop-drop 8 i s)
+  eight = v .same ∙ all-parts plainByte 8 (drop i s) ∙ ap (λ t. plain (take 8 (drop i s)) && plain t) (drop-drop 8 i s)
 
   pub eight-miss : false ≡ plain (take 8 (drop i s)) → false ≡ plain s
   eight-miss h = sym (eight ∙ ap (λ b. b && plain (drop (i + 8) s)) (sym h))
 
-  pub eight-next : true ≡ plain (take 8 (drop i s)) → i + 8 ≤ length s → Scan s (i + 8)
+  pub eight-next : true ≡ plain (take 8 (drop i s)) → i + 8 ≤ length s → Scan plainByte s (i + 8)
   eight-next h fits = record { bound = fits; same = eight ∙ ap (λ b. b && plain (drop (i + 8) s)) (sym h) }
 
 -- where each of two follows from the other they are the same
@@ -66,14 +43,14 @@ two true t true y p q = refl
 two true t false y p q = sym (p ∙ and-false t)
 
 -- the last eight bytes tell of all from i on
-pub last-eight : {s : List ℕ} {i : ℕ} → Scan s i → length s < i + 8 → 8 ≤ length s → plain (take 8 (drop (length s - 8) s)) ≡ plain s
+pub last-eight : {s : List ℕ} {i : ℕ} → Scan plainByte s i → length s < i + 8 → 8 ≤ length s → plain (take 8 (drop (length s - 8) s)) ≡ plain s
 last-eight {s} {i} v near long =
     let a = length s - 8 in
     let all : take 8 (drop a s) ≡ drop a s = take-all 8 (drop a s) (omega (arith, length-drop a s)) in
     let place : a + (i - a) ≡ i = omega (arith, v .bound) in
     let later : plain (drop a s) ≡ (plain (take (i - a) (drop a s)) && plain s) =
-    split (i - a) (drop a s)
+    all-parts plainByte (i - a) (drop a s)
     ∙ ap (λ t. plain (take (i - a) (drop a s)) && plain t) (drop-drop (i - a) a s ∙ ap (λ k. drop k s) place)
     ∙ ap (λ b. plain (take (i - a) (drop a s)) && b) (sym (v .same)) in
     ap (λ t. plain t) all
-    ∙ two (plain s) (plain (take a s)) (plain (drop a s)) (plain (take (i - a) (drop a s))) (split a s) later
+    ∙ two (plain s) (plain (take a s)) (plain (drop a s)) (plain (take (i - a) (drop a s))) (all-parts plainByte a s) later

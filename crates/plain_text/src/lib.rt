@@ -47,6 +47,7 @@ fn by_one(s: &[u8]) -> bool
     true
 }
 
+// Whether a byte is from 1 to 127.
 fn plain_byte(b: u8) -> bool
     ensures { λ r. ⌜ r ≡ plainByte b ⌝ }
 {

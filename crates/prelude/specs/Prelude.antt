@@ -1,7 +1,7 @@
 -- The prelude, as document 01's "Bytes on the wire" has it, and the verdict on it.
 -- Assumes nothing.
 use Prim.Native.Nat.{ℕ, _-_}
-use mathlib.Core.Bool.{Bool, false, cond}
+use mathlib.Core.Bool.{Bool, _&&_, cond}
 use mathlib.Core.List.{List}
 use lib.ListN.{length}
 use lib.Dec.{leb, ltb}
@@ -20,7 +20,7 @@ magic = byte 10 10 68 then byte 10 10 66 then byte 10 10 78
 
 -- versions 1 to 4
 abbrev pub isVersion : ℕ → Bool
-isVersion v = cond (leb 1 v) (leb v 4) false
+isVersion v = leb 1 v && leb v 4
 
 -- magic, version, u32 block length; a length below 100 is 12
 unfoldable pub prelude : Codec Prelude

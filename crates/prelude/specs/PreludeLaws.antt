@@ -1,17 +1,19 @@
 -- The prelude keeps the laws of a format, and its verdict step by step as the code meets it.
 -- Assumes nothing.
-use Prim.Native.Nat.{ℕ, _+_, _*_, _-_, _≤_, _<_}
+use Prim.Native.Nat.{ℕ, _-_, _≤_, _<_}
 use native.Mathlib.Omega.{arith}
 use mathlib.Core.Bool.{Bool, true, false, cond}
-use mathlib.Core.Path.{_≡_, refl, sym, ap, _∙_}
+use mathlib.Core.Path.{_≡_, refl, sym, _∙_}
 use mathlib.Core.List.{List}
 use borrow.Author.Tests.{lt-ltb, le-ltb}
-use lib.ListN.{length, take, drop, getD}
+use lib.ListN.{length, take, getD}
 use lib.Seq.{length-take-le, getD-take}
 use lib.Dec.{leb, eqb}
-use Rattle.codec.specs.Codec.{value, num, byte, _then_, named, checked}
+use Rattle.codec.specs.Codec.{num, byte, named, checked, _then_}
 use Rattle.codec.specs.Laws.{Law, law-num, law-byte, law-then, law-named, law-checked}
-use Rattle.codec.specs.Steps.{num-got, byte-got, value-step}
+use Rattle.codec.specs.Steps.{num-got, byte-got}
+use Rattle.numbers.specs.Numbers.{le32}
+use Rattle.numbers.specs.NumberLaws.{u32-is}
 use Rattle.prelude.specs.Prelude.{magic, isVersion, prelude, said, preludeOf}
 use Rattle.prelude.specs.declared.Stage.{Stage}
 use Rattle.prelude.specs.declared.Stage.the-variants.{Needs, Refused, Whole}
@@ -30,19 +32,12 @@ law-prelude =
 
 -- the block length that a prelude states, at places 4 to 7
 abbrev pub lengthOf : List ℕ → ℕ
-lengthOf s = getD s 4 0 + 256 * (getD s 5 0 + 256 * (getD s 6 0 + 256 * (getD s 7 0 + 256 * 0)))
+lengthOf s = le32 s 4
 
 -- the five tests on eight bytes, one after the other
 abbrev pub tests : Bool → Bool → Bool → Bool → Bool → ℕ → ℕ → Stage
 tests a b c d e v n =
     cond a (cond b (cond c (cond d (cond e (Whole v n) (Refused 12)) (Refused 11)) (Refused 10)) (Refused 10)) (Refused 10)
-
-length-is : (s : List ℕ) → 8 ≤ length s → value (take 4 (drop 4 s)) ≡ lengthOf s
-length-is s h =
-    value-step 3 s 4 (omega arith)
-    ∙ ap (λ x. getD s 4 0 + 256 * x) (value-step 2 s 5 (omega arith)
-    ∙ ap (λ x. getD s 5 0 + 256 * x) (value-step 1 s 6 (omega arith)
-    ∙ ap (λ x. getD s 6 0 + 256 * x) (value-step 0 s 7 (omega arith))))
 
 -- fewer than eight bytes
 pub prelude-few : (s : List ℕ) → length s < 8 → preludeOf s ≡ Needs (8 - length s)
@@ -70,7 +65,7 @@ module _ (s : List ℕ) (h : 8 ≤ length s) where
         byte-got 11 0 s 3 (omega arith),
         qd,
         num-got 12 4 0 s 4 (omega arith),
-        length-is s h,
+        u32-is s 4,
         qe,
       )
   read-is true true true true true qa qb qc qd qe =
@@ -84,7 +79,7 @@ module _ (s : List ℕ) (h : 8 ≤ length s) where
         byte-got 11 0 s 3 (omega arith),
         qd,
         num-got 12 4 0 s 4 (omega arith),
-        length-is s h,
+        u32-is s 4,
         qe,
       )
 

@@ -1,13 +1,11 @@
 // The prelude: the eight bytes that begin a stream, and the verdict on them.
 ghost use mathlib.Core.Path.{_≡_};
-ghost use Prim.Native.Nat.{_≤_};
-ghost use lib.ListN.{length};
 ghost use Rattle.prelude.specs.Prelude.{preludeOf};
-ghost use Rattle.prelude.specs.PreludeLaws.{lengthOf};
 
-// The bytes of a prelude, and the least block that it may announce.
+// The bytes of a prelude.
 const METADATA_PRELUDE_LEN: usize = 8;
 
+// The least block that a prelude may announce.
 const METADATA_FIXED_LEN: usize = 100;
 
 // How far bytes have come: so many more are needed, or they are refused, or there is a block of this version and length.
@@ -41,23 +39,9 @@ pub fn prelude(s: &[u8]) -> Stage
     if 4 < version {
         return Stage::Refused(refusal::VERSION);
     }
-    let len = block_len(s);
+    let len = numbers::u32_of(s, 4);
     if len < METADATA_FIXED_LEN {
         return Stage::Refused(refusal::BLOCK_LENGTH);
     }
     Stage::Whole { version, len }
-}
-
-// The block length that eight bytes state.
-fn block_len(s: &[u8]) -> usize
-    requires { ⌜ 8 ≤ length (now s) ⌝ }
-    ensures { λ r. ⌜ r ≡ lengthOf (now (s .entry)) ⌝ }
-{
-    wide(s[4]) + 256 * (wide(s[5]) + 256 * (wide(s[6]) + 256 * wide(s[7])))
-}
-
-fn wide(x: u8) -> usize
-    ensures { λ r. ⌜ (r ≡ x) × (r ≤ 255) ⌝ }
-{
-    x as usize
 }

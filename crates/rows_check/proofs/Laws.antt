@@ -7,7 +7,8 @@ use mathlib.Core.List.{List, _++_}
 use lib.ListN.{length, length-append, take, drop}
 use lib.Dec.{eqb, leb}
 use borrow.Author.Tests.{leb-true, leb-false, le-leb, lt-leb, ne-eqb}
-use Rattle.plain_text.specs.Plain.{plain, plain-utf8}
+use Rattle.plain_text.specs.Plain.{plain}
+use Rattle.plain_text.specs.PlainLaws.{plain-utf8}
 use Rattle.numbers.specs.Pick.{pick}
 use Rattle.wire.specs.NameLaws.{plain-nul}
 use Rattle.layout.specs.Given.{D}

@@ -11,8 +11,7 @@ use Rattle.text.specs.Utf8.{utf8}
 use Rattle.dates.specs.Date.{isDate}
 use Rattle.numbers.specs.Pick.{pick}
 use Rattle.table.specs.Out.{flat, allRows}
-use Rattle.table.specs.TableLaws.{Wide, wide-append, wide-map, wide-all}
-use Rattle.table.specs.FlatLaws.{flat-length}
+use Rattle.table.specs.TableLaws.{Wide, wide-append, wide-map, wide-all, flat-length}
 use Rattle.symbology.specs.Symbology
 use Rattle.symbology.specs.Symbology.{Symbology, unspanned}
 use Rattle.symbology.specs.SymbologyRows.{symbologyRows, listRow, mappingRows, intervalRow}

@@ -1,5 +1,5 @@
 -- Rows of a part of a slice. Assumes nothing.
-use Prim.Native.Nat.{ℕ, _^_, _+_, _-_, _≤_, _<_}
+use Prim.Native.Nat.{ℕ, _^_, _+_, _≤_, _<_}
 use mathlib.Core.List.{List}
 use native.Mathlib.Omega.{arith}
 use lib.ListN.{length}

@@ -1,6 +1,6 @@
 -- Rows in a table that is long enough stand at its front, one after the other. Assumes nothing.
 use Prim.Native.Nat.{ℕ, suc, _+_, _*_, _/_, _≤_, _<_}
-use mathlib.Core.Path.{_≡_, sym, ap, _∙_}
+use mathlib.Core.Path.{_≡_, sym, ap, ap₂, _∙_}
 use mathlib.Core.List.{List, [], _∷_, _++_, append-assoc, map}
 use native.Mathlib.Nat.{mul-zero, mul-suc, mul-comm, le-div-iff-mul-le}
 use native.Mathlib.Numerals.{add-one}
@@ -72,3 +72,8 @@ fill-rows w p rs t z h = fill-front w (mul-zero w) (λ n. rw add-one (mul-suc w 
   where
     room : w * length rs ≤ length t
     room = rw (mul-comm (length rs) w) at (le-div-iff-mul-le p .0 h)
+
+-- how long rows are, one after the other
+pub flat-length : (w : ℕ) (rs : List (List ℕ)) → Wide w rs → length (flat rs) ≡ w * length rs
+flat-length w [] h = sym (mul-zero w)
+flat-length w (r ∷ rs) h = length-append r (flat rs) ∙ ap₂ _+_ (h .0) (flat-length w rs (h .1)) ∙ omega (arith, mul-suc w (length rs))

@@ -9,7 +9,7 @@ use lib.Bits.{bitOr, or-lt}
 use lib.Dec.{ltb}
 use borrow.Author.Tests.{lt-ltb, le-ltb}
 use Rattle.text.specs.Runs.{ored}
-use Rattle.text.specs.And.{and-true, and-false, and-join}
+use Rattle.text.specs.AndLaws.{and-true, and-false, and-join}
 use Rattle.text.specs.Ascii.{ascii}
 use Rattle.text.proofs.Or.{or-left, or-right}
 

@@ -1,11 +1,14 @@
 pub mod Utf8
-pub mod And
+pub mod All
+pub mod AndLaws
+pub mod AllLaws
 pub mod Ascii
-pub mod Rows
+pub mod AsciiLaws
+pub mod WellFormed
 pub mod Trim
 pub mod Hand
 pub mod Utf8Laws
 pub mod TrimLaws
 pub mod Single
 pub mod Runs
-pub mod Steps
+pub mod States

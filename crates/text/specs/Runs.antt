@@ -1,7 +1,7 @@
 -- Runs of bytes that are looked at together.
 -- Assumes nothing.
 use mathlib.Core.List.{List, [], _∷_}
-use Prim.Native.Nat.{ℕ, _+_, _≤_, _<_}
+use Prim.Native.Nat.{ℕ, _≤_, _<_}
 use lib.Bits.{bitOr}
 use lib.ListN.{length, getD}
 

@@ -12,7 +12,8 @@ use Rattle.codec.specs.Codec.{Res, ok, refuse, raw, num, byte, _then_, named, c
 use Rattle.codec.specs.Steps.{raw-got, raw-bad, byte-got, byte-bad}
 use Rattle.codec.specs.Cases.{by-bool, by-le, by-eqb}
 use Rattle.text.specs.Utf8.{utf8}
-use Rattle.plain_text.specs.Plain.{plain, plain-utf8, plain-next}
+use Rattle.plain_text.specs.Plain.{plain}
+use Rattle.plain_text.specs.PlainLaws.{plain-utf8, plain-next}
 use Rattle.numbers.specs.Numbers.{part}
 use Rattle.wire.specs.Formats
 use Rattle.wire.specs.Formats.{Name, noNul, text, textOf}

@@ -9,7 +9,7 @@ use Rattle.codec.specs.Codec.{Res, ok, refuse, _>>=_, Codec, named, timesParse}
 use Rattle.codec.specs.Format.{Format}
 use Rattle.numbers.specs.Numbers.{part}
 use Rattle.table.specs.Out.{Out, allRows, said, seq, onGot}
-use Rattle.table.specs.Steps.{seq-ok, seq-no}
+use Rattle.table.specs.StepLaws.{seq-ok, seq-no}
 use Rattle.wire.specs.Formats.{Name, section}
 use Rattle.wire.specs.Wire.{name, nameAt, sectionAt}
 use Rattle.wire.specs.NameLaws.{nameOf, name-is, name-place}

@@ -13,7 +13,7 @@ pub fn name_at(s: &[u8], at: usize) -> Got
     if numbers::left(s, at) < 1 {
         return Got::Refused(refusal::LAYOUT_TRUNCATED);
     }
-    let len = wide(s[at]);
+    let len = numbers::wide(s[at]);
     let b = at + 1;
     if numbers::left(s, b) < len {
         return Got::Refused(refusal::LAYOUT_TRUNCATED);
@@ -86,10 +86,4 @@ fn text_fault(t: &[u8]) -> u32
     } else {
         refusal::NAME_NOT_UTF8
     }
-}
-
-fn wide(x: u8) -> usize
-    ensures { λ r. ⌜ (r ≡ x) × (r < 256) ⌝ }
-{
-    x as usize
 }

@@ -1,4 +1,4 @@
--- `days_in` meets its contract.
+-- The days of each month are the written table, which a computed test shows month by month.
 -- Assumes nothing.
 use mathlib.Core.Path.{_≡_, _∙_, sym}
 use native.Mathlib.Omega.{arith}

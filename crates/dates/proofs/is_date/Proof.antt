@@ -1,4 +1,4 @@
--- `is_date` meets its contract.
+-- A number is a date where its year, month and day are in range, as the code tests them one by one.
 -- Assumes nothing.
 use mathlib.Core.Path.{ap}
 use Prim.Native.Nat.{ℕ, _/_, _%_}

@@ -1,4 +1,4 @@
--- `leap` meets its contract.
+-- The Gregorian rule, test by test.
 -- Assumes nothing.
 use borrow.Author.Tests.{eq-eqb, ne-eqb}
 use Rattle.dates.specs.Date.{isLeap}

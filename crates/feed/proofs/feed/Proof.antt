@@ -3,7 +3,7 @@
 use borrow.Author.Needs.{needs}
 use native.Mathlib.Omega.{arith}
 use lib.ListN.{length}
-use Rattle.feed.specs.Laws.{poured-fits, poured-most, fed-fits, fed}
+use Rattle.feed.specs.StageLaws.{poured-fits, poured-most, fed-fits, fed}
 use Rattle.feed.proofs.feed.Statement.{statement}
 use Rattle.feed.proofs.feed.Tie as tie
 

@@ -4,7 +4,7 @@ use borrow.Author.Needs.{needs}
 use native.Mathlib.Omega.{arith}
 use mathlib.Core.Path.{sym, ap, _∙_}
 use Rattle.feed.specs.Feeding.{blockSays}
-use Rattle.feed.specs.Laws.{is-whole, judged-whole}
+use Rattle.feed.specs.StageLaws.{is-whole, judged-whole}
 use Rattle.feed.proofs.judge.Statement.{statement}
 use Rattle.feed.proofs.judge.Tie as tie
 

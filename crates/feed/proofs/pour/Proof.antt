@@ -4,7 +4,7 @@ use borrow.Author.Needs.{needs}
 use native.Mathlib.Omega.{arith}
 use mathlib.Core.Path.{_≡_, ap, _∙_}
 use Rattle.feed.specs.Feeding.{stageOf, needOf, poured}
-use Rattle.feed.specs.Laws.{need-fits}
+use Rattle.feed.specs.StageLaws.{need-fits}
 use Rattle.feed.proofs.pour.Statement.{statement}
 use Rattle.feed.proofs.pour.Tie as tie
 

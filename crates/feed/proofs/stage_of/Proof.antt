@@ -7,7 +7,7 @@ use mathlib.Core.Path.{sym, _∙_}
 use borrow.Author.Tests.{lt-ltb, le-ltb}
 use lib.ListN.{length}
 use lib.Seq.{length-take-le}
-use Rattle.feed.specs.Laws.{stage-beyond, stage-small, stage-in}
+use Rattle.feed.specs.StageLaws.{stage-beyond, stage-small, stage-in}
 use Rattle.feed.proofs.stage_of.Statement.{statement}
 use Rattle.feed.proofs.stage_of.Tie as tie
 

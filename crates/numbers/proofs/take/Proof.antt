@@ -1,3 +1,5 @@
+-- Within the end n bytes are taken, past it they are refused.
+-- Assumes nothing.
 use native.Mathlib.Omega.{arith}
 use mathlib.Core.Path.{sym}
 use borrow.Author.Needs.{needs}

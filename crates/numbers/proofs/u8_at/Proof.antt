@@ -1,3 +1,5 @@
+-- Where a byte is left it is the number of one byte there.
+-- Assumes nothing.
 use native.Mathlib.Omega.{arith}
 use mathlib.Core.Path.{sym}
 use borrow.Author.Needs.{needs}

@@ -1,16 +1,17 @@
--- `by_one` meets its contract. Assumes nothing.
+-- What is left to test tells the same as the whole. Assumes nothing.
 use Prim.Native.Nat.{_-_}
 use mathlib.Core.Path.{refl, sym, _∙_}
 use native.Mathlib.Omega.{arith}
 use lib.ListN.{length}
 use borrow.Author.Tests.{not-true, not-false}
-use Rattle.plain_text.proofs.Eights.{Scan, scan-miss, scan-next, scan-end}
+use Rattle.text.specs.AllLaws.{Scan, scan-miss, scan-next, scan-end}
+use Rattle.plain_text.specs.Plain.{plainByte}
 use borrow.Author.Needs.{needs}
 use Rattle.plain_text.proofs.by_one.Statement.{statement}
 use Rattle.plain_text.proofs.by_one.Tie as tie
 
 abbrev Inv-loop : tie.InvT-loop
-Inv-loop s i₀ i = Scan s i
+Inv-loop s i₀ i = Scan plainByte s i
 
 abbrev μ-loop : tie.MeasureT-loop
 μ-loop s i₀ i = length s - i

@@ -5,13 +5,15 @@ use mathlib.Core.Path.{refl, sym, _∙_}
 use native.Mathlib.Omega.{arith}
 use lib.ListN.{length}
 use borrow.Author.Tests.{not-true, not-false}
-use Rattle.plain_text.proofs.Eights.{Scan, eight-miss, eight-next, last-eight}
+use Rattle.text.specs.AllLaws.{Scan}
+use Rattle.plain_text.specs.Plain.{plainByte}
+use Rattle.plain_text.proofs.Eights.{eight-miss, eight-next, last-eight}
 use borrow.Author.Needs.{needs}
 use Rattle.plain_text.proofs.is_plain.Statement.{statement}
 use Rattle.plain_text.proofs.is_plain.Tie as tie
 
 abbrev Inv-loop : tie.InvT-loop
-Inv-loop s i₀ i = Scan s i
+Inv-loop s i₀ i = Scan plainByte s i
 
 abbrev μ-loop : tie.MeasureT-loop
 μ-loop s i₀ i = length s - i

@@ -1,42 +1,12 @@
-use native.Mathlib.Omega.{arith}
-use Rattle.codec.specs.Steps.{value2}
+-- The u16 at a place, in the words of the format. Assumes nothing.
+use mathlib.Core.Path.{sym, _∙_}
+use Rattle.numbers.specs.NumberLaws.{u16-is}
 use borrow.Author.Needs.{needs}
 use Rattle.block.proofs.header.half.Statement.{statement}
 use Rattle.block.proofs.header.half.Tie as tie
 
-shared-slice-read-wide : tie.Need-shared-slice-read-wide
-shared-slice-read-wide c = search needs
-
-wide-requires : tie.Need-wide-requires
-wide-requires c κs = search needs
-
-add-wide : tie.Need-add-wide
-add-wide c = search needs
-
-shared-slice-read-wide-2 : tie.Need-shared-slice-read-wide-2
-shared-slice-read-wide-2 c = search needs
-
-wide-requires-2 : tie.Need-wide-requires-2
-wide-requires-2 c κs = search needs
-
-mul-result : tie.Need-mul-result
-mul-result c = search needs
-
-add-result : tie.Need-add-result
-add-result c = search needs
-
 returns : tie.Need-returns
-returns c = (omega (arith, value2 (c .before .before .before .before .before .args .s .now) (c .before .before .before .before .before .args .at) (c .before .before .before .before .before .pre)), omega arith)
+returns c = (c .u16-of .ensures .0 ∙ sym (u16-is (c .before .before .args .s .now) (c .before .before .args .at)), c .u16-of .ensures .1)
 
 pub half-spec : {M : Type 1} → statement M
-half-spec =
-    tie.close
-    (tie.spec
-    shared-slice-read-wide
-    wide-requires
-    add-wide
-    shared-slice-read-wide-2
-    wide-requires-2
-    mul-result
-    add-result
-    returns)
+half-spec = tie.close (tie.spec (λ c κs. search needs) returns)

@@ -1,5 +1,7 @@
+use mathlib.Core.Path.{sym, _∙_}
 use native.Mathlib.Omega.{arith}
 use native.Mathlib.Nat.{le-refl}
+use Rattle.numbers.specs.NumberLaws.{u32-is}
 use Rattle.block.proofs.PartLaws.{within-mk, outside-mk, span-none, span-past, span-part}
 use borrow.Author.Needs.{needs}
 use Rattle.block.proofs.parts.span_at.Statement.{statement}
@@ -14,18 +16,18 @@ returns c = (span-none _ _ _ (omega arith), outside-mk)
 add-start : tie.Need-add-start
 add-start c = search needs
 
-word-requires : tie.Need-word-requires
-word-requires c κs = search needs
+u32-of-requires : tie.Need-u32-of-requires
+u32-of-requires c κs = search needs
 
 sub-if2 : tie.Need-sub-if2
 sub-if2 c = search needs
 
 returns-2 : tie.Need-returns-2
-returns-2 c = (span-past _ _ _ _ (omega arith) (c .before .word .ensures .0) (omega arith), outside-mk)
+returns-2 c = (span-past _ _ _ _ (omega arith) (c .before .u32-of .ensures .0 ∙ sym (u32-is (c .before .before .before .before .args .block .now) (c .before .before .before .before .args .at))) (omega arith), outside-mk)
 
 returns-3 : tie.Need-returns-3
-returns-3 c = (span-part _ _ _ _ (omega arith) (c .before .word .ensures .0) (omega arith), within-mk (le-refl _) (omega arith))
+returns-3 c = (span-part _ _ _ _ (omega arith) (c .before .u32-of .ensures .0 ∙ sym (u32-is (c .before .before .before .before .args .block .now) (c .before .before .before .before .args .at))) (omega arith), within-mk (le-refl _) (omega arith))
 
 pub span-at-spec : {M : Type 1} → statement M
 span-at-spec =
-    tie.close (tie.spec sub-if1 returns add-start word-requires sub-if2 returns-2 returns-3)
+    tie.close (tie.spec sub-if1 returns add-start u32-of-requires sub-if2 returns-2 returns-3)

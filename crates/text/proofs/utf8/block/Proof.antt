@@ -1,4 +1,4 @@
--- `block` meets its contract.
+-- Where no row is begun eight bytes below 128 leave none begun; else the eight bytes go one by one.
 -- Assumes nothing.
 use Prim.Native.Nat.{_+_}
 use Rattle.text.proofs.Goes.{goes-upto}

@@ -1,4 +1,4 @@
--- `is_utf8` meets its contract.
+-- Bytes below 128 are rows by themselves, so what is left after them is judged as the whole is.
 -- Assumes nothing.
 use mathlib.Core.Path.{_∙_, sym}
 use Rattle.text.specs.Utf8.{utf8}

@@ -1,4 +1,4 @@
--- `or_all` meets its contract.
+-- The loop keeps: the bits so far, or-ed with what is left, are those of all the bytes.
 -- Assumes nothing.
 use mathlib.Core.Path.{_≡_, _∙_, sym}
 use Prim.Native.Nat.{ℕ, _≤_, _+_, _-_}

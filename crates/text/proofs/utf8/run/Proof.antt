@@ -1,4 +1,4 @@
--- `run` meets its contract.
+-- The loop keeps: what is expected after the bytes passed decides the rest as it was decided before them.
 -- Assumes nothing.
 use mathlib.Core.Path.{_≡_, _∙_, ap}
 use Prim.Native.Nat.{_≤_, _+_, _-_}
@@ -6,7 +6,7 @@ use native.Mathlib.Omega.{arith}
 use borrow.Author.Needs.{needs}
 use lib.ListN.{length, drop}
 use Rattle.text.specs.Utf8.{Expect, goes}
-use Rattle.text.specs.Steps.{State, Rule, meaning}
+use Rattle.text.specs.States.{State, Rule, meaning}
 use Rattle.text.proofs.Goes.{goes-one}
 use Rattle.text.proofs.utf8.run.Statement.{statement}
 use Rattle.text.proofs.utf8.run.Tie as tie

@@ -1,4 +1,4 @@
--- `skip` meets its contract.
+-- The loop keeps: all bytes passed are below 128, each run because its bits together are.
 -- Assumes nothing.
 use Prim.Native.Nat.{_≤_, _-_}
 use native.Mathlib.Omega.{arith}

@@ -1,4 +1,4 @@
--- `walk` meets its contract.
+-- The loop keeps: what is expected after the bytes passed decides the rest as the start decides the whole.
 -- Assumes nothing.
 use mathlib.Core.Path.{_≡_, _∙_, refl, sym, ap}
 use mathlib.Core.List.{[]}
@@ -8,7 +8,7 @@ use native.Mathlib.Omega.{arith}
 use lib.ListN.{length, drop}
 use lib.Seq.{drop-length}
 use Rattle.text.specs.Utf8.{goes}
-use Rattle.text.specs.Steps.{State, meaning}
+use Rattle.text.specs.States.{State, meaning}
 use borrow.Author.Needs.{needs}
 use Rattle.text.proofs.States.{state-zero, ended-at}
 use Rattle.text.proofs.utf8.walk.Statement.{statement}

@@ -10,7 +10,7 @@ use lib.Dec.{ltb}
 use Rattle.block.specs.Read.{blockAnswer, blockSymbology, blockLayout}
 use Rattle.prelude.specs.Prelude.{preludeOf}
 use Rattle.feed.specs.Feeding.{bounded, stageOf, blockSays, blockIn, answerAt, symbologyAt, layoutAt}
-use Rattle.feed.specs.Laws.{is-whole}
+use Rattle.feed.specs.StageLaws.{is-whole}
 use Rattle.prelude.specs.declared.Stage.{Stage}
 use Rattle.prelude.specs.declared.Stage.the-variants.{Needs, Refused, Whole}
 

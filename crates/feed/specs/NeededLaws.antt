@@ -8,7 +8,7 @@ use lib.ListN.{length, take, drop, length-append}
 use lib.Seq.{take-take, take-append-le, length-take-le, paste}
 use Rattle.prelude.specs.Prelude.{preludeOf}
 use Rattle.feed.specs.Feeding.{stageOf}
-use Rattle.feed.specs.Laws.{ForPrelude, ForBlock, needing, stage-prelude, stage-block, stage-whole, paste-length}
+use Rattle.feed.specs.StageLaws.{ForPrelude, ForBlock, needing, stage-prelude, stage-block, stage-whole, paste-length}
 use Rattle.prelude.specs.declared.Stage.the-variants.{Needs, Whole}
 
 -- what lies before a paste is kept

@@ -9,7 +9,7 @@ use Rattle.block.specs.Read.{blockAnswer}
 use Rattle.block.specs.declared.BlockAnswer.{BlockAnswer}
 use Rattle.block.specs.declared.BlockAnswer.the-variants.{Read}
 use Rattle.feed.specs.Feeding.{stageOf, needOf, poured, takenOf, blockSays, blockIn, answerAt, Feeding}
-use Rattle.feed.specs.Stages.{needs-rest, needs-eight, needs-whole}
+use Rattle.feed.specs.NeededLaws.{needs-rest, needs-eight, needs-whole}
 use Rattle.feed.specs.declared.Answer.{Answer}
 use Rattle.feed.specs.declared.Fed.{Fed}
 use Rattle.prelude.specs.declared.Stage.{Stage}

@@ -10,10 +10,10 @@ use lib.ListN.{take, drop, set}
 use lib.Seq.{take-set-le, paste, paste-zero}
 use Rattle.prelude.specs.Prelude.{preludeOf}
 use Rattle.feed.specs.Feeding.{stageOf, needOf, takenOf, answerAt, Judgement, Feeding}
-use Rattle.feed.specs.Laws.{needing}
-use Rattle.feed.specs.Stages.{needs-room}
-use Rattle.feed.specs.Bytewise.{eat, eats, after-eats}
-use Rattle.feed.specs.Pieces.{taken-none, join}
+use Rattle.feed.specs.StageLaws.{needing}
+use Rattle.feed.specs.NeededLaws.{needs-room}
+use Rattle.feed.specs.BytewiseLaws.{eat, eats, after-eats}
+use Rattle.feed.specs.PieceLaws.{taken-none, join}
 use Rattle.feed.specs.Single.{Same, one-feed}
 use Rattle.feed.specs.declared.Answer.{Answer}
 use Rattle.feed.specs.declared.Fed.{Fed}

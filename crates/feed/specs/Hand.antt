@@ -9,7 +9,7 @@ use lib.Seq.{paste, take-all, take-paste}
 use Rattle.codec.specs.Codec.{_then_, named, checked, byte, num, raw}
 use Rattle.prelude.specs.Prelude.{magic, prelude, preludeOf}
 use Rattle.feed.specs.Feeding.{bounded, stageOf, needOf, poured, takenOf, answerAt, Feeding}
-use Rattle.feed.specs.Laws.{stage-prelude, stage-eight, paste-length}
+use Rattle.feed.specs.StageLaws.{stage-prelude, stage-eight, paste-length}
 use Rattle.feed.specs.declared.Answer.{Answer}
 use Rattle.feed.specs.declared.Answer.the-variants.{Needs, Refused}
 use Rattle.feed.specs.declared.Fed.{Fed}

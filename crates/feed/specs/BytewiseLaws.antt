@@ -9,8 +9,8 @@ use mathlib.Core.List.{List, [], _∷_, _++_}
 use lib.ListN.{length, take, drop, getD, set, length-drop, take-append-drop, drop-of-length-le}
 use lib.Seq.{take-suc, paste, paste-zero, paste-suc}
 use Rattle.feed.specs.Feeding.{stageOf, needOf, poured, takenOf}
-use Rattle.feed.specs.Laws.{below-or, ForPrelude, ForBlock, needing, paste-paste, poured-most, poured-fits}
-use Rattle.feed.specs.Stages.{needs-room, needs-rest, needs-whole}
+use Rattle.feed.specs.StageLaws.{below-or, ForPrelude, ForBlock, needing, paste-paste, poured-most, poured-fits}
+use Rattle.feed.specs.NeededLaws.{needs-room, needs-rest, needs-whole}
 use Rattle.prelude.specs.declared.Stage.{Stage}
 use Rattle.prelude.specs.declared.Stage.the-variants.{Needs, Refused, Whole}
 

@@ -6,7 +6,7 @@ use mathlib.Core.Path.{_≡_, refl, sym, ap, ap₂, subst₂, _∙_}
 use mathlib.Core.List.{List, _++_}
 use lib.ListN.{drop}
 use lib.Seq.{paste, paste-zero}
-use Rattle.feed.specs.Bytewise.{eats, after, after-eats, eats-append, eats-none, rest}
+use Rattle.feed.specs.BytewiseLaws.{eats, after, after-eats, eats-append, eats-none, rest}
 use Rattle.feed.specs.Feeding.{stageOf, needOf, takenOf, blockSays, blockIn, answerAt, symbologyAt, layoutAt, Judgement, Feeding}
 use Rattle.feed.specs.Single.{Same, one-feed}
 use Rattle.block.specs.Read.{again}
