@@ -9,10 +9,11 @@ use Rattle.text.specs.Utf8.{utf8}
 use Rattle.wire.specs.Formats.{section, text, name}
 use Rattle.layout.specs.Layout.{entry, fields, recordL, structL, label, labelDef, parts, groups, printLayout}
 use Rattle.layout.specs.Given.{D}
+use Rattle.entry.specs.Entry.{cutBytes, rowBytes}
 use Rattle.fields.specs.Sheet.{alignOf, defOf, idOf, isDecimal, isExtension, isPadding, isStruct, isSymbol, memberAlign, namesLabel, offOf, pastBase, sizeOf, typeOf}
 use Rattle.fields.specs.Field.{breaks71, breaks72, breaks73, breaks74, breaks76, breaks77, breaks79, breaks80, fieldFault}
 use Rattle.rules.specs.Rules.{seqsFault, structsFault, recordsFault, structFault, recordFault, seqFault, fieldsFault, baseFault, extFault, tilingFault, spans, structAlign, largest}
-use Rattle.rules.specs.RowRules.{rowsRules, rowsOf, eleven, rowHead, rowCount, rowSeq, seqsIn, kindRows}
+use Rattle.rules.specs.RowRules.{rowsRules, rowsOf, rowCount, rowSeq, seqsIn, kindRows}
 use Rattle.writer.specs.Write.{writeLayout}
 use Rattle.writer.specs.RoundTrip.{accepts}
 use Rattle.writer.specs.declared.Written.the-variants.{Length}
@@ -41,7 +42,7 @@ unfolding fault wellFormed both every rowTest rowFits limitOf inOrder walk secOk
 well-formed = refl
 
 pub ruled : rowsRules sheet 71 table ≡ 0
-unfolding rowsRules rowsOf eleven rowHead rowCount rowSeq seqsIn kindRows seqsFault structsFault recordsFault structFault recordFault seqFault fieldsFault baseFault extFault tilingFault spans structAlign largest fieldFault breaks71 breaks72 breaks73 breaks74 breaks76 breaks77 breaks79 breaks80 alignOf defOf idOf isDecimal isExtension isPadding isStruct isSymbol memberAlign namesLabel offOf pastBase sizeOf typeOf
+unfolding rowsRules rowsOf cutBytes rowBytes rowCount rowSeq seqsIn kindRows seqsFault structsFault recordsFault structFault recordFault seqFault fieldsFault baseFault extFault tilingFault spans structAlign largest fieldFault breaks71 breaks72 breaks73 breaks74 breaks76 breaks77 breaks79 breaks80 alignOf defOf idOf isDecimal isExtension isPadding isStruct isSymbol memberAlign namesLabel offOf pastBase sizeOf typeOf
 ruled = refl
 
 -- so it is written, wherever the output has room for it

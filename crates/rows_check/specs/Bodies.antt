@@ -11,12 +11,13 @@ use lib.Dec.{eqb}
 use Rattle.codec.specs.Codec.{Codec, little, timesPrint}
 use Rattle.text.specs.Utf8.{utf8}
 use Rattle.numbers.specs.Pick.{pick}
+use Rattle.entry.specs.EntryLaws.{row-bytes-length}
 use Rattle.wire.specs.Wire.{name}
 use Rattle.layout.specs.Given.{D, D-least, entry, fields, label, recordL, structL, labelDef}
 use Rattle.layout.specs.Layout
 use Rattle.wire.specs.Prints.{name-print}
 use Rattle.layout.specs.Prints.{entry-print, fields-print, label-print, labelDef-print, labelBody-print, struct-print, structBody-print, record-print, recordBody-print, recordParts, layout-print}
-use Rattle.rows_check.specs.Tree.{cell, byKind, from, after, nameOf, headOf, entryOf, labelOf, fieldsOf, recordOf, structOf, labelDefOf, nextSec, kinds, structsFrom, labelsFrom, treeOf}
+use Rattle.rows_check.specs.Tree.{cell, byKind, from, after, nameOf, entryOf, labelOf, fieldsOf, recordOf, structOf, labelDefOf, nextSec, kinds, structsFrom, labelsFrom, treeOf}
 use Rattle.rows_check.specs.Check.{secAt, printed}
 use Rattle.rows_check.specs.Table.{length-from}
 
@@ -142,7 +143,7 @@ module _ (rows text : List ℕ) where
   entries-length zero q = omega arith
   entries-length (suc n) q =
       let e : length (entryAt rows q) ≡ D =
-      ap length (entry-print utf8 D (entryOf rows q)) ∙ length-append (headOf rows q) (entryOf rows q .skipped) ∙ omega (arith, D-least, length-replicate {A = ℕ} (D - 11) 0) in
+      ap length (entry-print utf8 D (entryOf rows q)) ∙ length-append (entryOf rows q .head) (entryOf rows q .skipped) ∙ omega (arith, D-least, row-bytes-length rows (9 * q), length-replicate {A = ℕ} (D - 11) 0) in
       let m : D * suc n ≡ D + D * n = mul-suc D n ∙ omega arith in
       omega (arith, e, m, entries-length n (q + 1), length-append (entryAt rows q) (many after (entryAt rows) (q + 1) n))
 

@@ -1,5 +1,5 @@
 -- Rows that nothing refuses stand for a layout that has bytes. Assumes nothing.
-use Prim.Native.Nat.{ℕ, zero, suc, _+_, _-_, _%_, _≤_, _<_}
+use Prim.Native.Nat.{ℕ, zero, suc, _+_, _-_, _*_, _≤_, _<_}
 use native.Mathlib.Omega.{arith}
 use mathlib.Core.Path.{_≡_, refl, sym, _∙_}
 use mathlib.Core.Bool.{Bool, true, false}
@@ -11,13 +11,14 @@ use borrow.Author.Tests.{ne-eqb, leb-true, ltb-true, le-leb}
 use Rattle.codec.specs.Codec.{Bytes, Codec, timesLegal}
 use Rattle.text.specs.Utf8.{utf8}
 use Rattle.numbers.specs.Pick.{pick}
+use Rattle.entry.specs.EntryLaws.{row-bytes-length, row-bytes-small}
 use Rattle.wire.specs.Wire.{name}
 use Rattle.layout.specs.Given.{D, entry, fields, label, recordL, structL, labelDef}
 use Rattle.wire.specs.Formats.{noNul}
 use Rattle.layout.specs.Layout.{LegalLayout}
 use Rattle.wire.specs.Prints.{name-legal}
 use Rattle.layout.specs.Prints.{label-legal, labelDef-legal, Rising, entry-legal, fields-legal, struct-legal, record-legal, layout-legal}
-use Rattle.rows_check.specs.Tree.{cell, rowCount, from, after, nameOf, headOf, entryOf, labelOf, fieldsOf, recordOf, structOf, labelDefOf, countOf, namesFrom, nextSec, kinds, structsFrom, labelsFrom, treeOf}
+use Rattle.rows_check.specs.Tree.{cell, rowCount, from, after, nameOf, entryOf, labelOf, fieldsOf, recordOf, structOf, labelDefOf, countOf, namesFrom, nextSec, kinds, structsFrom, labelsFrom, treeOf}
 use Rattle.rows_check.specs.Check.{both, every, limitOf, countFits, nameShort, clean, nameClean, rowTest, passes, nameKind, groupsFit, countsFit, secAt, fitsAll, sectionsFit, size, risesAt, fault}
 use Rattle.rows_check.specs.Tests.{both-left, both-right, every-at, number-le, row-span, InPlace, Places, Formed, formed}
 use Rattle.rows_check.specs.Table.{length-from, name-len}
@@ -71,16 +72,6 @@ bytes-take (suc n) (x ∷ s) b (suc k) = bytes-take n s (λ m. b (suc m)) k
 bytes-part : (l s : ℕ) (text : List ℕ) → Bytes text → Bytes (take l (drop s text))
 bytes-part l s text b = bytes-take l (drop s text) (λ k. rw getD-drop (b (s + k)))
 
--- numbers cut to a byte
-data Cut : List ℕ → Type 0 where
-  none : Cut []
-  one : (x : ℕ) {s : List ℕ} → Cut s → Cut (x % 256 ∷ s)
-
-bytes-cut : {s : List ℕ} → Cut s → Bytes s
-bytes-cut none k = omega arith
-bytes-cut (one x c) zero = omega arith
-bytes-cut (one x c) (suc k) = bytes-cut c k
-
 bytes-zeros : (n : ℕ) → Bytes (replicate n 0)
 bytes-zeros zero k = omega arith
 bytes-zeros (suc n) zero = omega arith
@@ -89,7 +80,7 @@ bytes-zeros (suc n) (suc k) = bytes-zeros n k
 module _ (rows text : List ℕ) where
   entry-ok : (q : ℕ) → entry .legal (entryOf rows q)
   entry-ok q =
-      entry-legal utf8 D (entryOf rows q) refl (bytes-cut {s = headOf rows q} (one _ (one _ (one _ (one _ (one _ (one _ (one _ (one _ (one _ (one _ (one _ none))))))))))))
+      entry-legal utf8 D (entryOf rows q) (row-bytes-length rows (9 * q)) (row-bytes-small rows (9 * q))
       (length-replicate (D - 11) 0) (bytes-zeros (D - 11))
 
   -- items one after the other

@@ -6,6 +6,7 @@ use mathlib.Core.Bool.{true}
 use mathlib.Core.List.{List, [], _∷_, _++_, map}
 use lib.ListN.{length, take, drop, length-take, length-drop, drop-of-length-le}
 use lib.Seq.{drop-cons}
+use Rattle.entry.specs.EntryLaws.{row-numbers}
 use Rattle.layout.specs.Rows.{entryRow, nameRow, fieldRows, recordRows, structRows, labelRow, labelDefRows, rows}
 use Rattle.table.specs.Out.{flat, allRows}
 use Rattle.rows_check.specs.Tree.{cell, rowCount, from, after, cells, rowsIn, nameOf, entryOf, labelOf, fieldsOf, recordOf, structOf, labelDefOf, countOf, namesFrom, nextSec, skip, kinds, structsFrom, labelsFrom, treeOf}
@@ -91,7 +92,9 @@ module _ (table text : List ℕ) where
         let l6 : cell table q 6 ≤ 65535 = number-le table text q e 11 k 6 (omega arith) (omega arith) in
         let l7 : cell table q 7 ≤ 255 = number-le table text q e 11 k 7 (omega arith) (omega arith) in
         let l8 : cell table q 8 ≤ 0 = number-le table text q e 11 k 8 (omega arith) (omega arith) in
-        ap₂ _∷_ (sym k) (ap₂ _∷_ (omega arith) (ap₂ _∷_ (omega arith) (ap₂ _∷_ (omega arith) (ap₂ _∷_ (omega arith) (ap₂ _∷_ (omega arith) (ap₂ _∷_ (omega arith) (ap₂ _∷_ (omega arith) (ap₂ _∷_ (omega arith) (refl)))))))))
+        let z : cell table q 8 ≡ 0 = omega arith in
+        ap₂ (λ (kind : ℕ) (ns : List ℕ). kind ∷ (ns ++ (0 ∷ []))) (sym k)
+        (row-numbers table (9 * q) (omega arith) (omega arith) (omega arith) (omega arith) (omega arith) (omega arith) (omega arith)) ∙ rw z
 
     name-row : cell table q 0 ≡ 12 → nameRow (nameOf table text q) ≡ cells table q
     unfolding limitOf

@@ -5,7 +5,7 @@ ghost use mathlib.Core.Path.{_≡_};
 ghost use Prim.Native.Nat.{_+_, _*_, _≤_};
 ghost use lib.ListN.{length};
 ghost use Rattle.layout.specs.Given.{entry};
-ghost use Rattle.rows_check.specs.Tree.{cell, after, plainEntry};
+ghost use Rattle.rows_check.specs.Tree.{cell, after, entryWithZeros};
 ghost use Rattle.rows_check.specs.Bodies.{many, nameAt, entryAt, labelAt, fieldsAt};
 ghost use Rattle.rows_check.specs.Secs.{Spans};
 ghost use Rattle.writer.specs.Put.{Room, Wrote};
@@ -27,8 +27,8 @@ pub(crate) fn put_name(out: &mut [u8], at: usize, rows: &[u32], text: &[u8], q: 
 
 // An entry: the eleven bytes, and zeros up to D.
 fn put_entry(out: &mut [u8], at: usize, e: [u8; 11]) -> usize
-    requires { ⌜ Room at (entry .print (plainEntry e)) (now out) ⌝ }
-    ensures { λ r. ⌜ Wrote at (entry .print (plainEntry e)) (now (out .entry)) (now (out .exit)) r ⌝ }
+    requires { ⌜ Room at (entry .print (entryWithZeros e)) (now out) ⌝ }
+    ensures { λ r. ⌜ Wrote at (entry .print (entryWithZeros e)) (now (out .entry)) (now (out .exit)) r ⌝ }
 {
     let a = put::put_bytes(out, at, &e);
     put::put_zeros(out, a, layout::D - 11)
@@ -43,7 +43,7 @@ fn put_entries(out: &mut [u8], at: usize, rows: &[u32], q: usize, n: usize) -> u
     let mut p = q;
     let mut todo = n;
     while 0 < todo {
-        a = put_entry(out, a, cells::entry_of_row(rows, p));
+        a = put_entry(out, a, entry::row_bytes(rows, 9 * p));
         p += 1;
         todo -= 1;
     }

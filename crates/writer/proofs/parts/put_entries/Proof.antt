@@ -20,7 +20,7 @@ loop-holds : tie.Need-loop-holds Inv-loop μ-loop
 loop-holds c = (refl, left-start (c .before .before .pre .1))
 
 put-entry-requires : tie.Need-put-entry-requires Inv-loop μ-loop
-put-entry-requires c κs = rw (c .entry-of-row .ensures) (many-room _ _ _ _ (c .before .before .before .loop .inv .1) (c .before .before .loop-test .taken))
+put-entry-requires c κs = rw (c .row-bytes .ensures) (many-room _ _ _ _ (c .before .before .before .loop .inv .1) (c .before .before .loop-test .taken))
 
 loop-again : tie.Need-loop-again Inv-loop μ-loop
 loop-again c = (search needs, many-step _ _ _ _ (c .before .before .before .before .before .before .loop .inv .1) (c .before .before .before .before .before .loop-test .taken) (wrote-is (c .before .before .put-entry .ensures) (cc)))
@@ -38,7 +38,8 @@ put-entries-spec =
     Inv-loop
     μ-loop
     loop-holds
-    (λ c κs. omega arith)
+    (λ c. omega arith)
+    (λ c κs. search needs)
     put-entry-requires
     (λ c. search needs)
     (λ c. search needs)
