@@ -15,10 +15,10 @@ use Rattle.fields.specs.Field.{breaks71, breaks72, breaks73, breaks74, breaks76
 use Rattle.rules.specs.Rules.{seqsFault, structsFault, recordsFault, structFault, recordFault, seqFault, fieldsFault, baseFault, extFault, tilingFault, spans, structAlign, largest}
 use Rattle.rules.specs.RowRules.{rowsRules, rowsOf, rowCount, rowSeq, seqsIn, kindRows}
 use Rattle.writer.specs.Write.{writeLayout}
-use Rattle.writer.specs.RoundTrip.{accepts}
+use Rattle.writer.specs.RoundTripLaws.{accepts}
 use Rattle.writer.specs.declared.Written.the-variants.{Length}
 use Rattle.rows_check.specs.Tree.{countKind, countOf, from, namesFrom, skip, treeOf}
-use Rattle.rows_check.specs.Check.{fault, wellFormed, both, every, rowTest, rowFits, limitOf, inOrder, walk, secOk, nameKind, countsFit, groupsFit, countFits, nameShort, nameClean, clean, sectionsFit, fitsAll, secAt, printed, risesAt}
+use Rattle.rows_check.specs.Check.{fault, wellFormed, both, every, rowTest, rowFits, limitOf, inOrder, walk, sectionInPlace, nameKind, countsFit, groupsFit, countFits, nameShort, nameClean, clean, sectionsFit, fitsAll, printedSection, printed, risesAt}
 
 -- a type sheet of zeros: no type has a natural size, and type 1 is no struct, symbol, decimal or padding
 abbrev pub sheet : List ℕ
@@ -38,7 +38,7 @@ table =
 
 -- neither 90 to 95 nor a rule refuses it
 pub well-formed : fault table (65 ∷ []) ≡ 0
-unfolding fault wellFormed both every rowTest rowFits limitOf inOrder walk secOk nameKind countsFit groupsFit countFits nameShort nameClean clean sectionsFit fitsAll secAt printed risesAt countKind countOf from namesFrom skip treeOf utf8 printLayout parts groups counted recordL structL labelDef label fields entry padded named _then_ sized times distinct num raw byte section boxed name text checked placed D
+unfolding fault wellFormed both every rowTest rowFits limitOf inOrder walk sectionInPlace nameKind countsFit groupsFit countFits nameShort nameClean clean sectionsFit fitsAll printedSection printed risesAt countKind countOf from namesFrom skip treeOf cutBytes rowBytes utf8 printLayout parts groups counted recordL structL labelDef label fields entry padded named _then_ sized times distinct num raw byte section boxed name text checked placed D
 well-formed = refl
 
 pub ruled : rowsRules sheet 71 table ≡ 0

@@ -84,13 +84,13 @@ unfoldable pub namesFrom : ℕ → List ℕ → ℕ → ℕ
 namesFrom kind rows q = byKind kind (q + 1 + cell rows q 6) (q + 1 + cell rows q 4) (q + 1)
 
 -- the row after the section at row q
-abbrev pub nextSec : ℕ → List ℕ → ℕ → ℕ
-nextSec kind rows q = namesFrom kind rows q + countOf kind rows q
+abbrev pub nextSection : ℕ → List ℕ → ℕ → ℕ
+nextSection kind rows q = namesFrom kind rows q + countOf kind rows q
 
 -- the row after k sections from row q
 unfoldable pub skip : ℕ → List ℕ → ℕ → ℕ → ℕ
 skip kind rows q zero = q
-skip kind rows q (suc k) = skip kind rows (nextSec kind rows q) k
+skip kind rows q (suc k) = skip kind rows (nextSection kind rows q) k
 
 -- ---- all rows
 
@@ -112,8 +112,8 @@ labelsFrom rows = skip 13 rows (structsFrom rows) (kinds rows 13)
 unfoldable pub treeOf : ℕ → List ℕ → List ℕ → Layout
 treeOf version rows text = record {
   version = version;
-  records = from (nextSec 10 rows) (recordOf rows text) 0 (kinds rows 10);
-  structs = from (nextSec 13 rows) (structOf rows text) (structsFrom rows) (kinds rows 13);
-  labels = from (nextSec 14 rows) (labelDefOf rows text) (labelsFrom rows) (kinds rows 14);
+  records = from (nextSection 10 rows) (recordOf rows text) 0 (kinds rows 10);
+  structs = from (nextSection 13 rows) (structOf rows text) (structsFrom rows) (kinds rows 13);
+  labels = from (nextSection 14 rows) (labelDefOf rows text) (labelsFrom rows) (kinds rows 14);
   rest = [];
 }

@@ -2,14 +2,14 @@
 -- Assumes nothing.
 use Prim.Native.Nat.{ℕ, _-_}
 use native.Mathlib.Omega.{arith}
-use mathlib.Core.Path.{_≡_, sym, ap, _∙_}
+use mathlib.Core.Path.{sym, ap, _∙_}
 use mathlib.Core.List.{_++_}
 use lib.ListN.{length, replicate, length-replicate, length-append}
 use Rattle.text.specs.Utf8.{utf8}
 use Rattle.layout.specs.Given.{D, D-is}
 use Rattle.layout.specs.Prints.{entry-print}
 use Rattle.rows_check.specs.Tree.{entryWithZeros}
-use Rattle.writer.proofs.Laws.{wrote-then, wrote-is}
+use Rattle.writer.proofs.OutputLaws.{wrote-then, wrote-is}
 use borrow.Author.Needs.{needs}
 use Rattle.writer.proofs.parts.put_entry.Statement.{statement}
 use Rattle.writer.proofs.parts.put_entry.Tie as tie

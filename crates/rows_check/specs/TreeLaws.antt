@@ -6,12 +6,15 @@ use mathlib.Core.Bool.{true}
 use mathlib.Core.List.{List, [], _∷_, _++_, map}
 use lib.ListN.{length, take, drop, length-take, length-drop, drop-of-length-le}
 use lib.Seq.{drop-cons}
+use lib.Dec.{T, ltb, ltb→lt}
 use Rattle.entry.specs.EntryLaws.{row-numbers}
 use Rattle.layout.specs.Rows.{entryRow, nameRow, fieldRows, recordRows, structRows, labelRow, labelDefRows, rows}
+use Rattle.layout.specs.Layout.{fromLayout, toLayout}
+use Rattle.layout.specs.Standing.{rows-parts}
 use Rattle.table.specs.Out.{flat, allRows}
-use Rattle.rows_check.specs.Tree.{cell, rowCount, from, after, cells, rowsIn, nameOf, entryOf, labelOf, fieldsOf, recordOf, structOf, labelDefOf, countOf, namesFrom, nextSec, skip, kinds, structsFrom, labelsFrom, treeOf}
+use Rattle.rows_check.specs.Tree.{cell, rowCount, from, after, cells, rowsIn, nameOf, entryOf, labelOf, fieldsOf, recordOf, structOf, labelDefOf, countOf, namesFrom, nextSection, skip, kinds, structsFrom, labelsFrom, treeOf}
 use Rattle.rows_check.specs.Check.{rowFits, limitOf, nameKind}
-use Rattle.rows_check.specs.Tests.{number-le, row-span, InPlace, Places, Formed, next-more}
+use Rattle.rows_check.specs.CheckLaws.{number-le, row-span, InPlace, Places, Formed, next-more}
 
 -- ---- items one after the other
 
@@ -96,45 +99,27 @@ module _ (table text : List ℕ) where
         ap₂ (λ (kind : ℕ) (ns : List ℕ). kind ∷ (ns ++ (0 ∷ []))) (sym k)
         (row-numbers table (9 * q) (omega arith) (omega arith) (omega arith) (omega arith) (omega arith) (omega arith) (omega arith)) ∙ rw z
 
+    -- an unused number is 0
+    unused : {kind : ℕ} → cell table q 0 ≡ kind → (j : ℕ) → limitOf kind (suc j) ≡ 0 → T (ltb j 8) → 0 ≡ cell table q (suc j)
+    unused {kind} k j z t =
+        let l = number-le table text q e kind k (suc j) (omega arith) (let h = ltb→lt j 8 t in omega arith) in
+        omega arith
+
     name-row : cell table q 0 ≡ 12 → nameRow (nameOf table text q) ≡ cells table q
     unfolding limitOf
-    name-row k =
-        let l3 : cell table q 3 ≤ 0 = number-le table text q e 12 k 3 (omega arith) (omega arith) in
-        let l4 : cell table q 4 ≤ 0 = number-le table text q e 12 k 4 (omega arith) (omega arith) in
-        let l5 : cell table q 5 ≤ 0 = number-le table text q e 12 k 5 (omega arith) (omega arith) in
-        let l6 : cell table q 6 ≤ 0 = number-le table text q e 12 k 6 (omega arith) (omega arith) in
-        let l7 : cell table q 7 ≤ 0 = number-le table text q e 12 k 7 (omega arith) (omega arith) in
-        let l8 : cell table q 8 ≤ 0 = number-le table text q e 12 k 8 (omega arith) (omega arith) in
-        ap₂ _∷_ (sym k) (ap₂ _∷_ (refl) (ap₂ _∷_ (name-len (λ p. omega arith)) (ap₂ _∷_ (omega arith) (ap₂ _∷_ (omega arith) (ap₂ _∷_ (omega arith) (ap₂ _∷_ (omega arith) (ap₂ _∷_ (omega arith) (ap₂ _∷_ (omega arith) (refl)))))))))
+    name-row k = ap₂ _∷_ (sym k) (ap₂ _∷_ refl (ap₂ _∷_ (name-len (λ p. omega arith)) (ap₂ _∷_ (unused k 2 refl tt) (ap₂ _∷_ (unused k 3 refl tt) (ap₂ _∷_ (unused k 4 refl tt) (ap₂ _∷_ (unused k 5 refl tt) (ap₂ _∷_ (unused k 6 refl tt) (ap₂ _∷_ (unused k 7 refl tt) refl))))))))
 
     label-row : cell table q 0 ≡ 15 → labelRow (labelOf table text q) ≡ cells table q
     unfolding limitOf
-    label-row k =
-        let l4 : cell table q 4 ≤ 0 = number-le table text q e 15 k 4 (omega arith) (omega arith) in
-        let l5 : cell table q 5 ≤ 0 = number-le table text q e 15 k 5 (omega arith) (omega arith) in
-        let l6 : cell table q 6 ≤ 0 = number-le table text q e 15 k 6 (omega arith) (omega arith) in
-        let l7 : cell table q 7 ≤ 0 = number-le table text q e 15 k 7 (omega arith) (omega arith) in
-        let l8 : cell table q 8 ≤ 0 = number-le table text q e 15 k 8 (omega arith) (omega arith) in
-        ap₂ _∷_ (sym k) (ap₂ _∷_ (refl) (ap₂ _∷_ (name-len (λ p. omega arith)) (ap₂ _∷_ (refl) (ap₂ _∷_ (omega arith) (ap₂ _∷_ (omega arith) (ap₂ _∷_ (omega arith) (ap₂ _∷_ (omega arith) (ap₂ _∷_ (omega arith) (refl)))))))))
+    label-row k = ap₂ _∷_ (sym k) (ap₂ _∷_ refl (ap₂ _∷_ (name-len (λ p. omega arith)) (ap₂ _∷_ refl (ap₂ _∷_ (unused k 3 refl tt) (ap₂ _∷_ (unused k 4 refl tt) (ap₂ _∷_ (unused k 5 refl tt) (ap₂ _∷_ (unused k 6 refl tt) (ap₂ _∷_ (unused k 7 refl tt) refl))))))))
 
     struct-row : cell table q 0 ≡ 13 → (13 ∷ cell table q 1 ∷ length (nameOf table text q .text) ∷ cell table q 3 ∷ cell table q 4 ∷ 0 ∷ 0 ∷ 0 ∷ 0 ∷ []) ≡ cells table q
     unfolding limitOf
-    struct-row k =
-        let l5 : cell table q 5 ≤ 0 = number-le table text q e 13 k 5 (omega arith) (omega arith) in
-        let l6 : cell table q 6 ≤ 0 = number-le table text q e 13 k 6 (omega arith) (omega arith) in
-        let l7 : cell table q 7 ≤ 0 = number-le table text q e 13 k 7 (omega arith) (omega arith) in
-        let l8 : cell table q 8 ≤ 0 = number-le table text q e 13 k 8 (omega arith) (omega arith) in
-        ap₂ _∷_ (sym k) (ap₂ _∷_ (refl) (ap₂ _∷_ (name-len (λ p. omega arith)) (ap₂ _∷_ (refl) (ap₂ _∷_ (refl) (ap₂ _∷_ (omega arith) (ap₂ _∷_ (omega arith) (ap₂ _∷_ (omega arith) (ap₂ _∷_ (omega arith) (refl)))))))))
+    struct-row k = ap₂ _∷_ (sym k) (ap₂ _∷_ refl (ap₂ _∷_ (name-len (λ p. omega arith)) (ap₂ _∷_ refl (ap₂ _∷_ refl (ap₂ _∷_ (unused k 4 refl tt) (ap₂ _∷_ (unused k 5 refl tt) (ap₂ _∷_ (unused k 6 refl tt) (ap₂ _∷_ (unused k 7 refl tt) refl))))))))
 
     def-row : cell table q 0 ≡ 14 → (14 ∷ cell table q 1 ∷ length (nameOf table text q .text) ∷ cell table q 3 ∷ 0 ∷ 0 ∷ 0 ∷ 0 ∷ 0 ∷ []) ≡ cells table q
     unfolding limitOf
-    def-row k =
-        let l4 : cell table q 4 ≤ 0 = number-le table text q e 14 k 4 (omega arith) (omega arith) in
-        let l5 : cell table q 5 ≤ 0 = number-le table text q e 14 k 5 (omega arith) (omega arith) in
-        let l6 : cell table q 6 ≤ 0 = number-le table text q e 14 k 6 (omega arith) (omega arith) in
-        let l7 : cell table q 7 ≤ 0 = number-le table text q e 14 k 7 (omega arith) (omega arith) in
-        let l8 : cell table q 8 ≤ 0 = number-le table text q e 14 k 8 (omega arith) (omega arith) in
-        ap₂ _∷_ (sym k) (ap₂ _∷_ (refl) (ap₂ _∷_ (name-len (λ p. omega arith)) (ap₂ _∷_ (refl) (ap₂ _∷_ (omega arith) (ap₂ _∷_ (omega arith) (ap₂ _∷_ (omega arith) (ap₂ _∷_ (omega arith) (ap₂ _∷_ (omega arith) (refl)))))))))
+    def-row k = ap₂ _∷_ (sym k) (ap₂ _∷_ refl (ap₂ _∷_ (name-len (λ p. omega arith)) (ap₂ _∷_ refl (ap₂ _∷_ (unused k 3 refl tt) (ap₂ _∷_ (unused k 4 refl tt) (ap₂ _∷_ (unused k 5 refl tt) (ap₂ _∷_ (unused k 6 refl tt) (ap₂ _∷_ (unused k 7 refl tt) refl))))))))
 
     record-row : cell table q 0 ≡ 10 → (10 ∷ cell table q 1 ∷ length (nameOf table text q .text) ∷ cell table q 3 ∷ cell table q 4 ∷ cell table q 5 ∷ cell table q 6 ∷ (cell table q 7 + 4294967296 * cell table q 8) % 4294967296 ∷ (cell table q 7 + 4294967296 * cell table q 8) / 4294967296 ∷ []) ≡ cells table q
     unfolding limitOf
@@ -161,23 +146,23 @@ module _ (table text : List ℕ) where
       let a : e - q ≡ suc (e - (q + 1)) = omega arith in
       ap (from after (cells table) q) a
 
-  record-rows : Fits → (q : ℕ) → InPlace 10 table q → recordRows (recordOf table text q) ≡ span table q (nextSec 10 table q)
+  record-rows : Fits → (q : ℕ) → InPlace 10 table q → recordRows (recordOf table text q) ≡ span table q (nextSection 10 table q)
   unfolding countOf namesFrom nameKind
   record-rows f q p =
       let n : length (from after (entryOf table) (q + 1) (cell table q 6)) ≡ cell table q 6 = length-from after (entryOf table) (cell table q 6) (q + 1) in
       let i = p .first in
       let z = p .inside in
-      rw n (ap₂ _∷_ (record-row q (f q (omega arith)) (p .head)) (fields-rows f (q + 1) (cell table q 6) (nextSec 10 table q) refl z (p .fields) (p .names))
-      ∙ sym (span-first q (nextSec 10 table q) (omega arith)))
+      rw n (ap₂ _∷_ (record-row q (f q (omega arith)) (p .head)) (fields-rows f (q + 1) (cell table q 6) (nextSection 10 table q) refl z (p .fields) (p .names))
+      ∙ sym (span-first q (nextSection 10 table q) (omega arith)))
 
-  struct-rows : Fits → (q : ℕ) → InPlace 13 table q → structRows (structOf table text q) ≡ span table q (nextSec 13 table q)
+  struct-rows : Fits → (q : ℕ) → InPlace 13 table q → structRows (structOf table text q) ≡ span table q (nextSection 13 table q)
   unfolding countOf namesFrom nameKind
   struct-rows f q p =
       let n : length (from after (entryOf table) (q + 1) (cell table q 4)) ≡ cell table q 4 = length-from after (entryOf table) (cell table q 4) (q + 1) in
       let i = p .first in
       let z = p .inside in
-      rw n (ap₂ _∷_ (struct-row q (f q (omega arith)) (p .head)) (fields-rows f (q + 1) (cell table q 4) (nextSec 13 table q) refl z (p .fields) (p .names))
-      ∙ sym (span-first q (nextSec 13 table q) (omega arith)))
+      rw n (ap₂ _∷_ (struct-row q (f q (omega arith)) (p .head)) (fields-rows f (q + 1) (cell table q 4) (nextSection 13 table q) refl z (p .fields) (p .names))
+      ∙ sym (span-first q (nextSection 13 table q) (omega arith)))
 
   labels-rows : Fits → (q n : ℕ) → q + n ≤ rowCount table → ((j : ℕ) → q ≤ j → j < q + n → cell table j 0 ≡ 15) → map labelRow (from after (labelOf table text) q n) ≡ span table q (q + n)
   unfolding span
@@ -185,34 +170,34 @@ module _ (table text : List ℕ) where
       let m : n ≡ q + n - q = omega arith in
       map-from labelRow (labelOf table text) (cells table) n q (λ j g l. label-row j (f j (omega arith)) (a j g l)) ∙ ap (from after (cells table) q) m
 
-  def-rows : Fits → (q : ℕ) → InPlace 14 table q → labelDefRows (labelDefOf table text q) ≡ span table q (nextSec 14 table q)
+  def-rows : Fits → (q : ℕ) → InPlace 14 table q → labelDefRows (labelDefOf table text q) ≡ span table q (nextSection 14 table q)
   unfolding countOf namesFrom nameKind
   def-rows f q p =
       let n : length (from after (labelOf table text) (q + 1) (cell table q 3)) ≡ cell table q 3 = length-from after (labelOf table text) (cell table q 3) (q + 1) in
       let i = p .first in
       let z = p .inside in
       rw n (ap₂ _∷_ (def-row q (f q (omega arith)) (p .head)) (labels-rows f (q + 1) (cell table q 3) z (p .names))
-      ∙ sym (span-first q (nextSec 14 table q) (omega arith)))
+      ∙ sym (span-first q (nextSection 14 table q) (omega arith)))
 
   -- sections one after the other
   skip-more : (kind k q : ℕ) → q ≤ skip kind table q k
   unfolding skip
   skip-more kind zero q = omega arith
-  skip-more kind (suc k) q = omega (arith, next-more kind table q, skip-more kind k (nextSec kind table q))
+  skip-more kind (suc k) q = omega (arith, next-more kind table q, skip-more kind k (nextSection kind table q))
 
   span-none : (q : ℕ) → [] ≡ span table q q
   unfolding span from
   span-none q = let z : 0 ≡ q - q = omega arith in ap (from after (cells table) q) z
 
-  all-rows : {A : Type 0} (kind : ℕ) (part : ℕ → A) (rowsOf : A → List (List ℕ)) → ((q : ℕ) → InPlace kind table q → rowsOf (part q) ≡ span table q (nextSec kind table q))
-      → (k q : ℕ) → Places kind table q k → allRows rowsOf (from (nextSec kind table) part q k) ≡ span table q (skip kind table q k)
+  all-rows : {A : Type 0} (kind : ℕ) (part : ℕ → A) (rowsOf : A → List (List ℕ)) → ((q : ℕ) → InPlace kind table q → rowsOf (part q) ≡ span table q (nextSection kind table q))
+      → (k q : ℕ) → Places kind table q k → allRows rowsOf (from (nextSection kind table) part q k) ≡ span table q (skip kind table q k)
   unfolding from skip Places
   all-rows kind part rowsOf f zero q p = span-none q
   all-rows kind part rowsOf f (suc k) q p =
       let a = next-more kind table q in
-      let b = skip-more kind k (nextSec kind table q) in
-      ap₂ _++_ (f q (p .0)) (all-rows kind part rowsOf f k (nextSec kind table q) (p .1))
-      ∙ sym (span-join table q (nextSec kind table q) (skip kind table (nextSec kind table q) k) (omega arith) b)
+      let b = skip-more kind k (nextSection kind table q) in
+      ap₂ _++_ (f q (p .0)) (all-rows kind part rowsOf f k (nextSection kind table q) (p .1))
+      ∙ sym (span-join table q (nextSection kind table q) (skip kind table (nextSection kind table q) k) (omega arith) b)
 
   span-all : span table 0 (rowCount table) ≡ rowsIn table
   unfolding span rowsIn
@@ -224,19 +209,29 @@ module _ (table text : List ℕ) where
 
   -- the rows of the layout are the rows
   pub tree-rows : (version : ℕ) → Formed table text → rows (treeOf version table text) ≡ rowsIn table
-  unfolding treeOf rows
+  unfolding treeOf
   tree-rows version w =
       let f = w .fits in
       let a = skip-more 10 (kinds table 10) 0 in
       let b = skip-more 13 (kinds table 13) (structsFrom table) in
       let d = skip-more 14 (kinds table 14) (labelsFrom table) in
-      ap₂ _++_
-      (ap₂ _++_ (all-rows 10 (recordOf table text) recordRows (record-rows f) (kinds table 10) 0 (w .records)) (all-rows 13 (structOf table text) structRows (struct-rows f) (kinds table 13) (structsFrom table) (w .structs))
-      ∙ sym (span-join table 0 (structsFrom table) (labelsFrom table) a b))
-      (all-rows 14 (labelDefOf table text) labelDefRows (def-rows f) (kinds table 14) (labelsFrom table) (w .labels))
-      ∙ sym (span-join table 0 (labelsFrom table) (skip 14 table (labelsFrom table) (kinds table 14)) (omega arith) d)
+      let end = skip 14 table (labelsFrom table) (kinds table 14) in
+      rows-parts (_, (_, (_, _)))
+      ∙ ap₂ _++_ (all-rows 10 (recordOf table text) recordRows (record-rows f) (kinds table 10) 0 (w .records))
+      (ap₂ _++_ (all-rows 13 (structOf table text) structRows (struct-rows f) (kinds table 13) (structsFrom table) (w .structs)) (all-rows 14 (labelDefOf table text) labelDefRows (def-rows f) (kinds table 14) (labelsFrom table) (w .labels))
+      ∙ sym (span-join table (structsFrom table) (labelsFrom table) end b d))
+      ∙ sym (span-join table 0 (structsFrom table) end a (omega arith))
       ∙ ap (span table 0) (w .all)
       ∙ span-all
 
   pub tree-flat : (version : ℕ) → Formed table text → flat (rows (treeOf version table text)) ≡ table
   tree-flat version w = ap flat (tree-rows version w) ∙ flat-all (w .nines)
+
+pub tree-version : (version : ℕ) (table text : List ℕ) → treeOf version table text .version ≡ version
+unfolding treeOf
+tree-version version table text = refl
+
+-- nothing is left over
+pub tree-whole : (version : ℕ) (table text : List ℕ) → toLayout (fromLayout (treeOf version table text) .0, []) ≡ treeOf version table text
+unfolding treeOf
+tree-whole version table text = refl

@@ -18,10 +18,10 @@ use Rattle.wire.specs.Formats.{noNul}
 use Rattle.layout.specs.Layout.{LegalLayout}
 use Rattle.wire.specs.Prints.{name-legal}
 use Rattle.layout.specs.Prints.{label-legal, labelDef-legal, Rising, entry-legal, fields-legal, struct-legal, record-legal, layout-legal}
-use Rattle.rows_check.specs.Tree.{cell, rowCount, from, after, nameOf, entryOf, labelOf, fieldsOf, recordOf, structOf, labelDefOf, countOf, namesFrom, nextSec, kinds, structsFrom, labelsFrom, treeOf}
-use Rattle.rows_check.specs.Check.{both, every, limitOf, countFits, nameShort, clean, nameClean, rowTest, passes, nameKind, groupsFit, countsFit, secAt, fitsAll, sectionsFit, size, risesAt, fault}
-use Rattle.rows_check.specs.Tests.{both-left, both-right, every-at, number-le, row-span, InPlace, Places, Formed, formed}
-use Rattle.rows_check.specs.Table.{length-from, name-len}
+use Rattle.rows_check.specs.Tree.{cell, rowCount, from, after, nameOf, entryOf, labelOf, fieldsOf, recordOf, structOf, labelDefOf, countOf, namesFrom, nextSection, kinds, structsFrom, labelsFrom, treeOf}
+use Rattle.rows_check.specs.Check.{both, every, limitOf, countFits, nameShort, clean, nameClean, rowTest, passes, nameKind, groupsFit, countsFit, printedSection, fitsAll, sectionsFit, size, risesAt, fault}
+use Rattle.rows_check.specs.CheckLaws.{both-left, both-right, every-at, number-le, row-span, InPlace, Places, Formed, formed}
+use Rattle.rows_check.specs.TreeLaws.{length-from, name-len}
 
 -- ---- what is left when nothing refuses
 
@@ -137,7 +137,7 @@ module _ (rows text : List ℕ) where
         let l8 : cell rows q 8 ≤ 4294967295 = number-le rows text q f 10 (p .head) 8 (omega arith) (omega arith) in
         let k = p .head in
         record-legal utf8 D (recordOf rows text q) refl (omega arith) (omega arith) (omega arith) (omega arith) (name-ok q (omega arith) (λ e. omega arith))
-        (fields-ok (q + 1) (cell rows q 6) (nextSec 10 rows q) refl (p .inside) (leb-true _ _ c) (p .names)) (omega arith)
+        (fields-ok (q + 1) (cell rows q 6) (nextSection 10 rows q) refl (p .inside) (leb-true _ _ c) (p .names)) (omega arith)
 
     struct-ok : (q : ℕ) → InPlace 13 rows q → length (structL .print (structOf rows text q)) ≤ 65535 → structL .legal (structOf rows text q)
     unfolding countOf namesFrom nameKind limitOf countFits
@@ -148,7 +148,7 @@ module _ (rows text : List ℕ) where
         let l3 : cell rows q 3 ≤ 65535 = number-le rows text q f 13 (p .head) 3 (omega arith) (omega arith) in
         let k = p .head in
         struct-legal utf8 D (structOf rows text q) refl (omega arith) (name-ok q (omega arith) (λ e. omega arith))
-        (fields-ok (q + 1) (cell rows q 4) (nextSec 13 rows q) refl (p .inside) (leb-true _ _ c) (p .names)) (omega arith)
+        (fields-ok (q + 1) (cell rows q 4) (nextSection 13 rows q) refl (p .inside) (leb-true _ _ c) (p .names)) (omega arith)
 
     -- codes that rise from row to row
     rise-at : (q : ℕ) → q + 1 < rowCount rows → cell rows q 0 ≡ 15 → cell rows (q + 1) 0 ≡ 15 → cell rows q 3 < cell rows (q + 1) 3
@@ -179,16 +179,16 @@ module _ (rows text : List ℕ) where
         (legal-from label (labelOf rows text) (cell rows q 3) (q + 1) (λ j g m. label-ok j (omega arith) (p .names j g m)))
         (rising (cell rows q 3) (q + 1) 0 i (p .names) (λ g. omega arith)) (omega arith)
 
-    all-ok : {A : Type 0} (c : Codec A) (kind : ℕ) (part : ℕ → A) → ((q : ℕ) → secAt kind rows text q ≡ c .print (part q)) → ((q : ℕ) → InPlace kind rows q → length (c .print (part q)) ≤ 65535 → c .legal (part q))
-        → (k q : ℕ) → Places kind rows q k → fitsAll kind rows text q k ≡ true → timesLegal c (from (nextSec kind rows) part q k)
+    all-ok : {A : Type 0} (c : Codec A) (kind : ℕ) (part : ℕ → A) → ((q : ℕ) → printedSection kind rows text q ≡ c .print (part q)) → ((q : ℕ) → InPlace kind rows q → length (c .print (part q)) ≤ 65535 → c .legal (part q))
+        → (k q : ℕ) → Places kind rows q k → fitsAll kind rows text q k ≡ true → timesLegal c (from (nextSection kind rows) part q k)
     unfolding from Places fitsAll
     all-ok c kind part sec h zero q p f = tt
     all-ok c kind part sec h (suc k) q p f =
-        let z : length (secAt kind rows text q) ≤ 65535 = leb-true _ _ (both-left _ _ f) in
-        (h q (p .0) (rw (sec q) at z), all-ok c kind part sec h k (nextSec kind rows q) (p .1) (both-right _ _ f))
+        let z : length (printedSection kind rows text q) ≤ 65535 = leb-true _ _ (both-left _ _ f) in
+        (h q (p .0) (rw (sec q) at z), all-ok c kind part sec h k (nextSection kind rows q) (p .1) (both-right _ _ f))
 
     pub tree-legal : (version : ℕ) → version < 65536 → LegalLayout utf8 D (treeOf version rows text)
-    unfolding treeOf sectionsFit groupsFit secAt
+    unfolding treeOf sectionsFit groupsFit printedSection
     tree-legal version v =
         let w = s .formed in
         let f = s .sections in
@@ -196,9 +196,9 @@ module _ (rows text : List ℕ) where
         let r : kinds rows 10 ≤ 65535 = leb-true _ _ (both-left _ _ g) in
         let t : kinds rows 13 ≤ 65535 = leb-true _ _ (both-left _ _ (both-right _ _ g)) in
         let l : kinds rows 14 ≤ 65535 = leb-true _ _ (both-right _ _ (both-right _ _ g)) in
-        let a : length (from (nextSec 10 rows) (recordOf rows text) 0 (kinds rows 10)) ≡ kinds rows 10 = length-from (nextSec 10 rows) (recordOf rows text) (kinds rows 10) 0 in
-        let b : length (from (nextSec 13 rows) (structOf rows text) (structsFrom rows) (kinds rows 13)) ≡ kinds rows 13 = length-from (nextSec 13 rows) (structOf rows text) (kinds rows 13) (structsFrom rows) in
-        let d : length (from (nextSec 14 rows) (labelDefOf rows text) (labelsFrom rows) (kinds rows 14)) ≡ kinds rows 14 = length-from (nextSec 14 rows) (labelDefOf rows text) (kinds rows 14) (labelsFrom rows) in
+        let a : length (from (nextSection 10 rows) (recordOf rows text) 0 (kinds rows 10)) ≡ kinds rows 10 = length-from (nextSection 10 rows) (recordOf rows text) (kinds rows 10) 0 in
+        let b : length (from (nextSection 13 rows) (structOf rows text) (structsFrom rows) (kinds rows 13)) ≡ kinds rows 13 = length-from (nextSection 13 rows) (structOf rows text) (kinds rows 13) (structsFrom rows) in
+        let d : length (from (nextSection 14 rows) (labelDefOf rows text) (labelsFrom rows) (kinds rows 14)) ≡ kinds rows 14 = length-from (nextSection 14 rows) (labelDefOf rows text) (kinds rows 14) (labelsFrom rows) in
         layout-legal utf8 D (treeOf version rows text) refl v
         (omega arith) (all-ok recordL 10 (recordOf rows text) (λ q. refl) record-ok (kinds rows 10) 0 (w .records) (both-left _ _ (both-left _ _ f)))
         (omega arith) (all-ok structL 13 (structOf rows text) (λ q. refl) struct-ok (kinds rows 13) (structsFrom rows) (w .structs) (both-right _ _ (both-left _ _ f)))

@@ -4,15 +4,16 @@ use Prim.Native.Nat.{ℕ, _≤_, _<_}
 use native.Mathlib.Omega.{arith}
 use mathlib.Core.Path.{_≡_, refl, sym, ap, _∙_}
 use mathlib.Core.Bool.{Bool, true, false}
-use mathlib.Core.List.{List, map}
-use lib.ListN.{length}
+use mathlib.Core.List.{List, _++_, map}
+use lib.ListN.{length, drop}
 use lib.Dec.{leb, eqb}
 use borrow.Author.Tests.{eqb-true, leb-true, le-leb}
 use Rattle.codec.specs.Codec.{ok, Bytes}
 use Rattle.text.specs.Utf8.{utf8}
 use Rattle.numbers.specs.Pick.{pick}
-use Rattle.layout.specs.Layout.{Layout, fromLayout, locateLayout}
+use Rattle.layout.specs.Layout.{Layout, fromLayout, locateLayout, printLayout}
 use Rattle.layout.specs.Given.{D}
+use Rattle.table.specs.Out.{flat}
 use Rattle.layout.specs.Rows.{rows}
 use Rattle.layout.specs.RowLaws.{noStart}
 use Rattle.layout.specs.TextLaws.{rowText}
@@ -22,12 +23,12 @@ use Rattle.rules.specs.RowRules.{rowsRules}
 use Rattle.rules.specs.RowLaws.{rows-rules}
 use Rattle.rows_check.specs.Tree.{rowsIn, treeOf}
 use Rattle.rows_check.specs.Check.{fault, printed}
-use Rattle.rows_check.specs.Legal.{sound, tree-legal}
-use Rattle.rows_check.specs.Table.{tree-rows, tree-flat}
-use Rattle.rows_check.specs.Names.{tree-each}
-use Rattle.rows_check.specs.Bodies.{printed-length}
-use Rattle.writer.specs.Write.{writeLayout}
-use Rattle.writer.specs.Fit.{fit-parts}
+use Rattle.rows_check.specs.LegalLaws.{sound, tree-legal}
+use Rattle.rows_check.specs.TreeLaws.{tree-rows, tree-flat, tree-version, tree-whole}
+use Rattle.rows_check.specs.NameLaws.{tree-each}
+use Rattle.rows_check.specs.SectionLaws.{printed-is, printed-length}
+use Rattle.writer.specs.Write.{writeLayout, outAfter}
+use Rattle.writer.specs.FitLaws.{fit-parts}
 use Rattle.writer.specs.declared.Written.the-variants.{Length, Refused}
 
 pub record ReadsBack (sheet : List ℕ) (width version : ℕ) (table text : List ℕ) : Type 0 where
@@ -41,6 +42,16 @@ pub record ReadsBack (sheet : List ℕ) (width version : ℕ) (table text : List
 rules-still : (sheet : List ℕ) (width : ℕ) (t : Layout) → rulesOf sheet width (fromLayout (locateLayout utf8 D t) .0) ≡ rulesOf sheet width (fromLayout t .0)
 rules-still sheet width t =
     sym (rules-blind sheet width (fromLayout (locateLayout utf8 D t) .0)) ∙ ap (rulesOf sheet width) (parts-still t) ∙ rules-blind sheet width (fromLayout t .0)
+
+-- ---- what is left in the output
+
+pub out-written : (n : ℕ) (bytes out : List ℕ) → outAfter (Length n) bytes out ≡ bytes ++ drop (length bytes) out
+unfolding outAfter
+out-written n bytes out = refl
+
+pub out-refused : (k : ℕ) (bytes out : List ℕ) → outAfter (Refused k) bytes out ≡ out
+unfolding outAfter
+out-refused k bytes out = refl
 
 -- ---- what is accepted, and with which length
 
@@ -76,21 +87,22 @@ module _ (sheet : List ℕ) (width version : ℕ) (table text : List ℕ) (room 
   -- ---- the round trip
 
   pub reads-back : (n : ℕ) → Bytes text → version < 65536 → writeLayout sheet width version table text room ≡ Length n → ReadsBack sheet width version table text
-  unfolding printed treeOf
   reads-back n bytes v e =
       let a = accepted n e in
       let s = sound table text (a .whole) in
       let w = s .formed in
       let t = treeOf version table text in
       let lg = tree-legal table text bytes s version v in
-      let l : length (printed version table text) ≤ 4294967295 = omega (arith, s .within, printed-length table text version) in
+      let p = printed-is version table text in
+      let l : length (printLayout utf8 D t) ≤ 4294967295 = omega (arith, s .within, printed-length table text version, ap length p) in
       let b = reads t text lg l (tree-each table text version w) in
       let z : rulesOf sheet width (fromLayout (locateLayout utf8 D t) .0) ≡ 0 =
-      rules-still sheet width t ∙ sym (rows-rules sheet width (fromLayout t .0) (fit-parts t lg)) ∙ ap (rowsRules sheet width) (tree-flat table text version w) ∙ a .ruled in
+      rules-still sheet width t ∙ sym (rows-rules sheet width (fromLayout t .0) (fit-parts t lg))
+      ∙ ap (λ (x : Layout). rowsRules sheet width (flat (rows x))) (tree-whole version table text) ∙ ap (rowsRules sheet width) (tree-flat table text version w) ∙ a .ruled in
       record {
         layout = locateLayout utf8 D t;
-        accepted = ruled-is sheet width (printed version table text) ∙ rw (b .accepted, z);
-        same = b .version;
+        accepted = rw p (ruled-is sheet width (printLayout utf8 D t) ∙ rw (b .accepted, z));
+        same = b .version ∙ tree-version version table text;
         sameRows = b .sameRows ∙ ap (map noStart) (tree-rows table text version w);
-        sameNames = b .sameTexts ∙ ap (map (rowText text)) (tree-rows table text version w);
+        sameNames = rw p (b .sameTexts ∙ ap (map (rowText text)) (tree-rows table text version w));
       }

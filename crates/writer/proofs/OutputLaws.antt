@@ -9,8 +9,9 @@ use mathlib.Core.List.{List, [], _∷_, _++_, append-assoc, append-nil}
 use lib.ListN.{length, take, drop, set, getD, length-append, length-take, length-drop, take-append-drop, drop-of-length-le, replicate}
 use lib.Seq.{length-take-le, take-at, drop-at, take-append-le, take-take, drop-drop, set-split, drop-cons, take-all}
 use Rattle.codec.specs.Codec.{little}
-use Rattle.rows_check.specs.Bodies.{many, many-none, many-next}
-use Rattle.writer.specs.Put.{put, Room, Wrote, Filled}
+use Rattle.rows_check.specs.Sections.{many}
+use Rattle.rows_check.specs.SectionLaws.{many-none, many-next}
+use Rattle.writer.specs.Output.{put, RoomFor, Wrote, Filled}
 
 pub put-nil : (at : ℕ) (o : List ℕ) → put at [] o ≡ o
 unfolding put
@@ -20,10 +21,7 @@ pub put-length : (at : ℕ) (bs o : List ℕ) → at + length bs ≤ length o �
 unfolding put
 put-length at bs o h = simp (length-append, length-take, length-drop) (omega arith)
 
--- two parts, whose first has n elements
-take-front : (a r : List ℕ) (n : ℕ) → length a ≡ n → take n (a ++ r) ≡ a
-take-front a r n e = take-at a r n e
-
+-- past a first part of n elements
 drop-front : (a o : List ℕ) (n m : ℕ) → length a ≡ n → drop (n + m) (a ++ drop n o) ≡ drop (n + m) o
 drop-front a o n m e = sym (drop-drop m n (a ++ drop n o)) ∙ ap (λ (l : List ℕ). drop m l) (drop-at a (drop n o) n e) ∙ drop-drop m n o
 
@@ -32,7 +30,7 @@ pub put-put : (at : ℕ) (xs ys o : List ℕ) → at ≤ length o → put (at + 
 unfolding put
 put-put at xs ys o h =
     let front : length (take at o ++ xs) ≡ at + length xs = length-append (take at o) xs ∙ ap (λ (k : ℕ). k + length xs) (length-take-le at o h) in
-    rw (← append-assoc (take at o) xs (drop (at + length xs) o), take-front (take at o ++ xs) (drop (at + length xs) o) (at + length xs) front, drop-front (take at o ++ xs) o (at + length xs) (length ys) front)
+    rw (← append-assoc (take at o) xs (drop (at + length xs) o), take-at (take at o ++ xs) (drop (at + length xs) o) (at + length xs) front, drop-front (take at o ++ xs) o (at + length xs) (length ys) front)
     (simp (append-assoc, length-append, add-assoc))
 
 -- what comes before is stored after what follows it
@@ -64,7 +62,7 @@ pub record Left (at : ℕ) (bs₀ o₀ : List ℕ) (a : ℕ) (bs o : List ℕ) :
   pub long : length o ≡ length o₀
   pub bytes : put a bs o ≡ put at bs₀ o₀
 
-pub left-start : {at : ℕ} {bs o : List ℕ} → Room at bs o → Left at bs o at bs o
+pub left-start : {at : ℕ} {bs o : List ℕ} → RoomFor at bs o → Left at bs o at bs o
 left-start h = record { room = h .fits; ends = refl; long = refl; bytes = refl }
 
 -- xs has been written
@@ -81,7 +79,7 @@ left-step {a = a} {bs = bs} {xs = xs} {ys = ys} {o = o} {o′ = o′} {a′ = a�
     }
 
 -- there is room for xs
-pub left-room : {at : ℕ} {bs₀ o₀ : List ℕ} {a : ℕ} {bs xs o : List ℕ} → Left at bs₀ o₀ a bs o → (ys : List ℕ) → bs ≡ xs ++ ys → Room a xs o
+pub left-room : {at : ℕ} {bs₀ o₀ : List ℕ} {a : ℕ} {bs xs o : List ℕ} → Left at bs₀ o₀ a bs o → (ys : List ℕ) → bs ≡ xs ++ ys → RoomFor a xs o
 left-room {bs = bs} {xs = xs} l ys e =
     let n : length bs ≡ length xs + length ys = ap length e ∙ length-append xs ys in
     record { fits = omega (arith, l .room, l .ends, l .long) }
@@ -95,10 +93,6 @@ left-done {a = a} {bs = bs} {o = o} l e =
       next = omega (arith, l .ends);
       bytes = sym (put-nil a o) ∙ (rw e at (l .bytes));
     }
-
--- the last part has been written
-pub left-last : {at : ℕ} {bs₀ o₀ : List ℕ} {a : ℕ} {xs o o′ : List ℕ} {a′ : ℕ} → Left at bs₀ o₀ a xs o → Wrote a xs o o′ a′ → Wrote at bs₀ o₀ o′ a′
-left-last {xs = xs} l w = left-done (left-step l (sym (append-nil xs)) w) refl
 
 pub wrote-length : {at : ℕ} {bs o o′ : List ℕ} {r : ℕ} → Wrote at bs o o′ r → length o′ ≡ length o
 wrote-length {at} {bs} {o} w = ap length (w .bytes) ∙ put-length at bs o (w .room)
@@ -119,7 +113,7 @@ pub wrote-is : {at : ℕ} {xs ys o o′ : List ℕ} {a : ℕ} → Wrote at xs o 
 wrote-is w e = rw e at w
 
 -- one store
-pub wrote-set : {at v : ℕ} {o : List ℕ} → Room at (v ∷ []) o → Wrote at (v ∷ []) o (set o at v) (at + 1)
+pub wrote-set : {at v : ℕ} {o : List ℕ} → RoomFor at (v ∷ []) o → Wrote at (v ∷ []) o (set o at v) (at + 1)
 wrote-set {at} {v} {o} h = record { room = h .fits; next = refl; bytes = put-set at v o (omega (arith, h .fits)) }
 
 -- ---- the rest of a slice, of some zeros, of some items
@@ -139,7 +133,7 @@ zeros-none (suc k) h = absurd (omega arith)
 
 module _ (next : ℕ → ℕ) (f : ℕ → List ℕ) (q k : ℕ) where
   module _ {at : ℕ} {bs₀ o₀ : List ℕ} {a : ℕ} {o : List ℕ} (l : Left at bs₀ o₀ a (many next f q k) o) where
-    pub many-room : 0 < k → Room a (f q) o
+    pub many-room : 0 < k → RoomFor a (f q) o
     many-room h = left-room l (many next f (next q) (k - 1)) (many-next next f q k h)
 
     pub many-step : {o′ : List ℕ} {a′ : ℕ} → 0 < k → Wrote a (f q) o o′ a′ → Left at bs₀ o₀ a′ (many next f (next q) (k - 1)) o′
@@ -147,10 +141,6 @@ module _ (next : ℕ → ℕ) (f : ℕ → List ℕ) (q k : ℕ) where
 
     pub many-done : k ≤ 0 → Wrote at bs₀ o₀ o a
     many-done h = left-done l (many-none next f q k h)
-
--- a part from s to s + l
-pub part-end : (text : List ℕ) (s l : ℕ) → take (s + l - s) (drop s text) ≡ take l (drop s text)
-part-end text s l = let e : s + l - s ≡ l = omega arith in rw e
 
 -- ---- a part that is lent
 

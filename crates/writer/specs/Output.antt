@@ -10,7 +10,7 @@ unfoldable pub put : ℕ → List ℕ → List ℕ → List ℕ
 put at bs o = take at o ++ (bs ++ drop (at + length bs) o)
 
 -- there is room in o for bs from `at` on
-pub record Room (at : ℕ) (bs o : List ℕ) : Type 0 where
+pub record RoomFor (at : ℕ) (bs o : List ℕ) : Type 0 where
   pub fits : at + length bs ≤ length o
 
 -- o′ is o with bs stored from `at`, where there is room for it, and r is the place after it

@@ -1,5 +1,4 @@
 -- A layout that has bytes is one whose rows the rules can read. Assumes nothing.
-use Prim.Native.Nat.{ℕ}
 use mathlib.Core.List.{List, [], _∷_}
 use Rattle.codec.specs.Codec.{Codec, timesLegal}
 use Rattle.text.specs.Utf8.{utf8}

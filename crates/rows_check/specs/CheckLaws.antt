@@ -10,8 +10,8 @@ use lib.ListN.{length}
 use lib.Dec.{eqb}
 use borrow.Author.Tests.{ne-eqb, eqb-true, leb-true}
 use Rattle.numbers.specs.Pick.{pick}
-use Rattle.rows_check.specs.Tree.{cell, rowCount, countOf, namesFrom, nextSec, skip, kinds, structsFrom, labelsFrom}
-use Rattle.rows_check.specs.Check.{both, every, limitOf, numberFits, spanFits, rowFits, rowTest, passes, nameKind, secOk, walk, inOrder, wellFormed}
+use Rattle.rows_check.specs.Tree.{cell, rowCount, namesFrom, nextSection, skip, kinds, structsFrom, labelsFrom}
+use Rattle.rows_check.specs.Check.{both, every, limitOf, numberFits, spanFits, rowFits, rowTest, passes, nameKind, sectionInPlace, walk, inOrder, wellFormed}
 
 pub both-left : (a b : Bool) → both a b ≡ true → a ≡ true
 unfolding both
@@ -73,15 +73,15 @@ module _ (rows text : List ℕ) (q : ℕ) (e : rowFits rows text q ≡ true) whe
 
 -- the rows of the section at row q have the kinds of their places
 pub record InPlace (kind : ℕ) (rows : List ℕ) (q : ℕ) : Type 0 where
-  pub inside : nextSec kind rows q ≤ rowCount rows
+  pub inside : nextSection kind rows q ≤ rowCount rows
   pub first : q + 1 ≤ rowCount rows
   pub head : cell rows q 0 ≡ kind
   pub fields : (j : ℕ) → q + 1 ≤ j → j < namesFrom kind rows q → cell rows j 0 ≡ 11
-  pub names : (j : ℕ) → namesFrom kind rows q ≤ j → j < nextSec kind rows q → cell rows j 0 ≡ nameKind kind
+  pub names : (j : ℕ) → namesFrom kind rows q ≤ j → j < nextSection kind rows q → cell rows j 0 ≡ nameKind kind
 
 unfoldable pub Places : ℕ → List ℕ → ℕ → ℕ → Type 0
 Places kind rows q zero = Unit {0}
-Places kind rows q (suc k) = InPlace kind rows q × Places kind rows (nextSec kind rows q) k
+Places kind rows q (suc k) = InPlace kind rows q × Places kind rows (nextSection kind rows q) k
 
 -- a test by a kind is the kind
 kind-of : (rows text : List ℕ) (w j : ℕ) → (w ≡ 11) ⊎ ((w ≡ 12) ⊎ (w ≡ 15)) → rowTest w rows text j ≡ true → cell rows j 0 ≡ w
@@ -98,16 +98,6 @@ name-kind-is kind = go (eqb kind 10) (eqb kind 13)
     go false true = inl refl
     go false false = inr refl
 
--- the next section is further on
-pub next-more : (kind : ℕ) (rows : List ℕ) (q : ℕ) → q + 1 ≤ nextSec kind rows q
-unfolding countOf namesFrom
-next-more kind rows q = go (eqb kind 10) (eqb kind 13)
-  where
-    go : (a b : Bool) → q + 1 ≤ pick a (q + 1 + cell rows q 6) (pick b (q + 1 + cell rows q 4) (q + 1)) + pick a (cell rows q 6) (pick b (cell rows q 4) (cell rows q 3))
-    go true b = omega arith
-    go false true = omega arith
-    go false false = omega arith
-
 pub names-more : (kind : ℕ) (rows : List ℕ) (q : ℕ) → q + 1 ≤ namesFrom kind rows q
 unfolding namesFrom
 names-more kind rows q = go (eqb kind 10) (eqb kind 13)
@@ -117,10 +107,14 @@ names-more kind rows q = go (eqb kind 10) (eqb kind 13)
     go false true = omega arith
     go false false = omega arith
 
+-- the next section is further on
+pub next-more : (kind : ℕ) (rows : List ℕ) (q : ℕ) → q + 1 ≤ nextSection kind rows q
+next-more kind rows q = omega (arith, names-more kind rows q)
+
 module _ (rows text : List ℕ) where
-  pub sec-place : (kind q : ℕ) → secOk kind rows text q ≡ true → InPlace kind rows q
-  unfolding secOk
-  sec-place kind q e =
+  pub in-place : (kind q : ℕ) → sectionInPlace kind rows text q ≡ true → InPlace kind rows q
+  unfolding sectionInPlace
+  in-place kind q e =
       let a = both-right _ _ e in
       let b = both-right _ _ (both-right _ _ a) in
       let m = names-more kind rows q in
@@ -135,15 +129,15 @@ module _ (rows text : List ℕ) where
   walk-places : (kind n q : ℕ) → walk kind rows text q n ≤ rowCount rows → Places kind rows q n × (walk kind rows text q n ≡ skip kind rows q n)
   unfolding walk Places skip
   walk-places kind zero q h = (tt, refl)
-  walk-places kind (suc n) q h = go (secOk kind rows text q) refl (λ g. walk-places kind n (nextSec kind rows q) g)
+  walk-places kind (suc n) q h = go (sectionInPlace kind rows text q) refl (λ g. walk-places kind n (nextSection kind rows q) g)
     where
-      go : (b : Bool) → secOk kind rows text q ≡ b
-          → (walk kind rows text (nextSec kind rows q) n ≤ rowCount rows → Places kind rows (nextSec kind rows q) n × (walk kind rows text (nextSec kind rows q) n ≡ skip kind rows (nextSec kind rows q) n))
-          → (InPlace kind rows q × Places kind rows (nextSec kind rows q) n) × (walk kind rows text q (suc n) ≡ skip kind rows (nextSec kind rows q) n)
+      go : (b : Bool) → sectionInPlace kind rows text q ≡ b
+          → (walk kind rows text (nextSection kind rows q) n ≤ rowCount rows → Places kind rows (nextSection kind rows q) n × (walk kind rows text (nextSection kind rows q) n ≡ skip kind rows (nextSection kind rows q) n))
+          → (InPlace kind rows q × Places kind rows (nextSection kind rows q) n) × (walk kind rows text q (suc n) ≡ skip kind rows (nextSection kind rows q) n)
       go true e r =
-          let k : walk kind rows text q (suc n) ≡ walk kind rows text (nextSec kind rows q) n = rw e in
+          let k : walk kind rows text q (suc n) ≡ walk kind rows text (nextSection kind rows q) n = rw e in
           let i = r (rw k at h) in
-          ((sec-place kind q e, i .0), k ∙ i .1)
+          ((in-place kind q e, i .0), k ∙ i .1)
       go false e r =
           let k : walk kind rows text q (suc n) ≡ rowCount rows + 1 = rw e in
           absurd (omega (arith, h, k))
@@ -152,10 +146,10 @@ module _ (rows text : List ℕ) where
   walk-from : (kind n q : ℕ) → walk kind rows text q n ≤ rowCount rows → q ≤ rowCount rows
   unfolding walk
   walk-from kind zero q h = h
-  walk-from kind (suc n) q h = go (secOk kind rows text q) refl
+  walk-from kind (suc n) q h = go (sectionInPlace kind rows text q) refl
     where
-      go : (b : Bool) → secOk kind rows text q ≡ b → q ≤ rowCount rows
-      go true e = let k = sec-place kind q e .first in omega arith
+      go : (b : Bool) → sectionInPlace kind rows text q ≡ b → q ≤ rowCount rows
+      go true e = let k = in-place kind q e .first in omega arith
       go false e =
           let k : walk kind rows text q (suc n) ≡ rowCount rows + 1 = rw e in
           absurd (omega (arith, h, k))
