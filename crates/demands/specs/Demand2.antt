@@ -14,7 +14,7 @@ use Rattle.rules.specs.Rules.{ruledOf}
 use Rattle.rows_check.specs.Tree.{rowsIn}
 use Rattle.rows_check.specs.Check.{printed}
 use Rattle.writer.specs.Write.{writeLayout, outAfter, Writes}
-use Rattle.writer.specs.RoundTrip.{ReadsBack, accepted, reads-back}
+use Rattle.writer.specs.RoundTripLaws.{ReadsBack, accepted, reads-back, out-written}
 use Rattle.writer.specs.declared.Written.the-variants.{Length}
 use Rattle.feed.specs.Feeding.{Feeding}
 use Rattle.feed.specs.PieceLaws.{Lent, Handed, any-cutting, any-cutting-handed}
@@ -46,7 +46,7 @@ round-trip sheet width version table text out out′ n bytes v w =
     let e = sym (w .is) in
     let a = accepted sheet width version table text (length out) n e in
     let b = reads-back sheet width version table text (length out) n bytes v e in
-    let o : out′ ≡ printed version table text ++ drop (length (printed version table text)) out = w .leaves ∙ ap (λ r. outAfter r (printed version table text) out) e in
+    let o : out′ ≡ printed version table text ++ drop (length (printed version table text)) out = w .leaves ∙ ap (λ r. outAfter r (printed version table text) out) e ∙ out-written n _ out in
     let t : take n out′ ≡ printed version table text = ap (take n) o ∙ take-at (printed version table text) _ n (sym (a .count)) in
     subst (λ z. Back sheet width version table text z) (sym t)
     (record { layout = b .layout; accepted = b .accepted; version-same = b .same; rows-same = b .sameRows; names-same = b .sameNames })

@@ -9,15 +9,16 @@ use Rattle.text.specs.Utf8.{utf8}
 use Rattle.wire.specs.Formats.{section, text, textOf, name}
 use Rattle.layout.specs.Layout.{entry, fields, recordL, structL, label, labelDef, parts, groups, printLayout}
 use Rattle.layout.specs.Given.{D}
+use Rattle.entry.specs.Entry.{cutBytes, rowBytes}
 use Rattle.fields.specs.Sheet.{alignOf, defOf, idOf, isDecimal, isExtension, isPadding, isStruct, isSymbol, memberAlign, namesLabel, offOf, pastBase, sizeOf, typeOf}
 use Rattle.fields.specs.Field.{breaks71, breaks72, breaks73, breaks74, breaks76, breaks77, breaks79, breaks80, fieldFault}
 use Rattle.rules.specs.Rules.{seqsFault, structsFault, recordsFault, structFault, recordFault, seqFault, fieldsFault, baseFault, extFault, tilingFault, spans, structAlign, largest}
-use Rattle.rules.specs.RowRules.{rowsRules, rowsOf, eleven, rowHead, rowCount, rowSeq, seqsIn, kindRows}
+use Rattle.rules.specs.RowRules.{rowsRules, rowsOf, rowCount, rowSeq, seqsIn, kindRows}
 use Rattle.writer.specs.Write.{writeLayout}
-use Rattle.writer.specs.RoundTrip.{accepts}
+use Rattle.writer.specs.RoundTripLaws.{accepts}
 use Rattle.writer.specs.declared.Written.the-variants.{Length}
 use Rattle.rows_check.specs.Tree.{countKind, countOf, from, namesFrom, skip, treeOf}
-use Rattle.rows_check.specs.Check.{fault, wellFormed, both, every, rowTest, rowFits, limitOf, inOrder, walk, secOk, nameKind, countsFit, groupsFit, countFits, nameShort, nameClean, clean, sectionsFit, fitsAll, secAt, printed, risesAt}
+use Rattle.rows_check.specs.Check.{fault, wellFormed, both, every, rowTest, rowFits, limitOf, inOrder, walk, sectionInPlace, nameKind, countsFit, groupsFit, countFits, nameShort, nameClean, clean, sectionsFit, fitsAll, printedSection, printed, risesAt}
 
 -- a type sheet of zeros: no type has a natural size, and type 1 is no struct, symbol, decimal or padding
 abbrev pub sheet : List ℕ
@@ -37,11 +38,11 @@ table =
 
 -- neither 90 to 95 nor a rule refuses it
 pub well-formed : fault table (65 ∷ []) ≡ 0
-unfolding fault wellFormed both every rowTest rowFits limitOf inOrder walk secOk nameKind countsFit groupsFit countFits nameShort nameClean clean sectionsFit fitsAll secAt printed risesAt countKind countOf from namesFrom skip treeOf utf8 printLayout parts groups recordL structL labelDef label fields entry padded named _then_ sized times distinct num raw byte section boxed name text textOf checked placed D
+unfolding fault wellFormed both every rowTest rowFits limitOf inOrder walk sectionInPlace nameKind countsFit groupsFit countFits nameShort nameClean clean sectionsFit fitsAll printedSection printed risesAt countKind countOf from namesFrom skip treeOf cutBytes rowBytes utf8 printLayout parts groups recordL structL labelDef label fields entry padded named _then_ sized times distinct num raw byte section boxed name text textOf checked placed D
 well-formed = refl
 
 pub ruled : rowsRules sheet 71 table ≡ 0
-unfolding rowsRules rowsOf eleven rowHead rowCount rowSeq seqsIn kindRows seqsFault structsFault recordsFault structFault recordFault seqFault fieldsFault baseFault extFault tilingFault spans structAlign largest fieldFault breaks71 breaks72 breaks73 breaks74 breaks76 breaks77 breaks79 breaks80 alignOf defOf idOf isDecimal isExtension isPadding isStruct isSymbol memberAlign namesLabel offOf pastBase sizeOf typeOf
+unfolding rowsRules rowsOf cutBytes rowBytes rowCount rowSeq seqsIn kindRows seqsFault structsFault recordsFault structFault recordFault seqFault fieldsFault baseFault extFault tilingFault spans structAlign largest fieldFault breaks71 breaks72 breaks73 breaks74 breaks76 breaks77 breaks79 breaks80 alignOf defOf idOf isDecimal isExtension isPadding isStruct isSymbol memberAlign namesLabel offOf pastBase sizeOf typeOf
 ruled = refl
 
 -- so it is written, wherever the output has room for it

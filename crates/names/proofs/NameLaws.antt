@@ -6,43 +6,34 @@ use mathlib.Core.Bool.{Bool, true, false}
 use mathlib.Core.List.{List, []}
 use lib.ListN.{length, getD, take, drop}
 use borrow.Author.Tests.{le-leb, lt-leb, lt-ltb, le-ltb}
-use Rattle.names.specs.Names.{symbolText, itemText, rowSpan, symbologySpan, layoutSpan, partIn}
+use Rattle.names.specs.Names.{rowSpan, spanOf, partIn}
 use Rattle.names.specs.declared.Span.{Span}
 use Rattle.names.specs.declared.Span.the-variants.{Part, Refused}
 
--- the row is not there; it has no text; it has one
-module _ (n : ℕ) (rows : List ℕ) (index : ℕ) where
-  pub symbology-past : length rows / 5 ≤ index → Refused 90 ≡ symbologySpan n rows index
-  unfolding symbologySpan
-  symbology-past h = rw (le-ltb index (length rows / 5) h)
+-- the row is past the table, or in it
+module _ (width : ℕ) (hasText : ℕ → Bool) (n : ℕ) (rows : List ℕ) (index : ℕ) where
+  pub row-past : length rows / width ≤ index → Refused 90 ≡ spanOf width hasText n rows index
+  unfolding spanOf
+  row-past h = rw (le-ltb index (length rows / width) h)
 
-  pub symbology-none : index < length rows / 5 → symbolText (getD rows (5 * index) 0) ≡ false → Refused 90 ≡ symbologySpan n rows index
-  unfolding symbologySpan
-  symbology-none h e = rw (lt-ltb index (length rows / 5) h, e)
+  pub row-there : index < length rows / width → rowSpan (hasText (getD rows (width * index) 0)) n rows (width * index) ≡ spanOf width hasText n rows index
+  unfolding spanOf
+  row-there h = rw (lt-ltb index (length rows / width) h)
 
-  pub symbology-some : index < length rows / 5 → symbolText (getD rows (5 * index) 0) ≡ true → rowSpan n rows (5 * index) ≡ symbologySpan n rows index
-  unfolding symbologySpan
-  symbology-some h e = rw (lt-ltb index (length rows / 5) h, e)
+-- a row in the table has no text, or has one within the bytes, or one that is not
+module _ (n : ℕ) (rows : List ℕ) (at : ℕ) {has : Bool} where
+  pub span-none : has ≡ false → Refused 90 ≡ rowSpan has n rows at
+  unfolding rowSpan
+  span-none e = rw e
 
-  pub layout-past : length rows / 9 ≤ index → Refused 90 ≡ layoutSpan n rows index
-  unfolding layoutSpan
-  layout-past h = rw (le-ltb index (length rows / 9) h)
+  module _ (e : has ≡ true) {a b : ℕ} (ea : a ≡ getD rows (at + 1) 0) (eb : b ≡ getD rows (at + 2) 0) where
+    pub span-in : a + b ≤ n → Part a b ≡ rowSpan has n rows at
+    unfolding rowSpan
+    span-in h = rw (e, ← ea, ← eb, le-leb (a + b) n h)
 
-  pub layout-none : index < length rows / 9 → itemText (getD rows (9 * index) 0) ≡ false → Refused 90 ≡ layoutSpan n rows index
-  unfolding layoutSpan
-  layout-none h e = rw (lt-ltb index (length rows / 9) h, e)
-
-  pub layout-some : index < length rows / 9 → itemText (getD rows (9 * index) 0) ≡ true → rowSpan n rows (9 * index) ≡ layoutSpan n rows index
-  unfolding layoutSpan
-  layout-some h e = rw (lt-ltb index (length rows / 9) h, e)
-
-pub span-in : (n : ℕ) (rows : List ℕ) (at : ℕ) {a b : ℕ} → a ≡ getD rows (at + 1) 0 → b ≡ getD rows (at + 2) 0 → a + b ≤ n → Part a b ≡ rowSpan n rows at
-unfolding rowSpan
-span-in n rows at {a} {b} ea eb h = rw (← ea, ← eb, le-leb (a + b) n h)
-
-pub span-out : (n : ℕ) (rows : List ℕ) (at : ℕ) {a b : ℕ} → a ≡ getD rows (at + 1) 0 → b ≡ getD rows (at + 2) 0 → n < a + b → Refused 90 ≡ rowSpan n rows at
-unfolding rowSpan
-span-out n rows at {a} {b} ea eb h = rw (← ea, ← eb, lt-leb (a + b) n h)
+    pub span-out : n < a + b → Refused 90 ≡ rowSpan has n rows at
+    unfolding rowSpan
+    span-out h = rw (e, ← ea, ← eb, lt-leb (a + b) n h)
 
 module _ (b : List ℕ) {span : Span} where
   pub part-in : {p n : ℕ} → span ≡ Part p n → p + n ≤ length b → take (p + n - p) (drop p b) ≡ partIn b span

@@ -16,16 +16,21 @@ symbolText kind = leb kind 4
 abbrev pub itemText : ℕ → Bool
 itemText kind = not (eqb kind 11) && (leb 10 kind && leb kind 15)
 
--- the second and third number of the row at `at`: a start and a length, within n bytes
-unfoldable pub rowSpan : ℕ → List ℕ → ℕ → Span
-rowSpan n rows at = cond (leb (getD rows (at + 1) 0 + getD rows (at + 2) 0) n) (Part (getD rows (at + 1) 0) (getD rows (at + 2) 0)) (Refused 90)
+-- the second and third number of the row at `at`, a start and a length; 90 for a row without a text, or where they reach past n bytes
+unfoldable pub rowSpan : Bool → ℕ → List ℕ → ℕ → Span
+rowSpan has n rows at =
+    cond (has && leb (getD rows (at + 1) 0 + getD rows (at + 2) 0) n) (Part (getD rows (at + 1) 0) (getD rows (at + 2) 0)) (Refused 90)
 
--- row `index` of a table of rows of five, or of nine, for n bytes; 90 past the table, without a text, or outside
-unfoldable pub symbologySpan : ℕ → List ℕ → ℕ → Span
-symbologySpan n rows index = cond (ltb index (length rows / 5) && symbolText (getD rows (5 * index) 0)) (rowSpan n rows (5 * index)) (Refused 90)
+-- row `index` of a table of rows of that width, of which the kinds with a text are known; 90 past the table
+unfoldable pub spanOf : ℕ → (ℕ → Bool) → ℕ → List ℕ → ℕ → Span
+spanOf width hasText n rows index =
+    cond (ltb index (length rows / width)) (rowSpan (hasText (getD rows (width * index) 0)) n rows (width * index)) (Refused 90)
 
-unfoldable pub layoutSpan : ℕ → List ℕ → ℕ → Span
-layoutSpan n rows index = cond (ltb index (length rows / 9) && itemText (getD rows (9 * index) 0)) (rowSpan n rows (9 * index)) (Refused 90)
+abbrev pub symbologySpan : ℕ → List ℕ → ℕ → Span
+symbologySpan n rows index = spanOf 5 symbolText n rows index
+
+abbrev pub layoutSpan : ℕ → List ℕ → ℕ → Span
+layoutSpan n rows index = spanOf 9 itemText n rows index
 
 -- the bytes of a span, and none for a refusal
 unfoldable pub partIn : List ℕ → Span → List ℕ

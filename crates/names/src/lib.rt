@@ -16,9 +16,7 @@ pub fn symbology_span(block: &[u8], rows: &[u32], index: usize) -> Span
 {
     if index < rows.len() / 5 {
         let at = 5 * index;
-        if symbol_text(rows[at]) {
-            return row_span(block.len(), rows, at);
-        }
+        return row_span(symbol_text(rows[at]), block.len(), rows, at);
     }
     Span::Refused(refusal::ROWS_MALFORMED)
 }
@@ -36,9 +34,7 @@ pub fn layout_span(layout: &[u8], rows: &[u32], index: usize) -> Span
 {
     if index < rows.len() / 9 {
         let at = 9 * index;
-        if item_text(rows[at]) {
-            return row_span(layout.len(), rows, at);
-        }
+        return row_span(item_text(rows[at]), layout.len(), rows, at);
     }
     Span::Refused(refusal::ROWS_MALFORMED)
 }
@@ -89,15 +85,17 @@ fn item_text(kind: u32) -> bool
     kind <= 15
 }
 
-// Start and length of the row at `at`, where they lie in n bytes.
-fn row_span(n: usize, rows: &[u32], at: usize) -> Span
+// Start and length of the row at `at`, where it has a text and they lie in n bytes.
+fn row_span(has: bool, n: usize, rows: &[u32], at: usize) -> Span
     requires { ⌜ at + 3 ≤ length (now rows) ⌝ }
-    ensures { λ r. ⌜ r ≡ rowSpan n (now (rows .entry)) at ⌝ }
+    ensures { λ r. ⌜ r ≡ rowSpan has n (now (rows .entry)) at ⌝ }
 {
-    let start = wide(rows[at + 1]);
-    let len = wide(rows[at + 2]);
-    if start + len <= n {
-        return Span::Part { start, len };
+    if has {
+        let start = wide(rows[at + 1]);
+        let len = wide(rows[at + 2]);
+        if start + len <= n {
+            return Span::Part { start, len };
+        }
     }
     Span::Refused(refusal::ROWS_MALFORMED)
 }

@@ -10,7 +10,7 @@ use Rattle.numbers.specs.Pick.{pick}
 use Rattle.layout.specs.Given.{D, recordL, structL, labelDef}
 use Rattle.wire.specs.Formats.{noNul}
 use Rattle.layout.specs.Layout.{printLayout}
-use Rattle.rows_check.specs.Tree.{cell, rowCount, byKind, recordOf, structOf, labelDefOf, countOf, namesFrom, nextSec, kinds, structsFrom, labelsFrom, treeOf}
+use Rattle.rows_check.specs.Tree.{cell, rowCount, byKind, recordOf, structOf, labelDefOf, countOf, namesFrom, nextSection, kinds, structsFrom, labelsFrom, treeOf}
 
 unfoldable pub both : Bool → Bool → Bool
 both true b = b
@@ -88,18 +88,18 @@ unfoldable pub nameKind : ℕ → ℕ
 nameKind kind = byKind kind 12 12 15
 
 -- a section of that kind stands at row q: its own row, the fields' rows, the names' rows
-unfoldable pub secOk : ℕ → List ℕ → List ℕ → ℕ → Bool
-secOk kind rows text q =
+unfoldable pub sectionInPlace : ℕ → List ℕ → List ℕ → ℕ → Bool
+sectionInPlace kind rows text q =
     both (leb (q + 1) (rowCount rows))
     (both (eqb (cell rows q 0) kind)
-    (both (leb (nextSec kind rows q) (rowCount rows))
+    (both (leb (nextSection kind rows q) (rowCount rows))
     (both (passes 11 rows text (q + 1) (namesFrom kind rows q - (q + 1)))
     (passes (nameKind kind) rows text (namesFrom kind rows q) (countOf kind rows q)))))
 
 -- the row after n sections of that kind, or one past the end where one is not in place
 unfoldable pub walk : ℕ → List ℕ → List ℕ → ℕ → ℕ → ℕ
 walk kind rows text q zero = q
-walk kind rows text q (suc n) = pick (secOk kind rows text q) (walk kind rows text (nextSec kind rows q) n) (rowCount rows + 1)
+walk kind rows text q (suc n) = pick (sectionInPlace kind rows text q) (walk kind rows text (nextSection kind rows q) n) (rowCount rows + 1)
 
 unfoldable pub inOrder : List ℕ → List ℕ → Bool
 inOrder rows text =
@@ -119,13 +119,13 @@ countsFit rows text = both (passes 91 rows text 0 (rowCount rows)) (groupsFit (k
 -- ---- 94: every section, and the layout
 
 -- the bytes of the section at row q
-unfoldable pub secAt : ℕ → List ℕ → List ℕ → ℕ → List ℕ
-secAt kind rows text q =
+unfoldable pub printedSection : ℕ → List ℕ → List ℕ → ℕ → List ℕ
+printedSection kind rows text q =
     byKind kind (recordL .print (recordOf rows text q)) (structL .print (structOf rows text q)) (labelDef .print (labelDefOf rows text q))
 
 unfoldable pub fitsAll : ℕ → List ℕ → List ℕ → ℕ → ℕ → Bool
 fitsAll kind rows text q zero = true
-fitsAll kind rows text q (suc k) = both (leb (length (secAt kind rows text q)) 65535) (fitsAll kind rows text (nextSec kind rows q) k)
+fitsAll kind rows text q (suc k) = both (leb (length (printedSection kind rows text q)) 65535) (fitsAll kind rows text (nextSection kind rows q) k)
 
 unfoldable pub sectionsFit : List ℕ → List ℕ → Bool
 sectionsFit rows text =

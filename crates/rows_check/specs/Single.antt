@@ -2,7 +2,7 @@
 use mathlib.Core.Path.{_≡_, sym, _∙_}
 use mathlib.Core.List.{List}
 use Prim.Native.Nat.{ℕ}
-use Rattle.rows_check.specs.Rows.{sizedOf}
+use Rattle.rows_check.specs.Answers.{sizedOf}
 use Rattle.rows_check.specs.declared.Sized.{Sized}
 
 pub single : (rows text : List ℕ) (r r′ : Sized) → r ≡ sizedOf rows text → r′ ≡ sizedOf rows text → r ≡ r′

@@ -1,11 +1,12 @@
 -- The layout that rows of nine stand for: document 01's "Rows", read back. A name's text is a part of the text that is lent
 -- with the rows; skipped bytes are zeros, and nothing is left over.
 -- Assumes nothing.
-use Prim.Native.Nat.{ℕ, zero, suc, _+_, _-_, _*_, _/_, _%_}
+use Prim.Native.Nat.{ℕ, zero, suc, _+_, _-_, _*_, _/_}
 use mathlib.Core.List.{List, [], _∷_}
 use lib.ListN.{length, take, drop, getD, replicate}
 use lib.Dec.{eqb}
 use Rattle.numbers.specs.Pick.{pick}
+use Rattle.entry.specs.Entry.{rowBytes}
 use Rattle.layout.specs.Given.{D}
 use Rattle.wire.specs.Formats.{Name}
 use Rattle.layout.specs.Layout.{Entry, Fields, RecordL, StructL, Label, LabelDef, Layout}
@@ -38,22 +39,12 @@ rowsIn rows = from after (cells rows) 0 (rowCount rows)
 abbrev pub nameOf : List ℕ → List ℕ → ℕ → Name
 nameOf rows text q = record { start = cell rows q 1; text = take (cell rows q 2) (drop (cell rows q 1) text) }
 
--- an entry's first eleven bytes: id, offset, size, type, flags, def index, scale byte
-abbrev pub headOf : List ℕ → ℕ → List ℕ
-headOf rows q =
-    cell rows q 1 % 256 ∷ cell rows q 1 / 256 % 256 ∷
-    cell rows q 2 % 256 ∷ cell rows q 2 / 256 % 256 ∷
-    cell rows q 3 % 256 ∷ cell rows q 3 / 256 % 256 ∷
-    cell rows q 4 % 256 ∷ cell rows q 5 % 256 ∷
-    cell rows q 6 % 256 ∷ cell rows q 6 / 256 % 256 ∷
-    cell rows q 7 % 256 ∷ []
-
--- the entry of those eleven: the writer puts zeros after them
-abbrev pub plainEntry : List ℕ → Entry
-plainEntry head = record { head = head; skipped = replicate (D - 11) 0 }
+-- the field row's entry: the writer puts zeros after its eleven bytes
+abbrev pub entryWithZeros : List ℕ → Entry
+entryWithZeros head = record { head = head; skipped = replicate (D - 11) 0 }
 
 abbrev pub entryOf : List ℕ → ℕ → Entry
-entryOf rows q = plainEntry (headOf rows q)
+entryOf rows q = entryWithZeros (rowBytes rows (9 * q))
 
 abbrev pub labelOf : List ℕ → List ℕ → ℕ → Label
 labelOf rows text q = record { code = cell rows q 3; name = nameOf rows text q }
@@ -93,13 +84,13 @@ unfoldable pub namesFrom : ℕ → List ℕ → ℕ → ℕ
 namesFrom kind rows q = byKind kind (q + 1 + cell rows q 6) (q + 1 + cell rows q 4) (q + 1)
 
 -- the row after the section at row q
-abbrev pub nextSec : ℕ → List ℕ → ℕ → ℕ
-nextSec kind rows q = namesFrom kind rows q + countOf kind rows q
+abbrev pub nextSection : ℕ → List ℕ → ℕ → ℕ
+nextSection kind rows q = namesFrom kind rows q + countOf kind rows q
 
 -- the row after k sections from row q
 unfoldable pub skip : ℕ → List ℕ → ℕ → ℕ → ℕ
 skip kind rows q zero = q
-skip kind rows q (suc k) = skip kind rows (nextSec kind rows q) k
+skip kind rows q (suc k) = skip kind rows (nextSection kind rows q) k
 
 -- ---- all rows
 
@@ -121,8 +112,8 @@ labelsFrom rows = skip 13 rows (structsFrom rows) (kinds rows 13)
 unfoldable pub treeOf : ℕ → List ℕ → List ℕ → Layout
 treeOf version rows text = record {
   version = version;
-  records = from (nextSec 10 rows) (recordOf rows text) 0 (kinds rows 10);
-  structs = from (nextSec 13 rows) (structOf rows text) (structsFrom rows) (kinds rows 13);
-  labels = from (nextSec 14 rows) (labelDefOf rows text) (labelsFrom rows) (kinds rows 14);
+  records = from (nextSection 10 rows) (recordOf rows text) 0 (kinds rows 10);
+  structs = from (nextSection 13 rows) (structOf rows text) (structsFrom rows) (kinds rows 13);
+  labels = from (nextSection 14 rows) (labelDefOf rows text) (labelsFrom rows) (kinds rows 14);
   rest = [];
 }

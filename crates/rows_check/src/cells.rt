@@ -1,22 +1,10 @@
 // Rows of nine numbers, and the rows of a section.
+use super::kinds;
 ghost use mathlib.Core.Path.{_≡_};
 ghost use Prim.Native.Nat.{_+_, _*_, _≤_, _<_};
 ghost use lib.ListN.{length};
-ghost use Rattle.rows_check.specs.Tree.{cell, countOf, namesFrom, nextSec};
+ghost use Rattle.rows_check.specs.Tree.{cell, countOf, namesFrom, nextSection};
 ghost use Rattle.rows_check.specs.Check.{nameKind};
-
-// The kinds of rows.
-pub(crate) const RECORD: usize = 10;
-
-pub(crate) const FIELD: usize = 11;
-
-pub(crate) const FIELD_NAME: usize = 12;
-
-pub(crate) const STRUCT: usize = 13;
-
-pub(crate) const LABEL_DEF: usize = 14;
-
-pub(crate) const LABEL: usize = 15;
 
 pub(crate) fn wide(x: u32) -> usize
     ensures { λ r. ⌜ (r ≡ x) × (r < 4294967296) ⌝ }
@@ -37,10 +25,10 @@ pub(crate) fn count_of(kind: usize, rows: &[u32], q: usize) -> usize
     requires { ⌜ 9 * (q + 1) ≤ length (now rows) ⌝ }
     ensures { λ r. ⌜ (r ≡ countOf kind (now (rows .entry)) q) × (r < 4294967296) ⌝ }
 {
-    if kind == RECORD {
+    if kind == kinds::RECORD {
         return cell_of(rows, q, 6);
     }
-    if kind == STRUCT {
+    if kind == kinds::STRUCT {
         return cell_of(rows, q, 4);
     }
     cell_of(rows, q, 3)
@@ -51,19 +39,19 @@ pub(crate) fn names_from(kind: usize, rows: &[u32], q: usize) -> usize
     requires { ⌜ 9 * (q + 1) ≤ length (now rows) ⌝ }
     ensures { λ r. ⌜ (r ≡ namesFrom kind (now (rows .entry)) q) × ((q + 1 ≤ r) × (r < q + 4294967297)) ⌝ }
 {
-    if kind == RECORD {
+    if kind == kinds::RECORD {
         return q + 1 + cell_of(rows, q, 6);
     }
-    if kind == STRUCT {
+    if kind == kinds::STRUCT {
         return q + 1 + cell_of(rows, q, 4);
     }
     q + 1
 }
 
 // The row after the section at row q.
-pub(crate) fn next_sec(kind: usize, rows: &[u32], q: usize) -> usize
+pub(crate) fn next_section(kind: usize, rows: &[u32], q: usize) -> usize
     requires { ⌜ 9 * (q + 1) ≤ length (now rows) ⌝ }
-    ensures { λ r. ⌜ r ≡ nextSec kind (now (rows .entry)) q ⌝ }
+    ensures { λ r. ⌜ r ≡ nextSection kind (now (rows .entry)) q ⌝ }
 {
     names_from(kind, rows, q) + count_of(kind, rows, q)
 }
@@ -72,11 +60,11 @@ pub(crate) fn next_sec(kind: usize, rows: &[u32], q: usize) -> usize
 pub(crate) fn name_kind(kind: usize) -> usize
     ensures { λ r. ⌜ r ≡ nameKind kind ⌝ }
 {
-    if kind == RECORD {
-        return FIELD_NAME;
+    if kind == kinds::RECORD {
+        return kinds::FIELD_NAME;
     }
-    if kind == STRUCT {
-        return FIELD_NAME;
+    if kind == kinds::STRUCT {
+        return kinds::FIELD_NAME;
     }
-    LABEL
+    kinds::LABEL
 }

@@ -1,11 +1,11 @@
 // The tests of single rows: 90 to 93, and the kind of a row.
 use super::cells;
+use super::kinds;
 ghost use mathlib.Core.Path.{_≡_};
-ghost use mathlib.Core.Bool.{not};
 ghost use Prim.Native.Nat.{_+_, _*_, _≤_, _<_};
 ghost use lib.ListN.{length};
 ghost use Rattle.rows_check.specs.Check.{every, limits, limitOf, numberFits, spanFits, rowFits, countFits, nameShort, clean, nameClean, rowTest, passes};
-ghost use Rattle.rows_check.specs.Easy.{rowGood, Easy};
+ghost use Rattle.rows_check.specs.Answers.{rowGood, AllGood};
 ghost use Rattle.rows_check.specs.Tree.{rowCount};
 
 // The largest that each of a row's nine numbers may be, for kinds 10 to 15.
@@ -66,12 +66,12 @@ const LIMITS: [u32; 54] = [
     0,
 ];
 
-// Whether the test `which` passes at all rows; `easy` says that each row passes 90 to 93.
-pub(crate) fn all_pass(easy: bool, which: usize, rows: &[u32], text: &[u8]) -> bool
-    requires { ⌜ Easy easy which (now rows) (now text) ⌝ }
+// Whether the test `which` passes at all rows; `good` says that each row passes 90 to 93.
+pub(crate) fn all_pass(good: bool, which: usize, rows: &[u32], text: &[u8]) -> bool
+    requires { ⌜ AllGood good which (now rows) (now text) ⌝ }
     ensures { λ r. ⌜ r ≡ passes which (now (rows .entry)) (now (text .entry)) 0 (rowCount (now (rows .entry))) ⌝ }
 {
-    if easy {
+    if good {
         return true;
     }
     rows_pass(which, rows, text, 0, rows.len() / 9)
@@ -163,16 +163,16 @@ fn row_fits(table: &[u32; 54], rows: &[u32], text: &[u8], q: usize) -> bool
     ensures { λ r. ⌜ r ≡ rowFits (now (rows .entry)) (now (text .entry)) q ⌝ }
 {
     let kind = cells::cell_of(rows, q, 0);
-    if kind < cells::RECORD {
+    if kind < kinds::RECORD {
         return false;
     }
-    if cells::LABEL < kind {
+    if kinds::LABEL < kind {
         return false;
     }
     if !numbers_fit(table, rows, q, kind) {
         return false;
     }
-    if kind == cells::FIELD {
+    if kind == kinds::FIELD {
         return true;
     }
     span_fits(rows, text, q)
@@ -213,13 +213,13 @@ fn count_fits(rows: &[u32], q: usize) -> bool
     ensures { λ r. ⌜ r ≡ countFits (now (rows .entry)) q ⌝ }
 {
     let kind = cells::cell_of(rows, q, 0);
-    if kind == cells::RECORD {
+    if kind == kinds::RECORD {
         return cells::cell_of(rows, q, 6) <= 65535;
     }
-    if kind == cells::STRUCT {
+    if kind == kinds::STRUCT {
         return cells::cell_of(rows, q, 4) <= 65535;
     }
-    if kind == cells::LABEL_DEF {
+    if kind == kinds::LABEL_DEF {
         return cells::cell_of(rows, q, 3) <= 65535;
     }
     true
@@ -231,7 +231,7 @@ fn name_short(rows: &[u32], q: usize) -> bool
     ensures { λ r. ⌜ r ≡ nameShort (now (rows .entry)) q ⌝ }
 {
     let kind = cells::cell_of(rows, q, 0);
-    if kind == cells::FIELD {
+    if kind == kinds::FIELD {
         return true;
     }
     cells::cell_of(rows, q, 2) <= 255
@@ -243,7 +243,7 @@ fn name_clean(rows: &[u32], text: &[u8], q: usize) -> bool
     ensures { λ r. ⌜ r ≡ nameClean (now (rows .entry)) (now (text .entry)) q ⌝ }
 {
     let kind = cells::cell_of(rows, q, 0);
-    if kind == cells::FIELD {
+    if kind == kinds::FIELD {
         return true;
     }
     let s = cells::cell_of(rows, q, 1);

@@ -1,14 +1,15 @@
 // Whether the kinds of rows stand in their places, and whether label codes rise.
 use super::cells;
 use super::fits;
+use super::kinds;
 ghost use mathlib.Core.Path.{_≡_};
 ghost use Prim.Native.Nat.{_+_, _-_, _*_, _/_, _≤_, _<_};
 ghost use lib.ListN.{length};
 ghost use lib.Dec.{eqb};
 ghost use Rattle.numbers.specs.Pick.{pick};
-ghost use Rattle.rows_check.specs.Tree.{countKind, rowCount, kinds};
-ghost use Rattle.rows_check.specs.Easy.{Easy};
-ghost use Rattle.rows_check.specs.Check.{every, secOk, walk, inOrder, wellFormed, groupsFit, countsFit, risesAt};
+ghost use Rattle.rows_check.specs.Tree.{rowCount, kinds};
+ghost use Rattle.rows_check.specs.Answers.{AllGood};
+ghost use Rattle.rows_check.specs.Check.{every, sectionInPlace, walk, inOrder, wellFormed, groupsFit, countsFit, risesAt};
 
 // How many rows begin a record, a struct and a label def.
 pub(crate) struct Kinds {
@@ -19,7 +20,7 @@ pub(crate) struct Kinds {
 
 // 90: rows of nine whose numbers fit, each kind in its place.
 pub(crate) fn well_formed(
-    easy: bool,
+    good: bool,
     rows: &[u32],
     text: &[u8],
     r: usize,
@@ -27,13 +28,13 @@ pub(crate) fn well_formed(
     l: usize,
 ) -> bool
     requires { ⌜ (r ≡ kinds (now rows) 10) × ((s ≡ kinds (now rows) 13) × (l ≡ kinds (now rows) 14)) ⌝ }
-    requires { ⌜ Easy easy 90 (now rows) (now text) ⌝ }
+    requires { ⌜ AllGood good 90 (now rows) (now text) ⌝ }
     ensures { λ b. ⌜ b ≡ wellFormed (now (rows .entry)) (now (text .entry)) ⌝ }
 {
     if rows.len() % 9 != 0 {
         return false;
     }
-    if !fits::all_pass(easy, 90, rows, text) {
+    if !fits::all_pass(good, 90, rows, text) {
         return false;
     }
     in_order(rows, text, r, s, l)
@@ -44,31 +45,31 @@ fn in_order(rows: &[u32], text: &[u8], r: usize, s: usize, l: usize) -> bool
     requires { ⌜ (r ≡ kinds (now rows) 10) × ((s ≡ kinds (now rows) 13) × (l ≡ kinds (now rows) 14)) ⌝ }
     ensures { λ b. ⌜ b ≡ inOrder (now (rows .entry)) (now (text .entry)) ⌝ }
 {
-    let a = walk_secs(cells::RECORD, rows, text, 0, r);
-    let b = walk_secs(cells::STRUCT, rows, text, a, s);
-    let d = walk_secs(cells::LABEL_DEF, rows, text, b, l);
+    let a = walk_sections(kinds::RECORD, rows, text, 0, r);
+    let b = walk_sections(kinds::STRUCT, rows, text, a, s);
+    let d = walk_sections(kinds::LABEL_DEF, rows, text, b, l);
     d == rows.len() / 9
 }
 
 // The row after n sections of a kind, or one past the last where one is not in place.
-fn walk_secs(kind: usize, rows: &[u32], text: &[u8], q: usize, n: usize) -> usize
+fn walk_sections(kind: usize, rows: &[u32], text: &[u8], q: usize, n: usize) -> usize
     ensures { λ r. ⌜ r ≡ walk kind (now (rows .entry)) (now (text .entry)) q n ⌝ }
 {
     let mut p = q;
     let mut todo = n;
     while 0 < todo {
-        if !sec_ok(kind, rows, text, p) {
+        if !section_in_place(kind, rows, text, p) {
             return rows.len() / 9 + 1;
         }
-        p = cells::next_sec(kind, rows, p);
+        p = cells::next_section(kind, rows, p);
         todo -= 1;
     }
     p
 }
 
 // A section of that kind stands at row q.
-fn sec_ok(kind: usize, rows: &[u32], text: &[u8], q: usize) -> bool
-    ensures { λ r. ⌜ r ≡ secOk kind (now (rows .entry)) (now (text .entry)) q ⌝ }
+fn section_in_place(kind: usize, rows: &[u32], text: &[u8], q: usize) -> bool
+    ensures { λ r. ⌜ r ≡ sectionInPlace kind (now (rows .entry)) (now (text .entry)) q ⌝ }
 {
     let nr = rows.len() / 9;
     if nr <= q {
@@ -84,7 +85,7 @@ fn sec_ok(kind: usize, rows: &[u32], text: &[u8], q: usize) -> bool
     if nr < end {
         return false;
     }
-    if !fits::rows_pass(cells::FIELD, rows, text, q + 1, from - (q + 1)) {
+    if !fits::rows_pass(kinds::FIELD, rows, text, q + 1, from - (q + 1)) {
         return false;
     }
     fits::rows_pass(cells::name_kind(kind), rows, text, from, n)
@@ -101,9 +102,9 @@ pub(crate) fn kinds_of(rows: &[u32]) -> Kinds
     let mut todo = rows.len() / 9;
     while 0 < todo {
         let kind = cells::cell_of(rows, p, 0);
-        r += one_if(kind, cells::RECORD);
-        s += one_if(kind, cells::STRUCT);
-        l += one_if(kind, cells::LABEL_DEF);
+        r += one_if(kind, kinds::RECORD);
+        s += one_if(kind, kinds::STRUCT);
+        l += one_if(kind, kinds::LABEL_DEF);
         p += 1;
         todo -= 1;
     }
@@ -125,7 +126,7 @@ fn one_if(a: usize, b: usize) -> usize
 
 // 91: the counts of fields and labels, and those of records, structs and label defs, which are given.
 pub(crate) fn counts_fit(
-    easy: bool,
+    good: bool,
     rows: &[u32],
     text: &[u8],
     r: usize,
@@ -133,10 +134,10 @@ pub(crate) fn counts_fit(
     l: usize,
 ) -> bool
     requires { ⌜ (r ≡ kinds (now rows) 10) × ((s ≡ kinds (now rows) 13) × (l ≡ kinds (now rows) 14)) ⌝ }
-    requires { ⌜ Easy easy 91 (now rows) (now text) ⌝ }
+    requires { ⌜ AllGood good 91 (now rows) (now text) ⌝ }
     ensures { λ b. ⌜ b ≡ countsFit (now (rows .entry)) (now (text .entry)) ⌝ }
 {
-    if !fits::all_pass(easy, 91, rows, text) {
+    if !fits::all_pass(good, 91, rows, text) {
         return false;
     }
     groups_fit(r, s, l)
@@ -175,11 +176,11 @@ fn rises_at(rows: &[u32], q: usize) -> bool
     ensures { λ r. ⌜ r ≡ risesAt (now (rows .entry)) q ⌝ }
 {
     let a = cells::cell_of(rows, q, 0);
-    if a != cells::LABEL {
+    if a != kinds::LABEL {
         return true;
     }
     let b = cells::cell_of(rows, q + 1, 0);
-    if b != cells::LABEL {
+    if b != kinds::LABEL {
         return true;
     }
     cells::cell_of(rows, q, 3) < cells::cell_of(rows, q + 1, 3)

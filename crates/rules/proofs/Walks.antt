@@ -12,15 +12,16 @@ use borrow.Author.Tests.{eq-eqb, ne-eqb}
 use Rattle.codec.specs.Cases.{by-bool}
 use Rattle.numbers.specs.Numbers.{le16}
 use Rattle.layout.specs.Given.{D, D-least}
-use Rattle.entry.specs.Entry.{entryBytes}
+use Rattle.entry.specs.Entry.{entryBytes, rowBytes}
+use Rattle.entry.specs.EntryLaws.{row-bytes-alone}
 use Rattle.rules.specs.declared.Source.{Source}
 use Rattle.rules.specs.declared.Place.{Place}
 use Rattle.rules.specs.declared.Item.{Item}
 use Rattle.rules.specs.declared.Next.{Next}
 use Rattle.rules.specs.declared.Next.the-variants.{Found, End}
 use Rattle.rules.specs.Rules.{Seq}
-use Rattle.rules.specs.RowRules.{column, rowsOf, rowHead, rowCount, rowSeq, seqsIn}
-use Rattle.rules.specs.Entries.{rowAt, row-at, entryAt, entriesAt, entriesOf, Room, entries-length}
+use Rattle.rules.specs.RowRules.{column, rowsOf, rowCount, rowSeq, seqsIn}
+use Rattle.rules.specs.Entries.{entryAt, entriesAt, entriesOf, Room, entries-length}
 use Rattle.rules.specs.Walk.{itemSeq, countIn, sectionItem, Lies, sectionSeqs, Stand, rowItem, seqsFrom, Good, Step, Stepped, found, ended, kindOf}
 
 -- ---- sections
@@ -104,7 +105,7 @@ seqs-hit : (isRecord : Bool) (r : List ℕ) (rs : List (List ℕ)) (q : Seq) →
 unfolding seqsIn
 seqs-hit isRecord r rs q k e = rw (eq-eqb (getD r 0 0) (column isRecord 10 13) k, e)
 
-rows-heads : (l t : List ℕ) (c m a : ℕ) → map rowHead (take c (rowsOf m (drop a t))) ≡ entriesAt l t true 9 a (min c m)
+rows-heads : (l t : List ℕ) (c m a : ℕ) → map (λ (e : List ℕ). rowBytes e 0) (take c (rowsOf m (drop a t))) ≡ entriesAt l t true 9 a (min c m)
 unfolding rowsOf entriesAt entryAt
 rows-heads l t zero m a = rw (zero-min m)
   where
@@ -115,7 +116,7 @@ rows-heads l t (suc c) zero a = rw (min-zero (suc c))
     min-zero : (m : ℕ) → min m 0 ≡ 0
     min-zero m = omega arith
 rows-heads l t (suc c) (suc m) a =
-    rw (min-suc c m) (ap₂ _∷_ (row-at t a) (ap (λ (u : List ℕ). map rowHead (take c (rowsOf m u))) (drop-drop 9 a t) ∙ rows-heads l t c m (a + 9)))
+    rw (min-suc c m) (ap₂ _∷_ (row-bytes-alone t a) (ap (λ (u : List ℕ). map (λ (e : List ℕ). rowBytes e 0) (take c (rowsOf m u))) (drop-drop 9 a t) ∙ rows-heads l t c m (a + 9)))
   where
     min-suc : (c m : ℕ) → min (suc c) (suc m) ≡ suc (min c m)
     min-suc c m = omega arith

@@ -10,23 +10,11 @@ use lib.ListN.{length, getD, take, drop}
 use lib.Seq.{getD-take, getD-drop}
 use lib.Dec.{lit<}
 use Rattle.rules.specs.declared.Source.{Source}
-use Rattle.entry.specs.Entry.{entryBytes}
-use Rattle.rules.specs.RowRules.{eleven, rowHead}
-
--- the row at a of a table, as an entry's eleven bytes
-unfoldable pub rowAt : List ℕ → ℕ → List ℕ
-rowAt t a = eleven (getD t (a + 1) 0) (getD t (a + 2) 0) (getD t (a + 3) 0) (getD t (a + 4) 0) (getD t (a + 5) 0) (getD t (a + 6) 0) (getD t (a + 7) 0)
-
-pub row-at : (t : List ℕ) (a : ℕ) → rowHead (take 9 (drop a t)) ≡ rowAt t a
-unfolding rowHead rowAt
-row-at t a = rw (cell 1 (lit< tt), cell 2 (lit< tt), cell 3 (lit< tt), cell 4 (lit< tt), cell 5 (lit< tt), cell 6 (lit< tt), cell 7 (lit< tt))
-  where
-    cell : (j : ℕ) → j < 9 → getD (take 9 (drop a t)) j 0 ≡ getD t (a + j) 0
-    cell j h = getD-take 9 (drop a t) j 0 h ∙ getD-drop a t j 0
+use Rattle.entry.specs.Entry.{entryBytes, rowBytes}
 
 -- the entry at place a of the layout l or of the rows t
 unfoldable pub entryAt : List ℕ → List ℕ → Bool → ℕ → List ℕ
-entryAt l t rows a = cond rows (rowAt t a) (entryBytes l a)
+entryAt l t rows a = cond rows (rowBytes t a) (entryBytes l a)
 
 -- the n entries from a on, d apart
 unfoldable pub entriesAt : List ℕ → List ℕ → Bool → ℕ → ℕ → ℕ → List (List ℕ)
@@ -84,12 +72,8 @@ module _ (l t : List ℕ) where
         let e = mul-step (s .step) (s .count) h in
         record { least = r .least; inside = omega (arith, r .inside); small = omega (arith, r .small) }
 
-    -- room for one entry
-    pub room-one : s .at + cond (s .rows) 9 11 ≤ cond (s .rows) (length t) (length l)
-    room-one = omega (arith, mul-step (s .step) (s .count) h, r .least, r .inside)
-
   -- the first entry, by where it lies
-  pub first-row : (s : Source) (r : List ℕ) → s .rows ≡ true → r ≡ rowAt t (s .at) → r ≡ entryOf l t s
+  pub first-row : (s : Source) (r : List ℕ) → s .rows ≡ true → r ≡ rowBytes t (s .at) → r ≡ entryOf l t s
   unfolding entryOf entryAt
   first-row s r h e = rw h e
 

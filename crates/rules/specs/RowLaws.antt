@@ -15,9 +15,10 @@ use Rattle.wire.specs.Formats.{Name}
 use Rattle.table.specs.TableLaws.{Wide, wide-append, wide-map, wide-all}
 use Rattle.layout.specs.Layout.{Entry, Fields, RecordL, StructL, Label, LabelDef, Parts, toLayout}
 use Rattle.layout.specs.Rows.{headRow, entryRow, nameRow, fieldRows, recordRows, structRows, labelRow, labelDefRows, rows}
-use Rattle.entry.specs.Entry.{entryBytes}
+use Rattle.entry.specs.Entry.{rowBytes}
+use Rattle.entry.specs.EntryLaws.{numbers-bytes}
 use Rattle.rules.specs.Rules.{Seq, seqOf, structSeq, recordSeq, seqsFault, rulesOf}
-use Rattle.rules.specs.RowRules.{lo, hi, eleven, column, rowsOf, rowHead, rowCount, rowSeq, seqsIn, kindRows, rowsRules}
+use Rattle.rules.specs.RowRules.{column, rowsOf, rowCount, rowSeq, seqsIn, kindRows, rowsRules}
 use Rattle.layout.specs.Standing.{bytes-11, rows-parts}
 
 abbrev pub AllOf : {A : Type 0} → (A → Type 0) → List A → Type 0
@@ -66,34 +67,10 @@ fields-wide f = wide-append 9 (map entryRow (f .entries)) (map nameRow (f .names
 
 -- ---- an entry and its row
 
-lo-pair : (a b : ℕ) → a < 256 → lo (a + 256 * b) ≡ a
-lo-pair a b h = omega arith
+head-back : (h : List ℕ) → length h ≡ 11 → Bytes h → rowBytes (headRow h) 0 ≡ h
+head-back h n b = numbers-bytes h b 11 0 ∙ bytes-11 h 0 (omega arith) ∙ take-all 11 h (omega arith)
 
-hi-pair : (a b : ℕ) → a < 256 → b < 256 → hi (a + 256 * b) ≡ b
-hi-pair a b h g = omega arith
-
-lo-one : (a : ℕ) → a < 256 → lo a ≡ a
-lo-one a h = omega arith
-
-head-back : (h : List ℕ) → length h ≡ 11 → Bytes h → rowHead (headRow h) ≡ h
-unfolding rowHead eleven
-head-back h n b =
-    let e : entryBytes h 0 ≡ h = bytes-11 h 0 (omega arith) ∙ take-all 11 h (omega arith) in
-    rw (
-      lo-pair (getD h 0 0) (getD h 1 0) (b 0),
-      hi-pair (getD h 0 0) (getD h 1 0) (b 0) (b 1),
-      lo-pair (getD h 2 0) (getD h 3 0) (b 2),
-      hi-pair (getD h 2 0) (getD h 3 0) (b 2) (b 3),
-      lo-pair (getD h 4 0) (getD h 5 0) (b 4),
-      hi-pair (getD h 4 0) (getD h 5 0) (b 4) (b 5),
-      lo-one (getD h 6 0) (b 6),
-      lo-one (getD h 7 0) (b 7),
-      lo-pair (getD h 8 0) (getD h 9 0) (b 8),
-      hi-pair (getD h 8 0) (getD h 9 0) (b 8) (b 9),
-      lo-one (getD h 10 0) (b 10),
-    ) e
-
-heads-back : (es : List Entry) → AllOf (λ (e : Entry). (length (e .head) ≡ 11) × Bytes (e .head)) es → map rowHead (map entryRow es) ≡ map (λ e. e .head) es
+heads-back : (es : List Entry) → AllOf (λ (e : Entry). (length (e .head) ≡ 11) × Bytes (e .head)) es → map (λ (r : List ℕ). rowBytes r 0) (map entryRow es) ≡ map (λ e. e .head) es
 heads-back [] v = refl
 heads-back (e ∷ es) v = ap₂ _∷_ (head-back (e .head) (v .0 .0) (v .0 .1)) (heads-back es (v .1))
 

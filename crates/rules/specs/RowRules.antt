@@ -6,6 +6,7 @@ use mathlib.Core.Bool.{Bool, true, false, cond}
 use mathlib.Core.List.{List, [], _∷_, map}
 use lib.ListN.{length, getD, take, drop}
 use lib.Dec.{ltb, eqb}
+use Rattle.entry.specs.Entry.{rowBytes}
 use Rattle.fields.specs.Field.{refuse}
 use Rattle.rules.specs.Rules.{Seq, seqsFault}
 
@@ -13,22 +14,6 @@ use Rattle.rules.specs.Rules.{Seq, seqsFault}
 unfoldable pub rowsOf : ℕ → List ℕ → List (List ℕ)
 rowsOf zero t = []
 rowsOf (suc n) t = take 9 t ∷ rowsOf n (drop 9 t)
-
--- the two bytes of a number, modulo 65536
-abbrev pub lo : ℕ → ℕ
-lo x = x % 256
-
-abbrev pub hi : ℕ → ℕ
-hi x = x / 256 % 256
-
--- id, offset, size, type, flags, def index and scale byte as an entry's eleven bytes, each number modulo its width on the wire
-unfoldable pub eleven : ℕ → ℕ → ℕ → ℕ → ℕ → ℕ → ℕ → List ℕ
-eleven id off size type flags def scale =
-    lo id ∷ hi id ∷ lo off ∷ hi off ∷ lo size ∷ hi size ∷ lo type ∷ lo flags ∷ lo def ∷ hi def ∷ lo scale ∷ []
-
--- a field row as an entry's eleven bytes
-unfoldable pub rowHead : List ℕ → List ℕ
-rowHead r = eleven (getD r 1 0) (getD r 2 0) (getD r 3 0) (getD r 4 0) (getD r 5 0) (getD r 6 0) (getD r 7 0)
 
 -- a record's column, or a struct's: 10 record (name start, length, rtype, schema, base, field count, ..), 13 struct (start, length,
 -- size, field count), whose last column is 0
@@ -45,7 +30,7 @@ module _ (isRecord : Bool) where
     rtype = getD r (column isRecord 3 8) 0 % 65536;
     base = getD r (column isRecord 5 3) 0 % 65536;
     names = length (take (rowCount r) (drop (rowCount r) rs));
-    entries = map rowHead (take (rowCount r) rs);
+    entries = map (λ (e : List ℕ). rowBytes e 0) (take (rowCount r) rs);
   }
 
   -- the records, or the structs, in rows, the first `skip` rows passed over; so are the rows of one, and those of another kind

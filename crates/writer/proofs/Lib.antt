@@ -1,2 +1,2 @@
-pub mod Laws
-pub mod Ends
+pub mod OutputLaws
+pub mod WriteLaws

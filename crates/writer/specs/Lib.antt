@@ -1,5 +1,5 @@
-pub mod Put
+pub mod Output
 pub mod Write
-pub mod Fit
-pub mod RoundTrip
+pub mod FitLaws
+pub mod RoundTripLaws
 pub mod Single

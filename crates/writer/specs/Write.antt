@@ -9,7 +9,8 @@ use Rattle.numbers.specs.Pick.{pick}
 use Rattle.rules.specs.RowRules.{rowsRules}
 use Rattle.rows_check.specs.Check.{fault, printed}
 use Rattle.rows_check.specs.Tree.{skip}
-use Rattle.writer.specs.Put.{Wrote}
+use Rattle.rows_check.specs.Sections.{Spans, printedName, printedEntry, printedLabel}
+use Rattle.writer.specs.Output.{Wrote}
 use Rattle.writer.specs.declared.Written.{Written}
 use Rattle.writer.specs.declared.Written.the-variants.{Length, Refused}
 
@@ -31,7 +32,7 @@ writeLayout sheet width version rows text room =
     whole rows text (ruled sheet width rows (roomy (printed version rows text) room (Length (length (printed version rows text)))))
 
 -- the bytes stand at the front of the output, and the rest of it is as it was; a refusal leaves it as it was
-abbrev pub outAfter : Written → List ℕ → List ℕ → List ℕ
+unfoldable pub outAfter : Written → List ℕ → List ℕ → List ℕ
 outAfter (Length n) bytes out = bytes ++ drop (length bytes) out
 outAfter (Refused k) bytes out = out
 
@@ -41,6 +42,14 @@ pub record Writes (sheet : List ℕ) (width version : ℕ) (rows text out out′
   pub leaves : out′ ≡ outAfter (writeLayout sheet width version rows text (length out)) (printed version rows text) out
 
 -- what writing some sections answers: the place after them, and the row after them
-pub record Went (kind : ℕ) (rows : List ℕ) (at : ℕ) (bs o o′ : List ℕ) (q k : ℕ) (a p : ℕ) : Type 0 where
+pub record WroteSections (kind : ℕ) (rows : List ℕ) (at : ℕ) (bs o o′ : List ℕ) (q k : ℕ) (a p : ℕ) : Type 0 where
   pub wrote : Wrote at bs o o′ a
   pub row : p ≡ skip kind rows q k
+
+-- the bytes of the part of a section that row q is, by its kind: 11 an entry, 12 a field's name, else a label
+unfoldable pub printedPart : ℕ → List ℕ → List ℕ → ℕ → List ℕ
+printedPart kind rows text q = pick (eqb kind 11) (printedEntry rows q) (pick (eqb kind 12) (printedName rows text q) (printedLabel rows text q))
+
+-- the texts of n rows of that kind lie in the text; a field row has none
+pub record TextsInside (kind : ℕ) (rows text : List ℕ) (q n : ℕ) : Type 0 where
+  pub spans : (kind ≡ 11 → ⊥) → Spans rows text q n

@@ -1,16 +1,9 @@
 // Rows of nine numbers.
-use super::put;
+use rows_check::kinds;
 ghost use mathlib.Core.Path.{_≡_};
 ghost use Prim.Native.Nat.{_+_, _*_, _≤_, _<_};
 ghost use lib.ListN.{length};
-ghost use Rattle.rows_check.specs.Tree.{cell, headOf, nextSec};
-
-// The kinds of the rows that begin a section.
-pub(crate) const RECORD: usize = 10;
-
-pub(crate) const STRUCT: usize = 13;
-
-pub(crate) const LABEL_DEF: usize = 14;
+ghost use Rattle.rows_check.specs.Tree.{cell, nextSection};
 
 fn wide(x: u32) -> usize
     ensures { λ r. ⌜ (r ≡ x) × (r < 4294967296) ⌝ }
@@ -29,42 +22,15 @@ pub(crate) fn cell_of(rows: &[u32], q: usize, j: usize) -> usize
 // The row after the section at row q.
 pub(crate) fn next_row(kind: usize, rows: &[u32], q: usize) -> usize
     requires { ⌜ 9 * (q + 1) ≤ length (now rows) ⌝ }
-    ensures { λ r. ⌜ r ≡ nextSec kind (now (rows .entry)) q ⌝ }
+    ensures { λ r. ⌜ r ≡ nextSection kind (now (rows .entry)) q ⌝ }
 {
-    if kind == RECORD {
+    if kind == kinds::RECORD {
         let n = cell_of(rows, q, 6);
         return q + 1 + n + n;
     }
-    if kind == STRUCT {
+    if kind == kinds::STRUCT {
         let n = cell_of(rows, q, 4);
         return q + 1 + n + n;
     }
     q + 1 + cell_of(rows, q, 3)
-}
-
-// A field row as the eleven bytes of an entry.
-pub(crate) fn entry_of_row(rows: &[u32], q: usize) -> [u8; 11]
-    requires { ⌜ 9 * (q + 1) ≤ length (now rows) ⌝ }
-    ensures { λ r. ⌜ r ≡ headOf (now (rows .entry)) q ⌝ }
-{
-    let id = cell_of(rows, q, 1);
-    let offset = cell_of(rows, q, 2);
-    let size = cell_of(rows, q, 3);
-    let ty = cell_of(rows, q, 4);
-    let flags = cell_of(rows, q, 5);
-    let def = cell_of(rows, q, 6);
-    let scale = cell_of(rows, q, 7);
-    [
-        put::low(id),
-        put::low(id / 256),
-        put::low(offset),
-        put::low(offset / 256),
-        put::low(size),
-        put::low(size / 256),
-        put::low(ty),
-        put::low(flags),
-        put::low(def),
-        put::low(def / 256),
-        put::low(scale),
-    ]
 }

@@ -1,21 +1,21 @@
 // Names, entries and labels.
 use super::cells;
 use super::put;
-ghost use mathlib.Core.Path.{_≡_};
+use rows_check::kinds;
 ghost use Prim.Native.Nat.{_+_, _*_, _≤_};
 ghost use lib.ListN.{length};
 ghost use Rattle.layout.specs.Given.{entry};
-ghost use Rattle.rows_check.specs.Tree.{cell, after, plainEntry};
-ghost use Rattle.rows_check.specs.Bodies.{many, nameAt, entryAt, labelAt, fieldsAt};
-ghost use Rattle.rows_check.specs.Secs.{Spans};
-ghost use Rattle.writer.specs.Put.{Room, Wrote};
+ghost use Rattle.rows_check.specs.Tree.{cell, after, entryWithZeros};
+ghost use Rattle.rows_check.specs.Sections.{many, printedName, printedLabel, printedFields, Spans};
+ghost use Rattle.writer.specs.Write.{TextsInside, printedPart};
+ghost use Rattle.writer.specs.Output.{RoomFor, Wrote};
 
 // The name of row q: length byte, bytes, one NUL.
 pub(crate) fn put_name(out: &mut [u8], at: usize, rows: &[u32], text: &[u8], q: usize) -> usize
     requires { ⌜ 9 * (q + 1) ≤ length (now rows) ⌝ }
     requires { ⌜ cell (now rows) q 1 + cell (now rows) q 2 ≤ length (now text) ⌝ }
-    requires { ⌜ Room at (nameAt (now rows) (now text) q) (now out) ⌝ }
-    ensures { λ r. ⌜ Wrote at (nameAt (now (rows .entry)) (now (text .entry)) q) (now (out .entry)) (now (out .exit)) r ⌝ }
+    requires { ⌜ RoomFor at (printedName (now rows) (now text) q) (now out) ⌝ }
+    ensures { λ r. ⌜ Wrote at (printedName (now (rows .entry)) (now (text .entry)) q) (now (out .entry)) (now (out .exit)) r ⌝ }
 {
     let s = cells::cell_of(rows, q, 1);
     let l = cells::cell_of(rows, q, 2);
@@ -27,40 +27,49 @@ pub(crate) fn put_name(out: &mut [u8], at: usize, rows: &[u32], text: &[u8], q: 
 
 // An entry: the eleven bytes, and zeros up to D.
 fn put_entry(out: &mut [u8], at: usize, e: [u8; 11]) -> usize
-    requires { ⌜ Room at (entry .print (plainEntry e)) (now out) ⌝ }
-    ensures { λ r. ⌜ Wrote at (entry .print (plainEntry e)) (now (out .entry)) (now (out .exit)) r ⌝ }
+    requires { ⌜ RoomFor at (entry .print (entryWithZeros e)) (now out) ⌝ }
+    ensures { λ r. ⌜ Wrote at (entry .print (entryWithZeros e)) (now (out .entry)) (now (out .exit)) r ⌝ }
 {
     let a = put::put_bytes(out, at, &e);
     put::put_zeros(out, a, layout::D - 11)
 }
 
-fn put_entries(out: &mut [u8], at: usize, rows: &[u32], q: usize, n: usize) -> usize
-    requires { ⌜ 9 * (q + n) ≤ length (now rows) ⌝ }
-    requires { ⌜ Room at (many after (entryAt (now rows)) q n) (now out) ⌝ }
-    ensures { λ r. ⌜ Wrote at (many after (entryAt (now (rows .entry))) q n) (now (out .entry)) (now (out .exit)) r ⌝ }
+// The part of a section that row q is: an entry, a name or a label.
+fn put_part(kind: usize, out: &mut [u8], at: usize, rows: &[u32], text: &[u8], q: usize) -> usize
+    requires { ⌜ 9 * (q + 1) ≤ length (now rows) ⌝ }
+    requires { ⌜ TextsInside kind (now rows) (now text) q 1 ⌝ }
+    requires { ⌜ RoomFor at (printedPart kind (now rows) (now text) q) (now out) ⌝ }
+    ensures { λ r. ⌜ Wrote at (printedPart kind (now (rows .entry)) (now (text .entry)) q) (now (out .entry)) (now (out .exit)) r ⌝ }
 {
-    let mut a = at;
-    let mut p = q;
-    let mut todo = n;
-    while 0 < todo {
-        a = put_entry(out, a, cells::entry_of_row(rows, p));
-        p += 1;
-        todo -= 1;
+    if kind == kinds::FIELD {
+        return put_entry(out, at, entry::row_bytes(rows, 9 * q));
     }
-    a
+    if kind == kinds::FIELD_NAME {
+        return put_name(out, at, rows, text, q);
+    }
+    put_label(out, at, rows, text, q)
 }
 
-fn put_names(out: &mut [u8], at: usize, rows: &[u32], text: &[u8], q: usize, n: usize) -> usize
+// The parts of n rows from q on.
+pub(crate) fn put_parts(
+    kind: usize,
+    out: &mut [u8],
+    at: usize,
+    rows: &[u32],
+    text: &[u8],
+    q: usize,
+    n: usize,
+) -> usize
     requires { ⌜ 9 * (q + n) ≤ length (now rows) ⌝ }
-    requires { ⌜ Spans (now rows) (now text) q n ⌝ }
-    requires { ⌜ Room at (many after (nameAt (now rows) (now text)) q n) (now out) ⌝ }
-    ensures { λ r. ⌜ Wrote at (many after (nameAt (now (rows .entry)) (now (text .entry))) q n) (now (out .entry)) (now (out .exit)) r ⌝ }
+    requires { ⌜ TextsInside kind (now rows) (now text) q n ⌝ }
+    requires { ⌜ RoomFor at (many after (printedPart kind (now rows) (now text)) q n) (now out) ⌝ }
+    ensures { λ r. ⌜ Wrote at (many after (printedPart kind (now (rows .entry)) (now (text .entry))) q n) (now (out .entry)) (now (out .exit)) r ⌝ }
 {
     let mut a = at;
     let mut p = q;
     let mut todo = n;
     while 0 < todo {
-        a = put_name(out, a, rows, text, p);
+        a = put_part(kind, out, a, rows, text, p);
         p += 1;
         todo -= 1;
     }
@@ -78,45 +87,21 @@ pub(crate) fn put_fields(
 ) -> usize
     requires { ⌜ 9 * (q + n + n) ≤ length (now rows) ⌝ }
     requires { ⌜ Spans (now rows) (now text) (q + n) n ⌝ }
-    requires { ⌜ Room at (fieldsAt (now rows) (now text) q n) (now out) ⌝ }
-    ensures { λ r. ⌜ Wrote at (fieldsAt (now (rows .entry)) (now (text .entry)) q n) (now (out .entry)) (now (out .exit)) r ⌝ }
+    requires { ⌜ RoomFor at (printedFields (now rows) (now text) q n) (now out) ⌝ }
+    ensures { λ r. ⌜ Wrote at (printedFields (now (rows .entry)) (now (text .entry)) q n) (now (out .entry)) (now (out .exit)) r ⌝ }
 {
     let a = put::put_u16(out, at, n);
-    let b = put_entries(out, a, rows, q, n);
-    put_names(out, b, rows, text, q + n, n)
+    let b = put_parts(kinds::FIELD, out, a, rows, text, q, n);
+    put_parts(kinds::FIELD_NAME, out, b, rows, text, q + n, n)
 }
 
 // Code and name.
 fn put_label(out: &mut [u8], at: usize, rows: &[u32], text: &[u8], q: usize) -> usize
     requires { ⌜ 9 * (q + 1) ≤ length (now rows) ⌝ }
     requires { ⌜ cell (now rows) q 1 + cell (now rows) q 2 ≤ length (now text) ⌝ }
-    requires { ⌜ Room at (labelAt (now rows) (now text) q) (now out) ⌝ }
-    ensures { λ r. ⌜ Wrote at (labelAt (now (rows .entry)) (now (text .entry)) q) (now (out .entry)) (now (out .exit)) r ⌝ }
+    requires { ⌜ RoomFor at (printedLabel (now rows) (now text) q) (now out) ⌝ }
+    ensures { λ r. ⌜ Wrote at (printedLabel (now (rows .entry)) (now (text .entry)) q) (now (out .entry)) (now (out .exit)) r ⌝ }
 {
     let a = put::put_u16(out, at, cells::cell_of(rows, q, 3));
     put_name(out, a, rows, text, q)
-}
-
-pub(crate) fn put_labels(
-    out: &mut [u8],
-    at: usize,
-    rows: &[u32],
-    text: &[u8],
-    q: usize,
-    n: usize,
-) -> usize
-    requires { ⌜ 9 * (q + n) ≤ length (now rows) ⌝ }
-    requires { ⌜ Spans (now rows) (now text) q n ⌝ }
-    requires { ⌜ Room at (many after (labelAt (now rows) (now text)) q n) (now out) ⌝ }
-    ensures { λ r. ⌜ Wrote at (many after (labelAt (now (rows .entry)) (now (text .entry))) q n) (now (out .entry)) (now (out .exit)) r ⌝ }
-{
-    let mut a = at;
-    let mut p = q;
-    let mut todo = n;
-    while 0 < todo {
-        a = put_label(out, a, rows, text, p);
-        p += 1;
-        todo -= 1;
-    }
-    a
 }

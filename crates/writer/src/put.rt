@@ -4,7 +4,7 @@ ghost use mathlib.Core.List.{[], _∷_};
 ghost use Prim.Native.Nat.{_%_};
 ghost use lib.ListN.{replicate};
 ghost use Rattle.codec.specs.Codec.{little};
-ghost use Rattle.writer.specs.Put.{Room, Wrote};
+ghost use Rattle.writer.specs.Output.{RoomFor, Wrote};
 
 pub(crate) fn low(v: usize) -> u8
     ensures { λ r. ⌜ r ≡ v % 256 ⌝ }
@@ -13,7 +13,7 @@ pub(crate) fn low(v: usize) -> u8
 }
 
 pub(crate) fn put_u8(out: &mut [u8], at: usize, v: u8) -> usize
-    requires { ⌜ Room at (v ∷ []) (now out) ⌝ }
+    requires { ⌜ RoomFor at (v ∷ []) (now out) ⌝ }
     ensures { λ r. ⌜ Wrote at (v ∷ []) (now (out .entry)) (now (out .exit)) r ⌝ }
 {
     out[at] = v;
@@ -21,7 +21,7 @@ pub(crate) fn put_u8(out: &mut [u8], at: usize, v: u8) -> usize
 }
 
 pub(crate) fn put_u16(out: &mut [u8], at: usize, v: usize) -> usize
-    requires { ⌜ Room at (little 2 v) (now out) ⌝ }
+    requires { ⌜ RoomFor at (little 2 v) (now out) ⌝ }
     ensures { λ r. ⌜ Wrote at (little 2 v) (now (out .entry)) (now (out .exit)) r ⌝ }
 {
     let a = put_u8(out, at, low(v));
@@ -29,7 +29,7 @@ pub(crate) fn put_u16(out: &mut [u8], at: usize, v: usize) -> usize
 }
 
 pub(crate) fn put_u32(out: &mut [u8], at: usize, v: usize) -> usize
-    requires { ⌜ Room at (little 4 v) (now out) ⌝ }
+    requires { ⌜ RoomFor at (little 4 v) (now out) ⌝ }
     ensures { λ r. ⌜ Wrote at (little 4 v) (now (out .entry)) (now (out .exit)) r ⌝ }
 {
     let a = put_u16(out, at, v);
@@ -37,7 +37,7 @@ pub(crate) fn put_u32(out: &mut [u8], at: usize, v: usize) -> usize
 }
 
 pub(crate) fn put_bytes(out: &mut [u8], at: usize, src: &[u8]) -> usize
-    requires { ⌜ Room at (now src) (now out) ⌝ }
+    requires { ⌜ RoomFor at (now src) (now out) ⌝ }
     ensures { λ r. ⌜ Wrote at (now (src .entry)) (now (out .entry)) (now (out .exit)) r ⌝ }
 {
     let mut a = at;
@@ -50,7 +50,7 @@ pub(crate) fn put_bytes(out: &mut [u8], at: usize, src: &[u8]) -> usize
 }
 
 pub(crate) fn put_zeros(out: &mut [u8], at: usize, n: usize) -> usize
-    requires { ⌜ Room at (replicate n 0) (now out) ⌝ }
+    requires { ⌜ RoomFor at (replicate n 0) (now out) ⌝ }
     ensures { λ r. ⌜ Wrote at (replicate n 0) (now (out .entry)) (now (out .exit)) r ⌝ }
 {
     let mut a = at;

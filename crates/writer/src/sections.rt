@@ -2,15 +2,15 @@
 use super::cells;
 use super::parts;
 use super::put;
+use rows_check::kinds;
 ghost use mathlib.Core.Path.{_≡_};
 ghost use Prim.Native.Nat.{_+_, _*_, _≤_};
 ghost use lib.ListN.{length};
-ghost use Rattle.rows_check.specs.Tree.{nextSec, kinds, structsFrom, labelsFrom};
-ghost use Rattle.rows_check.specs.Check.{secAt, printed};
-ghost use Rattle.rows_check.specs.Bodies.{many, headAt, recordBody, structBody, labelBody, bodyAt, group};
-ghost use Rattle.rows_check.specs.Secs.{SecRows, Secs};
-ghost use Rattle.writer.specs.Put.{Room, Wrote, Filled};
-ghost use Rattle.writer.specs.Write.{Went};
+ghost use Rattle.rows_check.specs.Tree.{nextSection, kinds, structsFrom, labelsFrom};
+ghost use Rattle.rows_check.specs.Check.{printedSection, printed};
+ghost use Rattle.rows_check.specs.Sections.{many, printedHead, printedBody, printedGroup, SectionRows, Sections};
+ghost use Rattle.writer.specs.Output.{RoomFor, Wrote, Filled};
+ghost use Rattle.writer.specs.Write.{WroteSections};
 
 // The place after what was written, and the row after what was read.
 struct Placed {
@@ -29,16 +29,16 @@ pub(crate) fn put_layout(
     l: usize,
 ) -> usize
     requires { ⌜ (r ≡ kinds (now rows) 10) × ((s ≡ kinds (now rows) 13) × (l ≡ kinds (now rows) 14)) ⌝ }
-    requires { ⌜ Secs 10 (now rows) (now text) 0 (kinds (now rows) 10) ⌝ }
-    requires { ⌜ Secs 13 (now rows) (now text) (structsFrom (now rows)) (kinds (now rows) 13) ⌝ }
-    requires { ⌜ Secs 14 (now rows) (now text) (labelsFrom (now rows)) (kinds (now rows) 14) ⌝ }
+    requires { ⌜ Sections 10 (now rows) (now text) 0 (kinds (now rows) 10) ⌝ }
+    requires { ⌜ Sections 13 (now rows) (now text) (structsFrom (now rows)) (kinds (now rows) 13) ⌝ }
+    requires { ⌜ Sections 14 (now rows) (now text) (labelsFrom (now rows)) (kinds (now rows) 14) ⌝ }
     requires { ⌜ length (printed version (now rows) (now text)) ≤ length (now out) ⌝ }
     ensures { λ n. ⌜ Filled (printed version (now (rows .entry)) (now (text .entry))) (now (out .entry)) (now (out .exit)) n ⌝ }
 {
     let a = put::put_u16(out, 0, version);
-    let g = put_group(cells::RECORD, out, a, rows, text, 0, r);
-    let h = put_group(cells::STRUCT, out, g.at, rows, text, g.row, s);
-    let i = put_group(cells::LABEL_DEF, out, h.at, rows, text, h.row, l);
+    let g = put_group(kinds::RECORD, out, a, rows, text, 0, r);
+    let h = put_group(kinds::STRUCT, out, g.at, rows, text, g.row, s);
+    let i = put_group(kinds::LABEL_DEF, out, h.at, rows, text, h.row, l);
     i.at
 }
 
@@ -52,9 +52,9 @@ fn put_group(
     q: usize,
     k: usize,
 ) -> Placed
-    requires { ⌜ Secs kind (now rows) (now text) q k ⌝ }
-    requires { ⌜ Room at (group kind (now rows) (now text) q k) (now out) ⌝ }
-    ensures { λ r. ⌜ Went kind (now (rows .entry)) at (group kind (now (rows .entry)) (now (text .entry)) q k) (now (out .entry)) (now (out .exit)) q k (r .at) (r .row) ⌝ }
+    requires { ⌜ Sections kind (now rows) (now text) q k ⌝ }
+    requires { ⌜ RoomFor at (printedGroup kind (now rows) (now text) q k) (now out) ⌝ }
+    ensures { λ r. ⌜ WroteSections kind (now (rows .entry)) at (printedGroup kind (now (rows .entry)) (now (text .entry)) q k) (now (out .entry)) (now (out .exit)) q k (r .at) (r .row) ⌝ }
 {
     let a = put::put_u16(out, at, k);
     put_sections(kind, out, a, rows, text, q, k)
@@ -69,9 +69,9 @@ fn put_sections(
     q: usize,
     k: usize,
 ) -> Placed
-    requires { ⌜ Secs kind (now rows) (now text) q k ⌝ }
-    requires { ⌜ Room at (many (nextSec kind (now rows)) (secAt kind (now rows) (now text)) q k) (now out) ⌝ }
-    ensures { λ r. ⌜ Went kind (now (rows .entry)) at (many (nextSec kind (now (rows .entry))) (secAt kind (now (rows .entry)) (now (text .entry))) q k) (now (out .entry)) (now (out .exit)) q k (r .at) (r .row) ⌝ }
+    requires { ⌜ Sections kind (now rows) (now text) q k ⌝ }
+    requires { ⌜ RoomFor at (many (nextSection kind (now rows)) (printedSection kind (now rows) (now text)) q k) (now out) ⌝ }
+    ensures { λ r. ⌜ WroteSections kind (now (rows .entry)) at (many (nextSection kind (now (rows .entry))) (printedSection kind (now (rows .entry)) (now (text .entry))) q k) (now (out .entry)) (now (out .exit)) q k (r .at) (r .row) ⌝ }
 {
     let mut a = at;
     let mut p = q;
@@ -87,9 +87,9 @@ fn put_sections(
 // The section at row q: its body first, then the length before it.
 fn put_section(kind: usize, out: &mut [u8], at: usize, rows: &[u32], text: &[u8], q: usize) -> usize
     requires { ⌜ 9 * (q + 1) ≤ length (now rows) ⌝ }
-    requires { ⌜ SecRows kind (now rows) (now text) q ⌝ }
-    requires { ⌜ Room at (secAt kind (now rows) (now text) q) (now out) ⌝ }
-    ensures { λ r. ⌜ Wrote at (secAt kind (now (rows .entry)) (now (text .entry)) q) (now (out .entry)) (now (out .exit)) r ⌝ }
+    requires { ⌜ SectionRows kind (now rows) (now text) q ⌝ }
+    requires { ⌜ RoomFor at (printedSection kind (now rows) (now text) q) (now out) ⌝ }
+    ensures { λ r. ⌜ Wrote at (printedSection kind (now (rows .entry)) (now (text .entry)) q) (now (out .entry)) (now (out .exit)) r ⌝ }
 {
     let b = at + 2;
     let n = put_body(kind, &mut out[b..], rows, text, q);
@@ -100,24 +100,24 @@ fn put_section(kind: usize, out: &mut [u8], at: usize, rows: &[u32], text: &[u8]
 // The body of the section at row q, at the front of what is lent.
 fn put_body(kind: usize, out: &mut [u8], rows: &[u32], text: &[u8], q: usize) -> usize
     requires { ⌜ 9 * (q + 1) ≤ length (now rows) ⌝ }
-    requires { ⌜ SecRows kind (now rows) (now text) q ⌝ }
-    requires { ⌜ length (bodyAt kind (now rows) (now text) q) ≤ length (now out) ⌝ }
-    ensures { λ r. ⌜ Filled (bodyAt kind (now (rows .entry)) (now (text .entry)) q) (now (out .entry)) (now (out .exit)) r ⌝ }
+    requires { ⌜ SectionRows kind (now rows) (now text) q ⌝ }
+    requires { ⌜ length (printedBody kind (now rows) (now text) q) ≤ length (now out) ⌝ }
+    ensures { λ r. ⌜ Filled (printedBody kind (now (rows .entry)) (now (text .entry)) q) (now (out .entry)) (now (out .exit)) r ⌝ }
 {
-    if kind == cells::RECORD {
+    if kind == kinds::RECORD {
         return record_body(out, rows, text, q);
     }
-    if kind == cells::STRUCT {
+    if kind == kinds::STRUCT {
         return struct_body(out, rows, text, q);
     }
-    label_body(out, rows, text, q)
+    label_def_body(out, rows, text, q)
 }
 
 // rtype, schema, base size, hash.
 fn put_head(out: &mut [u8], at: usize, rows: &[u32], q: usize) -> usize
     requires { ⌜ 9 * (q + 1) ≤ length (now rows) ⌝ }
-    requires { ⌜ Room at (headAt (now rows) q) (now out) ⌝ }
-    ensures { λ r. ⌜ Wrote at (headAt (now (rows .entry)) q) (now (out .entry)) (now (out .exit)) r ⌝ }
+    requires { ⌜ RoomFor at (printedHead (now rows) q) (now out) ⌝ }
+    ensures { λ r. ⌜ Wrote at (printedHead (now (rows .entry)) q) (now (out .entry)) (now (out .exit)) r ⌝ }
 {
     let a = put::put_u16(out, at, cells::cell_of(rows, q, 3));
     let b = put::put_u16(out, a, cells::cell_of(rows, q, 4));
@@ -128,9 +128,9 @@ fn put_head(out: &mut [u8], at: usize, rows: &[u32], q: usize) -> usize
 
 fn record_body(out: &mut [u8], rows: &[u32], text: &[u8], q: usize) -> usize
     requires { ⌜ 9 * (q + 1) ≤ length (now rows) ⌝ }
-    requires { ⌜ SecRows 10 (now rows) (now text) q ⌝ }
-    requires { ⌜ length (recordBody (now rows) (now text) q) ≤ length (now out) ⌝ }
-    ensures { λ r. ⌜ Filled (recordBody (now (rows .entry)) (now (text .entry)) q) (now (out .entry)) (now (out .exit)) r ⌝ }
+    requires { ⌜ SectionRows 10 (now rows) (now text) q ⌝ }
+    requires { ⌜ length (printedBody 10 (now rows) (now text) q) ≤ length (now out) ⌝ }
+    ensures { λ r. ⌜ Filled (printedBody 10 (now (rows .entry)) (now (text .entry)) q) (now (out .entry)) (now (out .exit)) r ⌝ }
 {
     let n = cells::cell_of(rows, q, 6);
     let a = put_head(out, 0, rows, q);
@@ -140,9 +140,9 @@ fn record_body(out: &mut [u8], rows: &[u32], text: &[u8], q: usize) -> usize
 
 fn struct_body(out: &mut [u8], rows: &[u32], text: &[u8], q: usize) -> usize
     requires { ⌜ 9 * (q + 1) ≤ length (now rows) ⌝ }
-    requires { ⌜ SecRows 13 (now rows) (now text) q ⌝ }
-    requires { ⌜ length (structBody (now rows) (now text) q) ≤ length (now out) ⌝ }
-    ensures { λ r. ⌜ Filled (structBody (now (rows .entry)) (now (text .entry)) q) (now (out .entry)) (now (out .exit)) r ⌝ }
+    requires { ⌜ SectionRows 13 (now rows) (now text) q ⌝ }
+    requires { ⌜ length (printedBody 13 (now rows) (now text) q) ≤ length (now out) ⌝ }
+    ensures { λ r. ⌜ Filled (printedBody 13 (now (rows .entry)) (now (text .entry)) q) (now (out .entry)) (now (out .exit)) r ⌝ }
 {
     let size = cells::cell_of(rows, q, 3);
     let n = cells::cell_of(rows, q, 4);
@@ -151,14 +151,14 @@ fn struct_body(out: &mut [u8], rows: &[u32], text: &[u8], q: usize) -> usize
     parts::put_fields(out, b, rows, text, q + 1, n)
 }
 
-fn label_body(out: &mut [u8], rows: &[u32], text: &[u8], q: usize) -> usize
+fn label_def_body(out: &mut [u8], rows: &[u32], text: &[u8], q: usize) -> usize
     requires { ⌜ 9 * (q + 1) ≤ length (now rows) ⌝ }
-    requires { ⌜ SecRows 14 (now rows) (now text) q ⌝ }
-    requires { ⌜ length (labelBody (now rows) (now text) q) ≤ length (now out) ⌝ }
-    ensures { λ r. ⌜ Filled (labelBody (now (rows .entry)) (now (text .entry)) q) (now (out .entry)) (now (out .exit)) r ⌝ }
+    requires { ⌜ SectionRows 14 (now rows) (now text) q ⌝ }
+    requires { ⌜ length (printedBody 14 (now rows) (now text) q) ≤ length (now out) ⌝ }
+    ensures { λ r. ⌜ Filled (printedBody 14 (now (rows .entry)) (now (text .entry)) q) (now (out .entry)) (now (out .exit)) r ⌝ }
 {
     let n = cells::cell_of(rows, q, 3);
     let a = parts::put_name(out, 0, rows, text, q);
     let b = put::put_u16(out, a, n);
-    parts::put_labels(out, b, rows, text, q + 1, n)
+    parts::put_parts(kinds::LABEL, out, b, rows, text, q + 1, n)
 }

@@ -1,3 +1,5 @@
+-- The eleven bytes, which are all there or are read one by one.
+-- Assumes nothing.
 use native.Mathlib.Nat.{add-zero}
 use mathlib.Core.Path.{ap, _∙_}
 use lib.ListN.{getD}

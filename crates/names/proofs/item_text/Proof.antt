@@ -1,5 +1,6 @@
+-- By the kind: a field, below the kinds, or up to the last.
+-- Assumes nothing.
 use borrow.Author.Tests.{le-leb, lt-leb, eq-eqb, ne-eqb}
-use borrow.Author.Needs.{needs}
 use Rattle.names.proofs.item_text.Statement.{statement}
 use Rattle.names.proofs.item_text.Tie as tie
 

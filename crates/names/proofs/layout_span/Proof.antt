@@ -1,43 +1,26 @@
-use mathlib.Core.Path.{_≡_, refl, sym, ap, _∙_}
-use native.Mathlib.Omega.{arith}
-use Rattle.names.proofs.NameLaws.{layout-past, layout-none, layout-some}
+-- A row of the table has the span that its numbers say; past the table there is none.
+-- Assumes nothing.
+use mathlib.Core.Path.{_∙_}
+use Rattle.names.specs.Names.{itemText}
+use Rattle.names.proofs.NameLaws.{row-past, row-there}
 use borrow.Author.Needs.{needs}
 use Rattle.names.proofs.layout_span.Statement.{statement}
 use Rattle.names.proofs.layout_span.Tie as tie
 
-mul-at : tie.Need-mul-at
-mul-at c = search needs
-
-mul-item-text : tie.Need-mul-item-text
-mul-item-text c = search needs
-
-shared-slice-read-item-text : tie.Need-shared-slice-read-item-text
-shared-slice-read-item-text c = search needs
-
-item-text-requires : tie.Need-item-text-requires
-item-text-requires c κs = search needs
-
-row-span-requires : tie.Need-row-span-requires
-row-span-requires c κs = search needs
-
 returns : tie.Need-returns
-returns c = c .row-span .ensures ∙ layout-some _ (c .before .before .before .before .before .before .before .args .rows .now) (c .before .before .before .before .before .before .before .args .index) (c .before .before .before .before .if1 .taken) (sym (c .before .before .item-text .ensures) ∙ c .before .if2 .taken)
+returns c = (rw (c .before .item-text .ensures) at (c .row-span .ensures)) ∙ row-there 9 itemText _ (c .before .before .before .before .before .before .args .rows .now) (c .before .before .before .before .before .before .args .index) (c .before .before .before .if1 .taken)
 
 returns-2 : tie.Need-returns-2
-returns-2 c = layout-none _ (c .before .before .before .before .before .before .args .rows .now) (c .before .before .before .before .before .before .args .index) (c .before .before .before .if1 .taken) (sym (c .before .item-text .ensures) ∙ c .if2 .left)
-
-returns-3 : tie.Need-returns-3
-returns-3 c = layout-past _ (c .before .before .before .args .rows .now) (c .before .before .before .args .index) (c .if1 .left)
+returns-2 c = row-past 9 itemText _ (c .before .before .before .args .rows .now) (c .before .before .before .args .index) (c .if1 .left)
 
 pub layout-span-spec : {M : Type 1} → statement M
 layout-span-spec =
     tie.close
     (tie.spec
-    mul-at
-    mul-item-text
-    shared-slice-read-item-text
-    item-text-requires
-    row-span-requires
+    (λ c. search needs)
+    (λ c. search needs)
+    (λ c. search needs)
+    (λ c κs. search needs)
+    (λ c κs. search needs)
     returns
-    returns-2
-    returns-3)
+    returns-2)

@@ -3,28 +3,28 @@
 use mathlib.Core.Path.{sym, _∙_}
 use denote.Ref.{now}
 use borrow.Author.Tests.{not-true, not-false}
-use Rattle.rows_check.specs.Tests.{formed}
-use Rattle.rows_check.specs.Easy.{easy-90, easy-91, easy-92, easy-93}
-use Rattle.rows_check.specs.Secs.{record-secs, struct-secs, label-secs}
-use Rattle.rows_check.proofs.Laws.{exit-90, exit-91, exit-92, exit-93, exit-94, exit-95, done}
+use Rattle.rows_check.specs.CheckLaws.{formed}
+use Rattle.rows_check.specs.AnswerLaws.{good-90, good-91, good-92, good-93}
+use Rattle.rows_check.specs.SectionLaws.{record-sections, struct-sections, label-def-sections}
+use Rattle.rows_check.proofs.SizeLaws.{exit-90, exit-91, exit-92, exit-93, exit-94, exit-95, done}
 use borrow.Author.Needs.{needs}
 use Rattle.rows_check.proofs.layout_size.Statement.{statement}
 use Rattle.rows_check.proofs.layout_size.Tie as tie
 
 well-formed-requires : tie.Need-well-formed-requires
-well-formed-requires c κs = (c .before .kinds-of .ensures, easy-90 _ _ _ (c .all-good .ensures))
+well-formed-requires c κs = (c .before .kinds-of .ensures, good-90 _ _ _ (c .all-good .ensures))
 
 returns : tie.Need-returns
 returns c = exit-90 (now (c .before .before .before .before .before .before .args .rows)) (now (c .before .before .before .before .before .before .args .text)) (sym (c .before .well-formed .ensures) ∙ not-true (c .before .well-formed .result) (c .if1 .taken))
 
 counts-fit-requires : tie.Need-counts-fit-requires
-counts-fit-requires c κs = (c .before .before .before .kinds-of .ensures, easy-91 _ _ _ (c .before .before .all-good .ensures))
+counts-fit-requires c κs = (c .before .before .before .kinds-of .ensures, good-91 _ _ _ (c .before .before .all-good .ensures))
 
 returns-2 : tie.Need-returns-2
 returns-2 c = exit-91 (now (c .before .before .before .before .before .before .before .before .args .rows)) (now (c .before .before .before .before .before .before .before .before .args .text)) (sym (c .before .before .before .well-formed .ensures) ∙ not-false (c .before .before .before .well-formed .result) (c .before .before .if1 .left)) (sym (c .before .counts-fit .ensures) ∙ not-true (c .before .counts-fit .result) (c .if2 .taken))
 
 all-pass-requires : tie.Need-all-pass-requires
-all-pass-requires c κs = easy-92 _ _ _ (c .before .before .before .before .all-good .ensures)
+all-pass-requires c κs = good-92 _ _ _ (c .before .before .before .before .all-good .ensures)
 
 returns-3 : tie.Need-returns-3
 returns-3 c =
@@ -32,7 +32,7 @@ returns-3 c =
     (sym (c .before .all-pass .ensures) ∙ not-true (c .before .all-pass .result) (c .if3 .taken))
 
 all-pass-requires-2 : tie.Need-all-pass-requires-2
-all-pass-requires-2 c κs = easy-93 _ _ _ (c .before .before .before .before .before .before .all-good .ensures)
+all-pass-requires-2 c κs = good-93 _ _ _ (c .before .before .before .before .before .before .all-good .ensures)
 
 returns-4 : tie.Need-returns-4
 returns-4 c =
@@ -42,7 +42,7 @@ returns-4 c =
 total-size-requires : tie.Need-total-size-requires
 total-size-requires c κs =
     let w = formed (now (c .before .before .before .before .before .before .before .before .before .before .before .before .args .rows)) (now (c .before .before .before .before .before .before .before .before .before .before .before .before .args .text)) (sym (c .before .before .before .before .before .before .before .well-formed .ensures) ∙ not-false (c .before .before .before .before .before .before .before .well-formed .result) (c .before .before .before .before .before .before .if1 .left)) in
-    (c .before .before .before .before .before .before .before .before .before .kinds-of .ensures, (record-secs _ _ w, (struct-secs _ _ w, label-secs _ _ w)))
+    (c .before .before .before .before .before .before .before .before .before .kinds-of .ensures, (record-sections _ _ w, (struct-sections _ _ w, label-def-sections _ _ w)))
 
 returns-5 : tie.Need-returns-5
 returns-5 c =

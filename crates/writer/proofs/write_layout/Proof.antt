@@ -2,34 +2,34 @@
 -- Assumes nothing.
 use mathlib.Core.Path.{sym, _∙_}
 use denote.Ref.{now}
-use Rattle.rows_check.specs.Legal.{sound}
-use Rattle.rows_check.specs.Secs.{record-secs, struct-secs, label-secs}
-use Rattle.rows_check.specs.Rows.{sized-length}
-use Rattle.writer.proofs.Ends.{end-fault, end-rules, end-short, room-for, end-done}
+use Rattle.rows_check.specs.LegalLaws.{sound}
+use Rattle.rows_check.specs.SectionLaws.{record-sections, struct-sections, label-def-sections}
+use Rattle.rows_check.specs.AnswerLaws.{sized-length}
+use Rattle.writer.proofs.WriteLaws.{refused-by-check, refused-by-rules, refused-short, room-for, written}
 use borrow.Author.Needs.{needs}
 use Rattle.writer.proofs.write_layout.Statement.{statement}
 use Rattle.writer.proofs.write_layout.Tie as tie
 
 returns : tie.Need-returns
-returns c = end-rules (now (c .before .before .before .before .before .before .before .before .before .args .sheet)) (c .before .before .before .before .before .before .before .before .before .args .width) (c .before .before .before .before .before .before .before .before .before .args .version) (now (c .before .before .before .before .before .before .before .before .before .args .rows)) (now (c .before .before .before .before .before .before .before .before .before .args .text)) (now (c .before .before .before .before .before .before .before .before .before .args .out)) _ _ _ _ (sym (c .before .before .before .bytes .given .1) ∙ c .before .before .before .before .before .layout-size .ensures) (c .before .check-rows .result) (c .before .check-rows .ensures) (c .if1 .taken)
+returns c = refused-by-rules (now (c .before .before .before .before .before .before .before .before .before .args .sheet)) (c .before .before .before .before .before .before .before .before .before .args .width) (c .before .before .before .before .before .before .before .before .before .args .version) (now (c .before .before .before .before .before .before .before .before .before .args .rows)) (now (c .before .before .before .before .before .before .before .before .before .args .text)) (now (c .before .before .before .before .before .before .before .before .before .args .out)) _ _ _ _ (sym (c .before .before .before .bytes .given .1) ∙ c .before .before .before .before .before .layout-size .ensures) (c .before .check-rows .result) (c .before .check-rows .ensures) (c .if1 .taken)
 
 returns-2 : tie.Need-returns-2
-returns-2 c = end-short (now (c .before .before .before .before .before .before .before .before .before .before .args .sheet)) (c .before .before .before .before .before .before .before .before .before .before .args .width) (c .before .before .before .before .before .before .before .before .before .before .args .version) (now (c .before .before .before .before .before .before .before .before .before .before .args .rows)) (now (c .before .before .before .before .before .before .before .before .before .before .args .text)) (now (c .before .before .before .before .before .before .before .before .before .before .args .out)) _ _ _ _ (sym (c .before .before .before .before .bytes .given .1) ∙ c .before .before .before .before .before .before .layout-size .ensures) (c .before .before .check-rows .result) (c .before .before .check-rows .ensures) (c .before .if1 .left) (c .if2 .taken)
+returns-2 c = refused-short (now (c .before .before .before .before .before .before .before .before .before .before .args .sheet)) (c .before .before .before .before .before .before .before .before .before .before .args .width) (c .before .before .before .before .before .before .before .before .before .before .args .version) (now (c .before .before .before .before .before .before .before .before .before .before .args .rows)) (now (c .before .before .before .before .before .before .before .before .before .before .args .text)) (now (c .before .before .before .before .before .before .before .before .before .before .args .out)) _ _ _ _ (sym (c .before .before .before .before .bytes .given .1) ∙ c .before .before .before .before .before .before .layout-size .ensures) (c .before .before .check-rows .result) (c .before .before .check-rows .ensures) (c .before .if1 .left) (c .if2 .taken)
 
 put-layout-requires : tie.Need-put-layout-requires
 put-layout-requires c κs =
     let w = sized-length (now (c .before .before .before .before .before .before .before .before .before .before .before .before .args .rows)) (now (c .before .before .before .before .before .before .before .before .before .before .before .before .args .text)) _ _ _ _ (sym (c .before .before .before .before .before .before .bytes .given .1) ∙ c .before .before .before .before .before .before .before .before .layout-size .ensures) in
     let f = sound (now (c .before .before .before .before .before .before .before .before .before .before .before .before .args .rows)) (now (c .before .before .before .before .before .before .before .before .before .before .before .before .args .text)) (w .none) .formed in
     let h = room-for (now (c .before .before .before .before .before .before .before .before .before .before .before .before .args .sheet)) (c .before .before .before .before .before .before .before .before .before .before .before .before .args .width) (c .before .before .before .before .before .before .before .before .before .before .before .before .args .version) (now (c .before .before .before .before .before .before .before .before .before .before .before .before .args .rows)) (now (c .before .before .before .before .before .before .before .before .before .before .before .before .args .text)) (now (c .before .before .before .before .before .before .before .before .before .before .before .before .args .out)) _ _ _ _ (sym (c .before .before .before .before .before .before .bytes .given .1) ∙ c .before .before .before .before .before .before .before .before .layout-size .ensures) (c .before .before .before .before .check-rows .result) (c .before .before .before .before .check-rows .ensures) (c .before .before .if2 .left) in
-    ((w .records, (w .structs, w .labels)), (record-secs _ _ f, (struct-secs _ _ f, (label-secs _ _ f, rw (c .wide .ensures) h))))
+    ((w .records, (w .structs, w .labels)), (record-sections _ _ f, (struct-sections _ _ f, (label-def-sections _ _ f, rw (c .wide .ensures) h))))
 
 returns-3 : tie.Need-returns-3
 returns-3 c =
-    end-done (now (c .before .before .before .before .before .before .before .before .before .before .before .before .before .before .before .args .sheet)) (c .before .before .before .before .before .before .before .before .before .before .before .before .before .before .before .args .width) (c .before .before .before .before .before .before .before .before .before .before .before .before .before .before .before .args .version) (now (c .before .before .before .before .before .before .before .before .before .before .before .before .before .before .before .args .rows)) (now (c .before .before .before .before .before .before .before .before .before .before .before .before .before .before .before .args .text)) (now (c .before .before .before .before .before .before .before .before .before .before .before .before .before .before .before .args .out)) _ _ _ _ (sym (c .before .before .before .before .before .before .before .before .before .bytes .given .1) ∙ c .before .before .before .before .before .before .before .before .before .before .before .layout-size .ensures) (c .before .before .before .before .before .before .before .check-rows .result) (c .before .before .before .before .before .before .before .check-rows .ensures) (c .before .before .before .before .before .before .if1 .left) (c .before .before .before .before .before .if2 .left) _ _
+    written (now (c .before .before .before .before .before .before .before .before .before .before .before .before .before .before .before .args .sheet)) (c .before .before .before .before .before .before .before .before .before .before .before .before .before .before .before .args .width) (c .before .before .before .before .before .before .before .before .before .before .before .before .before .before .before .args .version) (now (c .before .before .before .before .before .before .before .before .before .before .before .before .before .before .before .args .rows)) (now (c .before .before .before .before .before .before .before .before .before .before .before .before .before .before .before .args .text)) (now (c .before .before .before .before .before .before .before .before .before .before .before .before .before .before .before .args .out)) _ _ _ _ (sym (c .before .before .before .before .before .before .before .before .before .bytes .given .1) ∙ c .before .before .before .before .before .before .before .before .before .before .before .layout-size .ensures) (c .before .before .before .before .before .before .before .check-rows .result) (c .before .before .before .before .before .before .before .check-rows .ensures) (c .before .before .before .before .before .before .if1 .left) (c .before .before .before .before .before .if2 .left) _ _
     (rw (c .before .before .before .wide .ensures) at (c .before .before .put-layout .ensures))
 
 returns-4 : tie.Need-returns-4
-returns-4 c = end-fault (now (c .before .before .before .before .before .before .before .args .sheet)) (c .before .before .before .before .before .before .before .args .width) (c .before .before .before .before .before .before .before .args .version) (now (c .before .before .before .before .before .before .before .args .rows)) (now (c .before .before .before .before .before .before .before .args .text)) (now (c .before .before .before .before .before .before .before .args .out)) _ (sym (c .before .why .given .1) ∙ c .before .before .before .layout-size .ensures)
+returns-4 c = refused-by-check (now (c .before .before .before .before .before .before .before .args .sheet)) (c .before .before .before .before .before .before .before .args .width) (c .before .before .before .before .before .before .before .args .version) (now (c .before .before .before .before .before .before .before .args .rows)) (now (c .before .before .before .before .before .before .before .args .text)) (now (c .before .before .before .before .before .before .before .args .out)) _ (sym (c .before .why .given .1) ∙ c .before .before .before .layout-size .ensures)
 
 pub write-layout-spec : {M : Type 1} → statement M
 write-layout-spec =

@@ -5,8 +5,8 @@ use mathlib.Core.Path.{_≡_, refl, sym, _∙_}
 use borrow.Author.Tests.{not-true, not-false}
 use Rattle.rows_check.specs.Tree.{rowCount}
 use Rattle.rows_check.specs.Check.{every}
-use Rattle.rows_check.specs.Easy.{rowGood}
-use Rattle.rows_check.specs.Tests.{every-none, every-yes, every-no}
+use Rattle.rows_check.specs.Answers.{rowGood}
+use Rattle.rows_check.specs.CheckLaws.{every-none, every-yes, every-no}
 use borrow.Author.Needs.{needs}
 use Rattle.rows_check.proofs.fits.all_within.Statement.{statement}
 use Rattle.rows_check.proofs.fits.all_within.Tie as tie

@@ -2,7 +2,7 @@
 -- Assumes nothing.
 use mathlib.Core.Path.{sym, _∙_}
 use Rattle.rows_check.specs.Check.{both, clean}
-use Rattle.rows_check.proofs.Laws.{clean-plain}
+use Rattle.rows_check.proofs.WalkLaws.{clean-plain}
 use borrow.Author.Needs.{needs}
 use Rattle.rows_check.proofs.fits.is_clean.Statement.{statement}
 use Rattle.rows_check.proofs.fits.is_clean.Tie as tie

@@ -2,7 +2,7 @@
 -- Assumes nothing.
 use borrow.Author.Tests.{eq-eqb, ne-eqb, le-leb, lt-leb}
 use Rattle.rows_check.specs.Check.{nameClean}
-use Rattle.rows_check.proofs.Laws.{part-end}
+use Rattle.rows_check.specs.SectionLaws.{part-end}
 use borrow.Author.Needs.{needs}
 use Rattle.rows_check.proofs.fits.name_clean.Statement.{statement}
 use Rattle.rows_check.proofs.fits.name_clean.Tie as tie

@@ -4,7 +4,7 @@ use Prim.Native.Nat.{_-_, _≤_}
 use mathlib.Core.Path.{_≡_, refl, sym, _∙_}
 use mathlib.Core.Bool.{_&&_}
 use Rattle.rows_check.specs.Check.{every, numberFits}
-use Rattle.rows_check.proofs.Laws.{fit-next, fit-none}
+use Rattle.rows_check.proofs.WalkLaws.{fit-next, fit-none}
 use borrow.Author.Needs.{needs}
 use Rattle.rows_check.proofs.fits.numbers_fit.Statement.{statement}
 use Rattle.rows_check.proofs.fits.numbers_fit.Tie as tie

@@ -3,7 +3,7 @@
 use mathlib.Core.Path.{sym, _∙_}
 use borrow.Author.Tests.{not-true, not-false}
 use Rattle.rows_check.specs.Check.{both}
-use Rattle.rows_check.specs.Easy.{rowGood}
+use Rattle.rows_check.specs.Answers.{rowGood}
 use borrow.Author.Needs.{needs}
 use Rattle.rows_check.proofs.fits.row_good.Statement.{statement}
 use Rattle.rows_check.proofs.fits.row_good.Tie as tie

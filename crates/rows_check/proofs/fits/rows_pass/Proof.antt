@@ -4,7 +4,7 @@ use Prim.Native.Nat.{_+_}
 use mathlib.Core.Path.{_≡_, refl, sym, _∙_}
 use borrow.Author.Tests.{not-true, not-false}
 use Rattle.rows_check.specs.Check.{passes}
-use Rattle.rows_check.specs.Tests.{every-none, every-yes, every-no}
+use Rattle.rows_check.specs.CheckLaws.{every-none, every-yes, every-no}
 use borrow.Author.Needs.{needs}
 use Rattle.rows_check.proofs.fits.rows_pass.Statement.{statement}
 use Rattle.rows_check.proofs.fits.rows_pass.Tie as tie

@@ -9,7 +9,7 @@ returns : tie.Need-returns
 unfolding inOrder
 returns c =
     let counts = c .before .before .before .before .before .pre in
-    rw (c .walk-secs3 .ensures, c .before .walk-secs2 .ensures, c .before .before .walk-secs .ensures, counts .0, counts .1 .0, counts .1 .1)
+    rw (c .walk-sections3 .ensures, c .before .walk-sections2 .ensures, c .before .before .walk-sections .ensures, counts .0, counts .1 .0, counts .1 .1)
 
 pub in-order-spec : {M : Type 1} → statement M
 in-order-spec =

@@ -6,7 +6,7 @@ use mathlib.Core.Path.{_≡_}
 use lib.Dec.{eqb}
 use Rattle.numbers.specs.Pick.{pick}
 use Rattle.rows_check.specs.Tree.{cell, rowCount, countKind, kinds}
-use Rattle.rows_check.proofs.Laws.{kind-next, kind-none}
+use Rattle.rows_check.proofs.WalkLaws.{kind-next, kind-none}
 use borrow.Author.Needs.{needs}
 use Rattle.rows_check.proofs.order.kinds_of.Statement.{statement}
 use Rattle.rows_check.proofs.order.kinds_of.Tie as tie

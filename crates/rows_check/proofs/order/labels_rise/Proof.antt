@@ -6,7 +6,7 @@ use mathlib.Core.Path.{_≡_, refl, sym, _∙_}
 use borrow.Author.Tests.{not-true, not-false}
 use Rattle.rows_check.specs.Tree.{rowCount}
 use Rattle.rows_check.specs.Check.{every, risesAt}
-use Rattle.rows_check.specs.Tests.{every-none, every-yes, every-no}
+use Rattle.rows_check.specs.CheckLaws.{every-none, every-yes, every-no}
 use borrow.Author.Needs.{needs}
 use Rattle.rows_check.proofs.order.labels_rise.Statement.{statement}
 use Rattle.rows_check.proofs.order.labels_rise.Tie as tie

@@ -1,7 +1,7 @@
 -- A section that is too long makes the sum the largest.
 -- Assumes nothing.
 use borrow.Author.Tests.{le-leb, lt-leb}
-use Rattle.rows_check.specs.Rows.{sizeOf}
+use Rattle.rows_check.specs.Answers.{sizeOf}
 use borrow.Author.Needs.{needs}
 use Rattle.rows_check.proofs.sizes.add_section.Statement.{statement}
 use Rattle.rows_check.proofs.sizes.add_section.Tie as tie

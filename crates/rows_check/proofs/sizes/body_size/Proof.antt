@@ -3,7 +3,7 @@
 use native.Mathlib.Omega.{arith}
 use mathlib.Core.Path.{_∙_}
 use denote.Ref.{now}
-use Rattle.rows_check.proofs.Laws.{body-length}
+use Rattle.rows_check.proofs.SizeLaws.{body-length}
 use borrow.Author.Needs.{needs}
 use Rattle.rows_check.proofs.sizes.body_size.Statement.{statement}
 use Rattle.rows_check.proofs.sizes.body_size.Tie as tie
@@ -15,7 +15,7 @@ names-size-requires c κs =
 
 returns : tie.Need-returns
 returns c =
-    c .names-size .ensures ∙ rw (c .before .add-to .ensures, c .before .before .before .head-size .ensures .0, c .before .before .cell-of .ensures .0, c .before .before .before .before .before .names-from .ensures .0, c .before .before .before .before .count-of .ensures .0, body-length (c .before .before .before .before .before .before .before .before .args .kind) (now (c .before .before .before .before .before .before .before .before .args .rows)) (now (c .before .before .before .before .before .before .before .before .args .text)) (c .before .before .before .before .before .before .before .before .args .q) (c .before .before .before .before .before .before .before .before .pre .1)) (omega arith)
+    c .names-size .ensures ∙ rw (c .before .add-to .ensures, c .before .before .before .nameless-size .ensures .0, c .before .before .cell-of .ensures .0, c .before .before .before .before .before .names-from .ensures .0, c .before .before .before .before .count-of .ensures .0, body-length (c .before .before .before .before .before .before .before .before .args .kind) (now (c .before .before .before .before .before .before .before .before .args .rows)) (now (c .before .before .before .before .before .before .before .before .args .text)) (c .before .before .before .before .before .before .before .before .args .q) (c .before .before .before .before .before .before .before .before .pre .1)) (omega arith)
 
 pub body-size-spec : {M : Type 1} → statement M
 body-size-spec =

@@ -6,15 +6,16 @@ use mathlib.Core.Path.{_≡_, refl, _∙_}
 use lib.ListN.{length}
 use denote.Ref.{now}
 use Rattle.rows_check.specs.Tree.{after}
-use Rattle.rows_check.specs.Bodies.{many, nameAt, name-length}
-use Rattle.rows_check.specs.Rows.{clip}
-use Rattle.rows_check.proofs.Laws.{sizes-next, sizes-none}
+use Rattle.rows_check.specs.Sections.{many, printedName}
+use Rattle.rows_check.specs.SectionLaws.{name-length}
+use Rattle.rows_check.specs.Answers.{clip}
+use Rattle.rows_check.proofs.SizeLaws.{sizes-next, sizes-none}
 use borrow.Author.Needs.{needs}
 use Rattle.rows_check.proofs.sizes.names_size.Statement.{statement}
 use Rattle.rows_check.proofs.sizes.names_size.Tie as tie
 
 abbrev Inv-loop : tie.InvT-loop
-Inv-loop rows text q n sum s₀ p₀ todo₀ s p todo = (todo ≤ n) × (p + todo ≡ q + n) × (s ≤ 4294967296) × (clip (s + length (many after (nameAt rows text) p todo)) ≡ clip (sum + length (many after (nameAt rows text) q n)))
+Inv-loop rows text q n sum s₀ p₀ todo₀ s p todo = (todo ≤ n) × (p + todo ≡ q + n) × (s ≤ 4294967296) × (clip (s + length (many after (printedName rows text) p todo)) ≡ clip (sum + length (many after (printedName rows text) q n)))
 
 abbrev μ-loop : tie.MeasureT-loop
 μ-loop rows text q n sum s₀ p₀ todo₀ s p todo = todo

@@ -6,18 +6,18 @@ use mathlib.Core.Path.{_≡_, refl, sym, _∙_}
 use lib.ListN.{length}
 use denote.Ref.{now}
 use lib.Dec.{leb}
-use Rattle.rows_check.specs.Tree.{nextSec, skip}
-use Rattle.rows_check.specs.Check.{secAt, fitsAll}
-use Rattle.rows_check.specs.Bodies.{many}
-use Rattle.rows_check.specs.Secs.{Secs, head-row, secs-next, skip-next, skip-none}
-use Rattle.rows_check.specs.Rows.{sizeOf}
-use Rattle.rows_check.proofs.Laws.{section-step, section-done, size-le}
+use Rattle.rows_check.specs.Tree.{nextSection, skip}
+use Rattle.rows_check.specs.Check.{printedSection, fitsAll}
+use Rattle.rows_check.specs.Sections.{many, Sections}
+use Rattle.rows_check.specs.SectionLaws.{own-row-inside, sections-next, skip-next, skip-none}
+use Rattle.rows_check.specs.Answers.{sizeOf}
+use Rattle.rows_check.proofs.SizeLaws.{section-step, section-done, size-le}
 use borrow.Author.Needs.{needs}
 use Rattle.rows_check.proofs.sizes.sections_size.Statement.{statement}
 use Rattle.rows_check.proofs.sizes.sections_size.Tie as tie
 
 abbrev Inv-loop : tie.InvT-loop
-Inv-loop kind rows text q k sum s₀ p₀ todo₀ s p todo = Secs kind rows text p todo × (skip kind rows p todo ≡ skip kind rows q k) × (s ≤ 4294967296) × (sizeOf (fitsAll kind rows text p todo) (s + length (many (nextSec kind rows) (secAt kind rows text) p todo)) ≡ sizeOf (fitsAll kind rows text q k) (sum + length (many (nextSec kind rows) (secAt kind rows text) q k)))
+Inv-loop kind rows text q k sum s₀ p₀ todo₀ s p todo = Sections kind rows text p todo × (skip kind rows p todo ≡ skip kind rows q k) × (s ≤ 4294967296) × (sizeOf (fitsAll kind rows text p todo) (s + length (many (nextSection kind rows) (printedSection kind rows text) p todo)) ≡ sizeOf (fitsAll kind rows text q k) (sum + length (many (nextSection kind rows) (printedSection kind rows text) q k)))
 
 abbrev μ-loop : tie.MeasureT-loop
 μ-loop kind rows text q k sum s₀ p₀ todo₀ s p todo = todo
@@ -27,18 +27,18 @@ loop-holds c = (c .before .before .pre .1, refl, c .before .before .pre .0, refl
 
 body-size-requires : tie.Need-body-size-requires Inv-loop μ-loop
 body-size-requires c κs =
-    let s = secs-next (c .before .before .before .before .args .kind) (now (c .before .before .before .before .args .rows)) (now (c .before .before .before .before .args .text)) (c .before .loop .p) (c .before .loop .todo) (c .loop-test .taken) (c .before .loop .inv .0) in
-    (head-row _ _ _ _ (s .0), s .0)
+    let s = sections-next (c .before .before .before .before .args .kind) (now (c .before .before .before .before .args .rows)) (now (c .before .before .before .before .args .text)) (c .before .loop .p) (c .before .loop .todo) (c .loop-test .taken) (c .before .loop .inv .0) in
+    (own-row-inside _ _ _ _ (s .0), s .0)
 
-next-sec-requires : tie.Need-next-sec-requires Inv-loop μ-loop
-next-sec-requires c κs =
-    let s = secs-next (c .before .before .before .before .before .before .args .kind) (now (c .before .before .before .before .before .before .args .rows)) (now (c .before .before .before .before .before .before .args .text)) (c .before .before .before .loop .p) (c .before .before .before .loop .todo) (c .before .before .loop-test .taken) (c .before .before .before .loop .inv .0) in
-    head-row _ _ _ _ (s .0)
+next-section-requires : tie.Need-next-section-requires Inv-loop μ-loop
+next-section-requires c κs =
+    let s = sections-next (c .before .before .before .before .before .before .args .kind) (now (c .before .before .before .before .before .before .args .rows)) (now (c .before .before .before .before .before .before .args .text)) (c .before .before .before .loop .p) (c .before .before .before .loop .todo) (c .before .before .loop-test .taken) (c .before .before .before .loop .inv .0) in
+    own-row-inside _ _ _ _ (s .0)
 
 loop-again : tie.Need-loop-again Inv-loop μ-loop
 loop-again c =
-    let s = secs-next (c .before .before .before .before .before .before .before .args .kind) (now (c .before .before .before .before .before .before .before .args .rows)) (now (c .before .before .before .before .before .before .before .args .text)) (c .before .before .before .before .loop .p) (c .before .before .before .before .loop .todo) (c .before .before .before .loop-test .taken) (c .before .before .before .before .loop .inv .0) in
-    rw (c .next-sec .ensures)
+    let s = sections-next (c .before .before .before .before .before .before .before .args .kind) (now (c .before .before .before .before .before .before .before .args .rows)) (now (c .before .before .before .before .before .before .before .args .text)) (c .before .before .before .before .loop .p) (c .before .before .before .before .loop .todo) (c .before .before .before .loop-test .taken) (c .before .before .before .before .loop .inv .0) in
+    rw (c .next-section .ensures)
     (s .1, sym (skip-next (c .before .before .before .before .before .before .before .args .kind) (now (c .before .before .before .before .before .before .before .args .rows)) (c .before .before .before .before .loop .p) (c .before .before .before .before .loop .todo) (c .before .before .before .loop-test .taken)) ∙ c .before .before .before .before .loop .inv .1, rw (c .before .add-section .ensures) (size-le (leb (c .before .before .body-size .result + 2) 65535) (c .before .before .before .before .loop .s + (c .before .before .body-size .result + 2))), section-step (c .before .before .before .before .before .before .before .args .kind) (now (c .before .before .before .before .before .before .before .args .rows)) (now (c .before .before .before .before .before .before .before .args .text)) (c .before .before .before .before .loop .p) (c .before .before .before .before .loop .todo) (c .before .before .before .before .loop .s) (c .before .before .body-size .result) (c .before .add-section .result) (c .before .before .before .loop-test .taken) (c .before .before .body-size .ensures) (c .before .add-section .ensures) ∙ c .before .before .before .before .loop .inv .3)
 
 returns : tie.Need-returns Inv-loop μ-loop
@@ -53,7 +53,7 @@ sections-size-spec =
     loop-holds
     body-size-requires
     (λ c κs. omega arith)
-    next-sec-requires
+    next-section-requires
     (λ c. search needs)
     (λ c. search needs)
     loop-again

@@ -3,7 +3,7 @@
 use native.Mathlib.Omega.{arith}
 use mathlib.Core.Path.{_∙_}
 use denote.Ref.{now}
-use Rattle.rows_check.proofs.Laws.{size-le, total}
+use Rattle.rows_check.proofs.SizeLaws.{size-le, total}
 use Rattle.rows_check.proofs.sizes.total_size.Statement.{statement}
 use Rattle.rows_check.proofs.sizes.total_size.Tie as tie
 

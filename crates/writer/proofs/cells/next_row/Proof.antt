@@ -1,22 +1,20 @@
 -- One count for each kind, twice where there are entries and names.
 -- Assumes nothing.
-use borrow.Author.Tests.{eq-eqb, ne-eqb}
-use Rattle.rows_check.specs.Tree.{countOf, namesFrom}
+use mathlib.Core.Path.{sym}
+use denote.Ref.{now}
+use Rattle.rows_check.specs.SectionLaws.{record-next, struct-next, other-next}
 use borrow.Author.Needs.{needs}
 use Rattle.writer.proofs.cells.next_row.Statement.{statement}
 use Rattle.writer.proofs.cells.next_row.Tie as tie
 
 returns : tie.Need-returns
-unfolding countOf namesFrom
-returns c = rw (← c .cell-of .ensures .0) (simp (eq-eqb _ _ (c .before .if1 .taken)))
+returns c = rw (c .cell-of .ensures .0, c .before .if1 .taken) (sym (record-next (now (c .before .before .before .args .rows)) (c .before .before .before .args .q)))
 
 returns-2 : tie.Need-returns-2
-unfolding countOf namesFrom
-returns-2 c = rw (← c .cell-of2 .ensures .0) (simp (ne-eqb _ _ (c .before .before .if1 .left), eq-eqb _ _ (c .before .if2 .taken)))
+returns-2 c = rw (c .cell-of2 .ensures .0, c .before .if2 .taken) (sym (struct-next (now (c .before .before .before .before .args .rows)) (c .before .before .before .before .args .q)))
 
 returns-3 : tie.Need-returns-3
-unfolding countOf namesFrom
-returns-3 c = rw (← c .cell-of3 .ensures .0) (simp (ne-eqb _ _ (c .before .before .if1 .left), ne-eqb _ _ (c .before .if2 .left)))
+returns-3 c = rw (c .cell-of3 .ensures .0) (sym (other-next (c .before .before .before .before .args .kind) (c .before .before .if1 .left) (c .before .if2 .left) (now (c .before .before .before .before .args .rows)) (c .before .before .before .before .args .q)))
 
 pub next-row-spec : {M : Type 1} → statement M
 next-row-spec =

@@ -7,7 +7,7 @@ use denote.Ref.{now}
 use Rattle.text.specs.Utf8.{utf8}
 use Rattle.layout.specs.Prints.{label-print}
 use Rattle.rows_check.specs.Tree.{labelOf}
-use Rattle.writer.proofs.Laws.{wrote-then, wrote-is}
+use Rattle.writer.proofs.OutputLaws.{wrote-then, wrote-is}
 use borrow.Author.Needs.{needs}
 use Rattle.writer.proofs.parts.put_label.Statement.{statement}
 use Rattle.writer.proofs.parts.put_label.Tie as tie

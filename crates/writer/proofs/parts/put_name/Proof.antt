@@ -4,8 +4,8 @@ use native.Mathlib.Omega.{arith}
 use mathlib.Core.Path.{sym}
 use lib.ListN.{length-take, length-drop}
 use denote.Ref.{now}
-use Rattle.rows_check.specs.Bodies.{name-length, name-is}
-use Rattle.writer.proofs.Laws.{wrote-then, wrote-is, part-end}
+use Rattle.rows_check.specs.SectionLaws.{name-length, name-is, part-end}
+use Rattle.writer.proofs.OutputLaws.{wrote-then, wrote-is}
 use borrow.Author.Needs.{needs}
 use Rattle.writer.proofs.parts.put_name.Statement.{statement}
 use Rattle.writer.proofs.parts.put_name.Tie as tie

@@ -2,7 +2,7 @@
 -- Assumes nothing.
 use Prim.Native.Nat.{_-_, _≤_}
 use lib.ListN.{length, drop, drop-of-length-le}
-use Rattle.writer.proofs.Laws.{Left, left-start, left-step, left-room, left-done, drop-next}
+use Rattle.writer.proofs.OutputLaws.{Left, left-start, left-step, left-room, left-done, drop-next}
 use borrow.Author.Needs.{needs}
 use Rattle.writer.proofs.put.put_bytes.Statement.{statement}
 use Rattle.writer.proofs.put.put_bytes.Tie as tie

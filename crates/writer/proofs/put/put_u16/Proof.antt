@@ -1,6 +1,6 @@
 -- Two bytes, one after the other.
 -- Assumes nothing.
-use Rattle.writer.proofs.Laws.{wrote-then, wrote-is}
+use Rattle.writer.proofs.OutputLaws.{wrote-then, wrote-is}
 use borrow.Author.Needs.{needs}
 use Rattle.writer.proofs.put.put_u16.Statement.{statement}
 use Rattle.writer.proofs.put.put_u16.Tie as tie

@@ -1,6 +1,6 @@
 -- Two halves, one after the other.
 -- Assumes nothing.
-use Rattle.writer.proofs.Laws.{wrote-then}
+use Rattle.writer.proofs.OutputLaws.{wrote-then}
 use borrow.Author.Needs.{needs}
 use Rattle.writer.proofs.put.put_u32.Statement.{statement}
 use Rattle.writer.proofs.put.put_u32.Tie as tie

@@ -1,6 +1,6 @@
 -- One store.
 -- Assumes nothing.
-use Rattle.writer.proofs.Laws.{wrote-set}
+use Rattle.writer.proofs.OutputLaws.{wrote-set}
 use borrow.Author.Needs.{needs}
 use Rattle.writer.proofs.put.put_u8.Statement.{statement}
 use Rattle.writer.proofs.put.put_u8.Tie as tie

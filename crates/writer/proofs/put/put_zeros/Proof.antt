@@ -1,7 +1,7 @@
 -- The invariant: what is left to store.
 -- Assumes nothing.
 use lib.ListN.{replicate}
-use Rattle.writer.proofs.Laws.{Left, left-start, left-step, left-room, left-done, zeros-next, zeros-none}
+use Rattle.writer.proofs.OutputLaws.{Left, left-start, left-step, left-room, left-done, zeros-next, zeros-none}
 use borrow.Author.Needs.{needs}
 use Rattle.writer.proofs.put.put_zeros.Statement.{statement}
 use Rattle.writer.proofs.put.put_zeros.Tie as tie

@@ -1,7 +1,7 @@
 -- Three numbers of two bytes, and the hash in two halves.
 -- Assumes nothing.
 use native.Mathlib.Omega.{arith}
-use Rattle.writer.proofs.Laws.{wrote-then, wrote-is, little-8}
+use Rattle.writer.proofs.OutputLaws.{wrote-then, wrote-is, little-8}
 use borrow.Author.Needs.{needs}
 use Rattle.writer.proofs.sections.put_head.Statement.{statement}
 use Rattle.writer.proofs.sections.put_head.Tie as tie

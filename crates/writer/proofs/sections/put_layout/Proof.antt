@@ -4,8 +4,8 @@ use native.Mathlib.Omega.{arith}
 use mathlib.Core.Path.{sym, ap}
 use lib.ListN.{length, length-append}
 use denote.Ref.{now}
-use Rattle.rows_check.specs.Bodies.{layout-is}
-use Rattle.writer.proofs.Laws.{wrote-then, wrote-is, wrote-filled}
+use Rattle.rows_check.specs.SectionLaws.{layout-is}
+use Rattle.writer.proofs.OutputLaws.{wrote-then, wrote-is, wrote-filled}
 use borrow.Author.Needs.{needs}
 use Rattle.writer.proofs.sections.put_layout.Statement.{statement}
 use Rattle.writer.proofs.sections.put_layout.Tie as tie

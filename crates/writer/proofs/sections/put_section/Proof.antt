@@ -5,8 +5,8 @@ use native.Mathlib.Omega.{arith}
 use mathlib.Core.Path.{refl, sym, ap}
 use lib.ListN.{length}
 use denote.Ref.{now}
-use Rattle.rows_check.specs.Bodies.{section-is}
-use Rattle.writer.proofs.Laws.{wrote-length, wrote-is, lent-length, lent-wrote, section-wrote}
+use Rattle.rows_check.specs.SectionLaws.{section-is}
+use Rattle.writer.proofs.OutputLaws.{wrote-length, wrote-is, lent-length, lent-wrote, section-wrote}
 use borrow.Author.Needs.{needs}
 use Rattle.writer.proofs.sections.put_section.Statement.{statement}
 use Rattle.writer.proofs.sections.put_section.Tie as tie

@@ -2,17 +2,17 @@
 -- Assumes nothing.
 use mathlib.Core.Path.{_≡_, refl, sym, _∙_}
 use denote.Ref.{now}
-use Rattle.rows_check.specs.Tree.{nextSec, skip}
-use Rattle.rows_check.specs.Check.{secAt}
-use Rattle.rows_check.specs.Bodies.{many}
-use Rattle.rows_check.specs.Secs.{Secs, head-row, secs-next, skip-next, skip-none}
-use Rattle.writer.proofs.Laws.{Left, left-start, many-room, many-step, many-done}
+use Rattle.rows_check.specs.Tree.{nextSection, skip}
+use Rattle.rows_check.specs.Check.{printedSection}
+use Rattle.rows_check.specs.Sections.{many, Sections}
+use Rattle.rows_check.specs.SectionLaws.{own-row-inside, sections-next, skip-next, skip-none}
+use Rattle.writer.proofs.OutputLaws.{Left, left-start, many-room, many-step, many-done}
 use borrow.Author.Needs.{needs}
 use Rattle.writer.proofs.sections.put_sections.Statement.{statement}
 use Rattle.writer.proofs.sections.put_sections.Tie as tie
 
 abbrev Inv-loop : tie.InvT-loop
-Inv-loop kind out₀ at rows text q k a₀ p₀ todo₀ out a p todo = Secs kind rows text p todo × (skip kind rows p todo ≡ skip kind rows q k) × Left at (many (nextSec kind rows) (secAt kind rows text) q k) out₀ a (many (nextSec kind rows) (secAt kind rows text) p todo) out
+Inv-loop kind out₀ at rows text q k a₀ p₀ todo₀ out a p todo = Sections kind rows text p todo × (skip kind rows p todo ≡ skip kind rows q k) × Left at (many (nextSection kind rows) (printedSection kind rows text) q k) out₀ a (many (nextSection kind rows) (printedSection kind rows text) p todo) out
 
 abbrev μ-loop : tie.MeasureT-loop
 μ-loop kind out₀ at rows text q k a₀ p₀ todo₀ out a p todo = todo
@@ -22,17 +22,17 @@ loop-holds c = (c .before .before .before .pre .0, refl, left-start (c .before .
 
 put-section-requires : tie.Need-put-section-requires Inv-loop μ-loop
 put-section-requires c κs =
-    let s = secs-next (c .before .before .before .before .before .before .args .kind) (now (c .before .before .before .before .before .before .args .rows)) (now (c .before .before .before .before .before .before .args .text)) (c .before .before .loop .p) (c .before .before .loop .todo) (c .before .loop-test .taken) (c .before .before .loop .inv .0) in
-    (head-row _ _ _ _ (s .0), (s .0, many-room _ _ _ _ (c .before .before .loop .inv .2) (c .before .loop-test .taken)))
+    let s = sections-next (c .before .before .before .before .before .before .args .kind) (now (c .before .before .before .before .before .before .args .rows)) (now (c .before .before .before .before .before .before .args .text)) (c .before .before .loop .p) (c .before .before .loop .todo) (c .before .loop-test .taken) (c .before .before .loop .inv .0) in
+    (own-row-inside _ _ _ _ (s .0), (s .0, many-room _ _ _ _ (c .before .before .loop .inv .2) (c .before .loop-test .taken)))
 
 next-row-requires : tie.Need-next-row-requires Inv-loop μ-loop
 next-row-requires c κs =
-    let s = secs-next (c .before .before .before .before .before .before .before .before .before .args .kind) (now (c .before .before .before .before .before .before .before .before .before .args .rows)) (now (c .before .before .before .before .before .before .before .before .before .args .text)) (c .before .before .before .before .before .loop .p) (c .before .before .before .before .before .loop .todo) (c .before .before .before .before .loop-test .taken) (c .before .before .before .before .before .loop .inv .0) in
-    head-row _ _ _ _ (s .0)
+    let s = sections-next (c .before .before .before .before .before .before .before .before .before .args .kind) (now (c .before .before .before .before .before .before .before .before .before .args .rows)) (now (c .before .before .before .before .before .before .before .before .before .args .text)) (c .before .before .before .before .before .loop .p) (c .before .before .before .before .before .loop .todo) (c .before .before .before .before .loop-test .taken) (c .before .before .before .before .before .loop .inv .0) in
+    own-row-inside _ _ _ _ (s .0)
 
 loop-again : tie.Need-loop-again Inv-loop μ-loop
 loop-again c =
-    let s = secs-next (c .before .before .before .before .before .before .before .before .before .before .args .kind) (now (c .before .before .before .before .before .before .before .before .before .before .args .rows)) (now (c .before .before .before .before .before .before .before .before .before .before .args .text)) (c .before .before .before .before .before .before .loop .p) (c .before .before .before .before .before .before .loop .todo) (c .before .before .before .before .before .loop-test .taken) (c .before .before .before .before .before .before .loop .inv .0) in
+    let s = sections-next (c .before .before .before .before .before .before .before .before .before .before .args .kind) (now (c .before .before .before .before .before .before .before .before .before .before .args .rows)) (now (c .before .before .before .before .before .before .before .before .before .before .args .text)) (c .before .before .before .before .before .before .loop .p) (c .before .before .before .before .before .before .loop .todo) (c .before .before .before .before .before .loop-test .taken) (c .before .before .before .before .before .before .loop .inv .0) in
     rw (c .next-row .ensures)
     (s .1, sym (skip-next (c .before .before .before .before .before .before .before .before .before .before .args .kind) (now (c .before .before .before .before .before .before .before .before .before .before .args .rows)) (c .before .before .before .before .before .before .loop .p) (c .before .before .before .before .before .before .loop .todo) (c .before .before .before .before .before .loop-test .taken)) ∙ c .before .before .before .before .before .before .loop .inv .1, many-step _ _ _ _ (c .before .before .before .before .before .before .loop .inv .2) (c .before .before .before .before .before .loop-test .taken) (c .before .before .before .put-section .ensures))
 

@@ -4,9 +4,8 @@ use native.Mathlib.Omega.{arith}
 use mathlib.Core.Path.{sym, ap}
 use lib.ListN.{length, length-append}
 use denote.Ref.{now}
-use Rattle.rows_check.specs.Tree.{countOf, namesFrom}
-use Rattle.rows_check.specs.Bodies.{struct-is}
-use Rattle.writer.proofs.Laws.{wrote-then, wrote-is, wrote-filled}
+use Rattle.rows_check.specs.SectionLaws.{struct-fields, struct-is}
+use Rattle.writer.proofs.OutputLaws.{wrote-then, wrote-is, wrote-filled}
 use borrow.Author.Needs.{needs}
 use Rattle.writer.proofs.sections.struct_body.Statement.{statement}
 use Rattle.writer.proofs.sections.struct_body.Tie as tie
@@ -18,8 +17,9 @@ put-name-requires : tie.Need-put-name-requires
 put-name-requires c κs = (c .before .before .before .before .before .before .before .before .before .before .pre .0, (c .before .before .before .before .before .before .before .before .before .before .pre .1 .0 .own, record { fits = omega (arith, c .before .before .before .before .before .before .before .before .before .before .pre .1 .1, simp length-append at (ap length (struct-is (now (c .before .before .before .before .before .before .before .before .before .before .args .rows)) (now (c .before .before .before .before .before .before .before .before .before .before .args .text)) (c .before .before .before .before .before .before .before .before .before .before .args .q)))) }))
 
 put-fields-requires : tie.Need-put-fields-requires
-unfolding countOf namesFrom
-put-fields-requires c κs = rw (c .before .before .before .before .before .before .before .before .before .cell-of2 .ensures .0) (c .before .before .before .before .before .before .before .before .before .before .before .before .before .before .pre .1 .0 .inside, (c .before .before .before .before .before .before .before .before .before .before .before .before .before .before .pre .1 .0 .names, record { fits = omega (arith, c .before .before .before .before .before .before .before .before .before .before .before .before .before .before .pre .1 .1, simp length-append at (ap length (struct-is (now (c .before .before .before .before .before .before .before .before .before .before .before .before .before .before .args .rows)) (now (c .before .before .before .before .before .before .before .before .before .before .before .before .before .before .args .text)) (c .before .before .before .before .before .before .before .before .before .before .before .before .before .before .args .q)))) }))
+put-fields-requires c κs =
+    let f = struct-fields (now (c .before .before .before .before .before .before .before .before .before .before .before .before .before .before .args .rows)) (c .before .before .before .before .before .before .before .before .before .before .before .before .before .before .args .q) (now (c .before .before .before .before .before .before .before .before .before .before .before .before .before .before .args .text)) (c .before .before .before .before .before .before .before .before .before .before .before .before .before .before .pre .1 .0) in
+    rw (c .before .before .before .before .before .before .before .before .before .cell-of2 .ensures .0) (f .0, (f .1, record { fits = omega (arith, c .before .before .before .before .before .before .before .before .before .before .before .before .before .before .pre .1 .1, simp length-append at (ap length (struct-is (now (c .before .before .before .before .before .before .before .before .before .before .before .before .before .before .args .rows)) (now (c .before .before .before .before .before .before .before .before .before .before .before .before .before .before .args .text)) (c .before .before .before .before .before .before .before .before .before .before .before .before .before .before .args .q)))) }))
 
 returns : tie.Need-returns
 returns c = wrote-filled (wrote-is (wrote-then (c .before .before .before .before .before .before .before .before .before .before .put-u16 .ensures) (wrote-then (c .before .before .before .before .before .before .put-name .ensures) (c .before .before .put-fields .ensures))) (rw (c .before .before .before .before .before .before .before .before .before .before .before .before .before .cell-of .ensures .0, c .before .before .before .before .before .before .before .before .before .before .before .before .cell-of2 .ensures .0) (sym (struct-is (now (c .before .before .before .before .before .before .before .before .before .before .before .before .before .before .before .before .before .args .rows)) (now (c .before .before .before .before .before .before .before .before .before .before .before .before .before .before .before .before .before .args .text)) (c .before .before .before .before .before .before .before .before .before .before .before .before .before .before .before .before .before .args .q)))))

@@ -1,0 +1,16 @@
+-- Past the end there is no number.
+-- Assumes nothing.
+use native.Mathlib.Omega.{arith}
+use mathlib.Core.Path.{sym}
+use lib.ListN.{List·getD-eq-default}
+use borrow.Author.Needs.{needs}
+use Rattle.entry.proofs.number.Statement.{statement}
+use Rattle.entry.proofs.number.Tie as tie
+
+returns-2 : tie.Need-returns-2
+returns-2 c = sym (List·getD-eq-default (c .before .before .before .args .rows .now) 0 (omega arith))
+
+pub number-spec : {M : Type 1} → statement M
+number-spec =
+    tie.close
+    (tie.spec (λ c κs. search needs) (λ c. search needs) (λ c. search needs) (λ c. search needs) (λ c. search needs) returns-2)

@@ -1,0 +1,37 @@
+-- What the parts of the check answer. Assumes nothing.
+use Prim.Native.Nat.{ℕ, _+_, _*_, min}
+use mathlib.Core.Path.{_≡_}
+use mathlib.Core.Bool.{Bool, true}
+use mathlib.Core.List.{List}
+use Rattle.rows_check.specs.Tree.{rowCount, byKind, kinds}
+use Rattle.rows_check.specs.Check.{both, rowFits, countFits, nameShort, nameClean, passes, size, fault}
+use lib.Dec.{eqb}
+use Rattle.numbers.specs.Pick.{pick}
+use Rattle.layout.specs.Given.{D}
+use Rattle.rows_check.specs.declared.Sized.{Sized}
+use Rattle.rows_check.specs.declared.Sized.the-variants.{Length, Refused}
+
+-- the row passes 90 to 93
+unfoldable pub rowGood : List ℕ → List ℕ → ℕ → Bool
+rowGood rows text q = both (rowFits rows text q) (both (countFits rows q) (both (nameShort rows q) (nameClean rows text q)))
+
+-- where b holds every row passes the test
+pub record AllGood (b : Bool) (which : ℕ) (rows text : List ℕ) : Type 0 where
+  pub passed : b ≡ true → passes which rows text 0 (rowCount rows) ≡ true
+
+-- the length of a section's body with n fields or labels, names apart
+unfoldable pub namelessSize : ℕ → ℕ → ℕ
+namelessSize kind n = byKind kind (18 + D * n) (6 + D * n) (4 + 2 * n)
+
+-- a size, as far as 2^32
+abbrev pub clip : ℕ → ℕ
+clip n = min 4294967296 n
+
+-- a size: 2^32 where a section is too long or the sum is
+unfoldable pub sizeOf : Bool → ℕ → ℕ
+sizeOf b n = pick b (min 4294967296 n) 4294967296
+
+-- the length of the layout and the counts of its records, structs and label defs, or the number that refuses the rows
+unfoldable pub sizedOf : List ℕ → List ℕ → Sized
+sizedOf rows text =
+    pick (eqb 0 (fault rows text)) (Length (size rows text) (kinds rows 10) (kinds rows 13) (kinds rows 14)) (Refused (fault rows text))

@@ -1,0 +1,108 @@
+-- What the writer accepts reads back, with the writer's width and the same sheet, as the same version, rows and names, starts apart.
+-- Assumes nothing.
+use Prim.Native.Nat.{ℕ, _≤_, _<_}
+use native.Mathlib.Omega.{arith}
+use mathlib.Core.Path.{_≡_, refl, sym, ap, _∙_}
+use mathlib.Core.Bool.{Bool, true, false}
+use mathlib.Core.List.{List, _++_, map}
+use lib.ListN.{length, drop}
+use lib.Dec.{leb, eqb}
+use borrow.Author.Tests.{eqb-true, leb-true, le-leb}
+use Rattle.codec.specs.Codec.{ok, Bytes}
+use Rattle.text.specs.Utf8.{utf8}
+use Rattle.numbers.specs.Pick.{pick}
+use Rattle.layout.specs.Layout.{Layout, fromLayout, locateLayout, printLayout}
+use Rattle.layout.specs.Given.{D}
+use Rattle.table.specs.Out.{flat}
+use Rattle.layout.specs.Rows.{rows}
+use Rattle.layout.specs.RowLaws.{noStart}
+use Rattle.layout.specs.TextLaws.{rowText}
+use Rattle.layout.specs.Prints.{reads, parts-still}
+use Rattle.rules.specs.Rules.{rulesOf, ruledOf, rules-blind, ruled-is}
+use Rattle.rules.specs.RowRules.{rowsRules}
+use Rattle.rules.specs.RowLaws.{rows-rules}
+use Rattle.rows_check.specs.Tree.{rowsIn, treeOf}
+use Rattle.rows_check.specs.Check.{fault, printed}
+use Rattle.rows_check.specs.LegalLaws.{sound, tree-legal}
+use Rattle.rows_check.specs.TreeLaws.{tree-rows, tree-flat, tree-version, tree-whole}
+use Rattle.rows_check.specs.NameLaws.{tree-each}
+use Rattle.rows_check.specs.SectionLaws.{printed-is, printed-length}
+use Rattle.writer.specs.Write.{writeLayout, outAfter}
+use Rattle.writer.specs.FitLaws.{fit-parts}
+use Rattle.writer.specs.declared.Written.the-variants.{Length, Refused}
+
+pub record ReadsBack (sheet : List ℕ) (width version : ℕ) (table text : List ℕ) : Type 0 where
+  pub layout : Layout
+  pub accepted : ruledOf sheet width (printed version table text) ≡ ok layout (length (printed version table text))
+  pub same : layout .version ≡ version
+  pub sameRows : map noStart (rows layout) ≡ map noStart (rowsIn table)
+  pub sameNames : map (rowText (printed version table text)) (rows layout) ≡ map (rowText text) (rowsIn table)
+
+-- the rules see no start
+rules-still : (sheet : List ℕ) (width : ℕ) (t : Layout) → rulesOf sheet width (fromLayout (locateLayout utf8 D t) .0) ≡ rulesOf sheet width (fromLayout t .0)
+rules-still sheet width t =
+    sym (rules-blind sheet width (fromLayout (locateLayout utf8 D t) .0)) ∙ ap (rulesOf sheet width) (parts-still t) ∙ rules-blind sheet width (fromLayout t .0)
+
+-- ---- what is left in the output
+
+pub out-written : (n : ℕ) (bytes out : List ℕ) → outAfter (Length n) bytes out ≡ bytes ++ drop (length bytes) out
+unfolding outAfter
+out-written n bytes out = refl
+
+pub out-refused : (k : ℕ) (bytes out : List ℕ) → outAfter (Refused k) bytes out ≡ out
+unfolding outAfter
+out-refused k bytes out = refl
+
+-- ---- what is accepted, and with which length
+
+pub record Accepts (sheet : List ℕ) (width version : ℕ) (table text : List ℕ) (room n : ℕ) : Type 0 where
+  pub whole : fault table text ≡ 0
+  pub ruled : rowsRules sheet width table ≡ 0
+  pub count : n ≡ length (printed version table text)
+  pub fits : n ≤ room
+
+module _ (sheet : List ℕ) (width version : ℕ) (table text : List ℕ) (room : ℕ) where
+  -- what neither 90 to 95 nor a rule nor 96 refuses is written
+  pub accepts : fault table text ≡ 0 → rowsRules sheet width table ≡ 0 → length (printed version table text) ≤ room
+      → writeLayout sheet width version table text room ≡ Length (length (printed version table text))
+  unfolding writeLayout
+  accepts f r h = rw (f, r, le-leb (length (printed version table text)) room h)
+
+  -- and nothing else
+  pub accepted : (n : ℕ) → writeLayout sheet width version table text room ≡ Length n → Accepts sheet width version table text room n
+  unfolding writeLayout
+  accepted n e = go (eqb 0 (fault table text)) refl (eqb 0 (rowsRules sheet width table)) refl (leb (length (printed version table text)) room) refl e
+    where
+      go : (a : Bool) → eqb 0 (fault table text) ≡ a → (b : Bool) → eqb 0 (rowsRules sheet width table) ≡ b → (c : Bool) → leb (length (printed version table text)) room ≡ c
+          → pick a (pick b (pick c (Length (length (printed version table text))) (Refused 96)) (Refused (rowsRules sheet width table))) (Refused (fault table text)) ≡ Length n
+          → Accepts sheet width version table text room n
+      go true x true y true z e =
+          let m : n ≡ length (printed version table text) = cc in
+          let l = leb-true (length (printed version table text)) room z in
+          record { whole = sym (eqb-true 0 (fault table text) x); ruled = sym (eqb-true 0 (rowsRules sheet width table) y); count = m; fits = omega arith }
+      go true x true y false z e = let o : _≡_ {A = ℕ} 0 1 = cc in absurd (omega arith)
+      go true x false y c z e = let o : _≡_ {A = ℕ} 0 1 = cc in absurd (omega arith)
+      go false x b y c z e = let o : _≡_ {A = ℕ} 0 1 = cc in absurd (omega arith)
+
+  -- ---- the round trip
+
+  pub reads-back : (n : ℕ) → Bytes text → version < 65536 → writeLayout sheet width version table text room ≡ Length n → ReadsBack sheet width version table text
+  reads-back n bytes v e =
+      let a = accepted n e in
+      let s = sound table text (a .whole) in
+      let w = s .formed in
+      let t = treeOf version table text in
+      let lg = tree-legal table text bytes s version v in
+      let p = printed-is version table text in
+      let l : length (printLayout utf8 D t) ≤ 4294967295 = omega (arith, s .within, printed-length table text version, ap length p) in
+      let b = reads t text lg l (tree-each table text version w) in
+      let z : rulesOf sheet width (fromLayout (locateLayout utf8 D t) .0) ≡ 0 =
+      rules-still sheet width t ∙ sym (rows-rules sheet width (fromLayout t .0) (fit-parts t lg))
+      ∙ ap (λ (x : Layout). rowsRules sheet width (flat (rows x))) (tree-whole version table text) ∙ ap (rowsRules sheet width) (tree-flat table text version w) ∙ a .ruled in
+      record {
+        layout = locateLayout utf8 D t;
+        accepted = rw p (ruled-is sheet width (printLayout utf8 D t) ∙ rw (b .accepted, z));
+        same = b .version ∙ tree-version version table text;
+        sameRows = b .sameRows ∙ ap (map noStart) (tree-rows table text version w);
+        sameNames = rw p (b .sameTexts ∙ ap (map (rowText text)) (tree-rows table text version w));
+      }
