@@ -1,13 +1,13 @@
 -- 81 to 83 by marks: what the search and the walk over sorted entries say, for every sequence of fields, number included.
 -- Assumes nothing.
-use Prim.Native.Nat.{ℕ, _≤_, _<_, zero-le}
+use Prim.Native.Nat.{ℕ, _-_, _≤_, _<_, zero-le}
 use native.Mathlib.Omega.{arith}
 use mathlib.Core.Path.{_≡_}
 use mathlib.Core.Bool.{Bool, true, false, not}
 use mathlib.Core.Logic.{_↔_}
 use mathlib.Core.List.{List, [], _∷_}
 use lib.ListN.{length}
-use lib.Dec.{eqb}
+use lib.Dec.{eqb, lit<}
 use borrow.Author.Tests.{eq-eqb, eqb-true, eqb-false}
 use Rattle.codec.specs.Codec.{among}
 use Rattle.codec.specs.Cases.{by-bool, by-eqb}
@@ -15,6 +15,8 @@ use Rattle.fields.specs.Sheet.{idOf, offOf, sizeOf, endOf, pastBase}
 use Rattle.fields.specs.Field.{refuse, fieldFault, fault-sized, fault-small, fault-within, past-from}
 use Rattle.plain_tiling.specs.Plain.{baseByMarks, extByMarks}
 use Rattle.plain_tiling.specs.Owners.{owners, Tiled, Placed}
+use Rattle.plain_tiling.specs.Places.{Enough}
+use Rattle.plain_tiling.specs.Marking.{placed-wide}
 use Rattle.plain_tiling.specs.PlainLaws.{base-walk, ext-walk, base-means, ext-means}
 use Rattle.rules.specs.Rules.{Seq, first, noted, spans, baseFault, extFault, tilingFault, fieldsFault, seqFault}
 
@@ -23,6 +25,37 @@ pub record Passed (isRecord : Bool) (base : ℕ) (es : List (List ℕ)) : Type 0
   pub small : base ≤ 65535
   pub low : Placed 0 base (spans isRecord base false es)
   pub high : Placed base 65535 (spans isRecord base true es)
+
+-- n marks are enough for both sides
+pub record Markable (n : ℕ) (isRecord : Bool) (base : ℕ) (es : List (List ℕ)) : Type 0 where
+  pub low : Enough n 0 (spans isRecord base false es)
+  pub high : Enough n base (spans isRecord base true es)
+
+-- every entry ends below n
+abbrev pub EndBelow : ℕ → List (List ℕ) → Type 0
+EndBelow n [] = Unit {0}
+EndBelow n (e ∷ es) = (endOf e < n) × EndBelow n es
+
+module _ {isRecord : Bool} {base : ℕ} where
+  pub markable-all : {es : List (List ℕ)} → Passed isRecord base es → {n : ℕ} → n ≡ 65536 → Markable n isRecord base es
+  markable-all {es} i e = rw e (record {
+    low = record { start = lit< tt; placed = placed-wide 0 base 65535 (spans isRecord base false es) (i .small) (i .low) };
+    high = record { start = omega (arith, i .small); placed = i .high };
+  })
+
+  pub markable-below : {es : List (List ℕ)} → Passed isRecord base es → {n : ℕ} → base < n → EndBelow n es → Markable n isRecord base es
+  unfolding spans
+  markable-below {es} i {n} h b = record {
+    low = record { start = omega arith; placed = placed-wide 0 base (n - 1) (spans isRecord base false es) (omega arith) (i .low) };
+    high = record { start = h; placed = high-to es (i .high) b };
+  }
+    where
+      high-to : (fs : List (List ℕ)) → Placed base 65535 (spans isRecord base true fs) → EndBelow n fs → Placed base (n - 1) (spans isRecord base true fs)
+      high-to [] p b = tt
+      high-to (f ∷ fs) p b =
+          by-bool (pastBase isRecord base f)
+          (λ d. rw d (let q = rw d at p in (record { from = q .0 .from; some = q .0 .some; to = omega (arith, b .0) }, high-to fs (q .1) (b .1))))
+          (λ d. rw d (high-to fs (rw d at p) (b .1)))
 
 halves : (a b : ℕ) → first a b ≡ 0 → (a ≡ 0) × (b ≡ 0)
 halves a b h = by-bool (eqb a 0) (λ t. (eqb-true a 0 t, rw t at h)) (λ t. absurd (eqb-false a 0 t (rw t at h)))

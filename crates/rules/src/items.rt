@@ -15,7 +15,8 @@ ghost use Prim.Native.Nat.{_<_, _≤_};
 ghost use lib.ListN.{length};
 ghost use Rattle.marks.specs.Marks.{Marks};
 ghost use Rattle.rules.specs.Rules.{structFault, recordFault, structsFault, recordsFault, alignsOf};
-ghost use Rattle.rules.specs.Told.{Told, Unowned};
+ghost use Rattle.plain_tiling.specs.Places.{Unowned};
+ghost use Rattle.rules.specs.Told.{Told};
 ghost use Rattle.rules.specs.Entries.{Room};
 ghost use Rattle.rules.specs.Sequence.{Clean};
 ghost use Rattle.rules.specs.Walk.{itemSeq, seqsFrom, Good, Ready, taskFault};
@@ -294,50 +295,76 @@ fn rules_65535(
     rules_by(sheet, layout, rows, task, &mut table, owners)
 }
 
-// The rules by search alone, or that it gave up. The table for the alignments is no larger than it must be, since it is cleared
-// first: here and below.
+// The rules of at most 4,096 structs. The table for the alignments is no larger than it must be, since it is cleared first.
+fn rules_few(sheet: &[u16; 520], layout: &[u8], rows: &[u32], task: Task, owners: &mut [u16]) -> u32
+    requires { ⌜ Ready (now layout) (now rows) (task .structs) (task .n) (task .records) ⌝ }
+    requires { ⌜ task .n ≤ 4096 ⌝ }
+    requires { ⌜ Unowned (now owners) ⌝ }
+    ensures { λ r. ⌜ Told (now (owners .entry)) (taskFault (now (sheet .entry)) (now (layout .entry)) (now (rows .entry)) task) r ⌝ }
+{
+    if task.n <= 64 {
+        return rules_64(sheet, layout, rows, task, owners);
+    }
+    rules_4096(sheet, layout, rows, task, owners)
+}
+
+// The rules by search alone, or that it gave up.
 fn rules_searched(sheet: &[u16; 520], layout: &[u8], rows: &[u32], task: Task) -> u32
     requires { ⌜ Ready (now layout) (now rows) (task .structs) (task .n) (task .records) ⌝ }
     requires { ⌜ task .n ≤ 4096 ⌝ }
     ensures { λ r. ⌜ Told [] (taskFault (now (sheet .entry)) (now (layout .entry)) (now (rows .entry)) task) r ⌝ }
 {
     let mut none = [0u16; 0];
-    if task.n <= 64 {
-        return rules_64(sheet, layout, rows, task, &mut none);
+    rules_few(sheet, layout, rows, task, &mut none)
+}
+
+// The rules with an owner for each of the first 8,192 places, or that a record or a struct reaches past them. They are 16 KiB,
+// in a frame of their own.
+fn rules_near(sheet: &[u16; 520], layout: &[u8], rows: &[u32], task: Task) -> u32
+    requires { ⌜ Ready (now layout) (now rows) (task .structs) (task .n) (task .records) ⌝ }
+    requires { ⌜ task .n ≤ 4096 ⌝ }
+    ensures { λ r. ⌜ Told [] (taskFault (now (sheet .entry)) (now (layout .entry)) (now (rows .entry)) task) r ⌝ }
+{
+    let mut owners = [0u16; 8192];
+    rules_few(sheet, layout, rows, task, &mut owners)
+}
+
+// A first try, without the large frames: by marks where the task is plain, else by search.
+fn rules_tried(sheet: &[u16; 520], layout: &[u8], rows: &[u32], task: Task) -> u32
+    requires { ⌜ Ready (now layout) (now rows) (task .structs) (task .n) (task .records) ⌝ }
+    requires { ⌜ task .n ≤ 4096 ⌝ }
+    ensures { λ r. ⌜ Told [] (taskFault (now (sheet .entry)) (now (layout .entry)) (now (rows .entry)) task) r ⌝ }
+{
+    if task.plain {
+        return rules_near(sheet, layout, rows, task);
     }
-    rules_4096(sheet, layout, rows, task, &mut none)
+    rules_searched(sheet, layout, rows, task)
 }
 
 // The rules with an owner for each place, which a record or a struct is marked with where the task is plain or its search gives
-// up. This is the only frame that holds the owners, 128 KiB; a table for 65,535 structs is as large again, in a frame of its own.
+// up. This is the only frame that holds them all, 128 KiB; a table for 65,535 structs is as large again, in a frame of its own.
 fn rules_marked(sheet: &[u16; 520], layout: &[u8], rows: &[u32], task: Task) -> u32
     requires { ⌜ Ready (now layout) (now rows) (task .structs) (task .n) (task .records) ⌝ }
     requires { ⌜ task .n ≤ 65535 ⌝ }
     ensures { λ r. ⌜ r ≡ (taskFault (now (sheet .entry)) (now (layout .entry)) (now (rows .entry)) task) ⌝ }
 {
     let mut owners = [0u16; 65536];
-    if task.n <= 64 {
-        return rules_64(sheet, layout, rows, task, &mut owners);
-    }
     if task.n <= 4096 {
-        return rules_4096(sheet, layout, rows, task, &mut owners);
+        return rules_few(sheet, layout, rows, task, &mut owners);
     }
     rules_65535(sheet, layout, rows, task, &mut owners)
 }
 
 // The rules of the structs and of the records. Where the task is plain all of 81 to 83 are found by marks; else by search, and
-// by marks only for a record or a struct whose search gives up. Other layouts pay nothing for the marks, nor for a table of
-// more than 4,096 structs.
+// by marks only for a record or a struct whose search gives up. Layouts of up to 4,096 structs whose search gives an answer, or
+// whose records and structs end below place 8,192 where the task is plain, pay nothing for the large frames.
 pub(crate) fn rules(sheet: &[u16; 520], layout: &[u8], rows: &[u32], task: Task) -> u32
     requires { ⌜ Ready (now layout) (now rows) (task .structs) (task .n) (task .records) ⌝ }
     requires { ⌜ task .n ≤ 65535 ⌝ }
     ensures { λ r. ⌜ r ≡ (taskFault (now (sheet .entry)) (now (layout .entry)) (now (rows .entry)) task) ⌝ }
 {
-    if task.plain {
-        return rules_marked(sheet, layout, rows, task);
-    }
     if task.n <= 4096 {
-        let v = rules_searched(sheet, layout, rows, task);
+        let v = rules_tried(sheet, layout, rows, task);
         if v != GAVE_UP {
             return v;
         }

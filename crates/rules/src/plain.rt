@@ -6,12 +6,13 @@ use fields::Frame;
 ghost use mathlib.Core.Path.{_≡_};
 ghost use mathlib.Core.Bool.{true, false};
 ghost use Prim.Native.Nat.{_<_, _≤_, max};
-ghost use Rattle.plain_tiling.specs.Plain.{blank, baseByMarks, extByMarks};
-ghost use Rattle.plain_tiling.specs.Owners.{Placed};
+ghost use lib.ListN.{length};
+ghost use Rattle.plain_tiling.specs.Plain.{baseByMarks, extByMarks};
+ghost use Rattle.plain_tiling.specs.Places.{Unowned, Enough};
 ghost use Rattle.plain_tiling.specs.Marking.{Marked, endByMarks};
 ghost use Rattle.rules.specs.Rules.{spans, tilingFault};
 ghost use Rattle.rules.specs.Entries.{entriesOf, Room};
-ghost use Rattle.rules.specs.Engines.{Passed};
+ghost use Rattle.rules.specs.Engines.{Passed, Markable};
 
 // A place that no field reaches.
 const NOWHERE: usize = 65536;
@@ -34,10 +35,9 @@ fn mark_side(
     owners: &mut [u16],
 ) -> Painted
     requires { ⌜ Room (now layout) (now rows) src ⌝ }
-    requires { ⌜ Placed start 65535 (spans (frame .open) (frame .base) ext (entriesOf (now layout) (now rows) src)) ⌝ }
-    requires { ⌜ start ≤ 65535 ⌝ }
-    requires { ⌜ now owners ≡ blank ⌝ }
-    ensures { λ r. ⌜ Marked start (spans (frame .open) (frame .base) ext (entriesOf (now (layout .entry)) (now (rows .entry)) src)) (now (owners .exit)) (r .clash) (r .top) ⌝ }
+    requires { ⌜ Enough (length (now owners)) start (spans (frame .open) (frame .base) ext (entriesOf (now layout) (now rows) src)) ⌝ }
+    requires { ⌜ Unowned (now owners) ⌝ }
+    ensures { λ r. ⌜ Marked (length (now (owners .entry))) start (spans (frame .open) (frame .base) ext (entriesOf (now (layout .entry)) (now (rows .entry)) src)) (now (owners .exit)) (r .clash) (r .top) ⌝ }
 {
     let mut left = src;
     let mut owner: u16 = 0;
@@ -72,11 +72,10 @@ fn side_end(
     owners: &mut [u16],
 ) -> usize
     requires { ⌜ Room (now layout) (now rows) src ⌝ }
-    requires { ⌜ Placed start 65535 (spans (frame .open) (frame .base) ext (entriesOf (now layout) (now rows) src)) ⌝ }
-    requires { ⌜ start ≤ 65535 ⌝ }
-    requires { ⌜ now owners ≡ blank ⌝ }
+    requires { ⌜ Enough (length (now owners)) start (spans (frame .open) (frame .base) ext (entriesOf (now layout) (now rows) src)) ⌝ }
+    requires { ⌜ Unowned (now owners) ⌝ }
     ensures { λ r. ⌜ r ≡ endByMarks start (spans (frame .open) (frame .base) ext (entriesOf (now (layout .entry)) (now (rows .entry)) src)) ⌝ }
-    ensures { λ _. ⌜ now (owners .exit) ≡ blank ⌝ }
+    ensures { λ _. ⌜ now (owners .exit) ≡ now (owners .entry) ⌝ }
 {
     let m = mark_side(layout, rows, src, frame, ext, start, owners);
     let top = m.top;
@@ -95,9 +94,10 @@ fn side_end(
 fn base_by_marks(layout: &[u8], rows: &[u32], src: Source, frame: Frame, owners: &mut [u16]) -> u32
     requires { ⌜ Room (now layout) (now rows) src ⌝ }
     requires { ⌜ Passed (frame .open) (frame .base) (entriesOf (now layout) (now rows) src) ⌝ }
-    requires { ⌜ now owners ≡ blank ⌝ }
+    requires { ⌜ Markable (length (now owners)) (frame .open) (frame .base) (entriesOf (now layout) (now rows) src) ⌝ }
+    requires { ⌜ Unowned (now owners) ⌝ }
     ensures { λ r. ⌜ r ≡ baseByMarks (frame .base) (spans (frame .open) (frame .base) false (entriesOf (now (layout .entry)) (now (rows .entry)) src)) ⌝ }
-    ensures { λ _. ⌜ now (owners .exit) ≡ blank ⌝ }
+    ensures { λ _. ⌜ now (owners .exit) ≡ now (owners .entry) ⌝ }
 {
     let end = side_end(layout, rows, src, frame, false, 0, owners);
     if end == NOWHERE {
@@ -113,15 +113,41 @@ fn base_by_marks(layout: &[u8], rows: &[u32], src: Source, frame: Frame, owners:
 fn ext_by_marks(layout: &[u8], rows: &[u32], src: Source, frame: Frame, owners: &mut [u16]) -> u32
     requires { ⌜ Room (now layout) (now rows) src ⌝ }
     requires { ⌜ Passed (frame .open) (frame .base) (entriesOf (now layout) (now rows) src) ⌝ }
-    requires { ⌜ now owners ≡ blank ⌝ }
+    requires { ⌜ Markable (length (now owners)) (frame .open) (frame .base) (entriesOf (now layout) (now rows) src) ⌝ }
+    requires { ⌜ Unowned (now owners) ⌝ }
     ensures { λ r. ⌜ r ≡ extByMarks (frame .base) (spans (frame .open) (frame .base) true (entriesOf (now (layout .entry)) (now (rows .entry)) src)) ⌝ }
-    ensures { λ _. ⌜ now (owners .exit) ≡ blank ⌝ }
+    ensures { λ _. ⌜ now (owners .exit) ≡ now (owners .entry) ⌝ }
 {
     let end = side_end(layout, rows, src, frame, true, frame.base, owners);
     if end == NOWHERE {
         return refusal::EXTENSION_GAP;
     }
     0
+}
+
+// Whether n marks are too few for entries that passed 71 to 80: the base or an entry does not end below n. 65,536 never are.
+pub(crate) fn too_few(layout: &[u8], rows: &[u32], src: Source, frame: Frame, n: usize) -> bool
+    requires { ⌜ Room (now layout) (now rows) src ⌝ }
+    requires { ⌜ Passed (frame .open) (frame .base) (entriesOf (now layout) (now rows) src) ⌝ }
+    ensures { λ r. ⌜ (r ≡ false → Markable n (frame .open) (frame .base) (entriesOf (now (layout .entry)) (now (rows .entry)) src)) ⌝ }
+    ensures { λ r. ⌜ (r ≡ true → n ≡ 65536 → ⊥) ⌝ }
+{
+    if n == 65536 {
+        return false;
+    }
+    if n <= frame.base {
+        return true;
+    }
+    let mut left = src;
+    while 0 < left.count {
+        let e = entries::entry_at(layout, rows, left);
+        let x = fields::extent_of(frame, true, e);
+        if n <= x.end {
+            return true;
+        }
+        left = entries::rest(left);
+    }
+    false
 }
 
 // The first of numbers 81 to 83 that entries give which passed 71 to 80, or 0. Nobody owns a place before, nor after.
@@ -134,9 +160,10 @@ pub(crate) fn tiling_by_marks(
 ) -> u32
     requires { ⌜ Room (now layout) (now rows) src ⌝ }
     requires { ⌜ Passed (frame .open) (frame .base) (entriesOf (now layout) (now rows) src) ⌝ }
-    requires { ⌜ now owners ≡ blank ⌝ }
+    requires { ⌜ Markable (length (now owners)) (frame .open) (frame .base) (entriesOf (now layout) (now rows) src) ⌝ }
+    requires { ⌜ Unowned (now owners) ⌝ }
     ensures { λ r. ⌜ r ≡ tilingFault (frame .open) (frame .base) (entriesOf (now (layout .entry)) (now (rows .entry)) src) ⌝ }
-    ensures { λ _. ⌜ now (owners .exit) ≡ blank ⌝ }
+    ensures { λ _. ⌜ now (owners .exit) ≡ now (owners .entry) ⌝ }
 {
     let b = base_by_marks(layout, rows, src, frame, owners);
     if b != 0 {

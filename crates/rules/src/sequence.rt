@@ -13,7 +13,8 @@ ghost use Prim.Native.Nat.{_<_, _≤_, max, min};
 ghost use Rattle.marks.specs.Marks.{Marks, Only};
 ghost use Rattle.rules.specs.Rules.{structAlign, fieldsFault, tilingFault, seqFault, judged};
 ghost use Rattle.rules.specs.Engines.{Passed};
-ghost use Rattle.rules.specs.Told.{Told, Unowned};
+ghost use Rattle.plain_tiling.specs.Places.{Unowned};
+ghost use Rattle.rules.specs.Told.{Told};
 ghost use Rattle.rules.specs.Entries.{entriesOf, Room};
 ghost use Rattle.rules.specs.Sequence.{idsOf, notedMarks, Marking, Clean};
 
@@ -113,7 +114,7 @@ fn looks(count: usize, base: usize, lent: usize) -> usize {
 }
 
 // The first of numbers 81 to 83 that entries give which passed 71 to 80, or 0: by search, unless `plain` holds; by marks where
-// no search is made or it gives up. The owners come back as they were lent.
+// no search is made or it gives up; or there are too few owners for the marks. The owners come back as they were lent.
 fn tiling(
     layout: &[u8],
     rows: &[u32],
@@ -135,7 +136,7 @@ fn tiling(
             return v;
         }
     }
-    if owners.len() != 65536 {
+    if plain::too_few(layout, rows, src, frame, owners.len()) {
         return GAVE_UP;
     }
     plain::tiling_by_marks(layout, rows, src, frame, owners)
