@@ -27,10 +27,11 @@ use Rattle.symbology.specs.ReadLaws.{section-parse, rest-parse, fives-refused}
 use Rattle.layout.specs.declared.Verdict.the-variants as Verdict'
 use Rattle.symbology.specs.declared.Listed.{Listed}
 use Rattle.symbology.specs.declared.Listed.the-variants as Listed'
-use Rattle.rules.specs.Rules.{rulesOf, ruledOf, ruled-is}
+use Rattle.rules.specs.Rules.{rulesOf, ruledOf}
+use Rattle.rules.specs.RuleLaws.{ruled-is}
 use Rattle.block.specs.Block.{noItems, layoutPart, symbologyPart}
 use Rattle.block.specs.Steps.{spanOf, spanAt, Within, within, outside, sectionAt, leaveIf, Lays, lays, lays-no, Lists}
-use Rattle.engines.specs.Verdicts.{verdict-ok, verdict-no, ruled-layout}
+use Rattle.engines.specs.VerdictLaws.{verdict-ok, verdict-no, ruled-layout}
 use Rattle.block.specs.declared.Span.{Span}
 use Rattle.block.specs.declared.Span.the-variants.{Part}
 use Rattle.block.specs.declared.Span.the-variants as Span'

@@ -15,7 +15,7 @@ use Rattle.layout.specs.Layout.{Layout, Parts, parts}
 use Rattle.layout.specs.LayoutLaws.{law-parts}
 use Rattle.symbology.specs.Symbology.{Symbology, symbology}
 use Rattle.symbology.specs.SymbologyLaws.{law-symbology}
-use Rattle.rules.specs.Rules.{rules-blind}
+use Rattle.rules.specs.RuleLaws.{rules-blind}
 use Rattle.block.specs.Block.{Header, Block, header, widthOf, layoutPart, symbologyPart, block, isSchema, isStype, isStypeIn}
 use Rattle.block.specs.declared.MetadataLengths.{MetadataLengths}
 

@@ -12,7 +12,7 @@ use Rattle.codec.specs.EditLaws.{marks-kept, marks-skip, marks-then, marks-on, 
 use Rattle.text.specs.Utf8.{utf8}
 use Rattle.layout.specs.Given.{D}
 use Rattle.layout.specs.Layout.{Layout, Parts, parts, fromLayout}
-use Rattle.rules.specs.Rules.{rulesOf, rules-blind}
+use Rattle.rules.specs.RuleLaws.{rules-blind}
 use Rattle.block.specs.Block.{Header, Block, v4, header, widthOf, isSchema, isStype, isStypeIn, layoutPart, symbologyPart, block}
 use Rattle.demands.specs.LayoutEdits.{marks-parts}
 

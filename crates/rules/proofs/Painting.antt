@@ -2,19 +2,21 @@
 use Prim.Native.Nat.{ℕ, _+_, _-_, _≤_, _<_, max}
 use mathlib.Core.Path.{_≡_}
 use mathlib.Core.Bool.{Bool, true, false}
-use mathlib.Core.List.{List, [], _∷_}
+use mathlib.Core.List.{List, _∷_}
 use lib.ListN.{length}
 use Rattle.fields.specs.Sheet.{offOf, endOf, pastBase}
 use Rattle.fields.specs.Field.{differs}
 use Rattle.plain_tiling.specs.Tile.{Span}
 use Rattle.plain_tiling.specs.Plain.{taken, paint}
 use Rattle.plain_tiling.specs.Places.{Unowned, Enough}
-use Rattle.plain_tiling.specs.Marking as spans-of
-use Rattle.plain_tiling.specs.Marking.{Marked, Marking, marking}
+use Rattle.plain_tiling.specs.MarkingLaws as spans-of
+use Rattle.plain_tiling.specs.Marking.{Marked, Marking}
+use Rattle.plain_tiling.specs.MarkingLaws.{marking}
 use Rattle.rules.specs.declared.Source.{Source}
 use Rattle.rules.specs.Rules.{spans}
 use Rattle.rules.specs.Engines.{EndBelow}
-use Rattle.rules.specs.Entries.{entryOf, entriesOf, restOf, Room, entries-cons, entries-nil, room-rest}
+use Rattle.rules.specs.Entries.{entryOf, entriesOf, restOf, InSlice}
+use Rattle.rules.specs.EntryLaws.{entries-cons, entries-nil, room-rest}
 
 module _ (isRecord : Bool) (base : ℕ) (ext : Bool) (l t : List ℕ) where
   abbrev S : Source → List Span
@@ -22,10 +24,10 @@ module _ (isRecord : Bool) (base : ℕ) (ext : Bool) (l t : List ℕ) where
 
   -- the entries left are in their place, and their spans go on from the marks so far
   pub record Painting (n c : ℕ) (src left : Source) (ms : List ℕ) (k top : ℕ) : Type 0 where
-    pub room : Room l t left
+    pub room : InSlice l t left
     pub marks : Marking n c (S src) (S left) ms k top
 
-  pub painting : {c : ℕ} {src : Source} {ms : List ℕ} → Room l t src → Enough (length ms) c (S src) → Unowned ms → Painting (length ms) c src src ms 0 c
+  pub painting : {c : ℕ} {src : Source} {ms : List ℕ} → InSlice l t src → Enough (length ms) c (S src) → Unowned ms → Painting (length ms) c src src ms 0 c
   painting r i u = record { room = r; marks = marking i u }
 
   module _ {n c : ℕ} {src left : Source} {ms : List ℕ} {k top : ℕ} (v : Painting n c src left ms k top) where
@@ -61,7 +63,7 @@ module _ (isRecord : Bool) (base : ℕ) (ext : Bool) (l t : List ℕ) where
 module _ (l t : List ℕ) where
   -- where the entries left all end below n, all do
   pub record Ending (n : ℕ) (src left : Source) : Type 0 where
-    pub room : Room l t left
+    pub room : InSlice l t left
     pub all : EndBelow n (entriesOf l t left) → EndBelow n (entriesOf l t src)
 
   module _ {n : ℕ} {src left : Source} (v : Ending n src left) where

@@ -4,7 +4,7 @@ ghost use mathlib.Core.Path.{_≡_};
 ghost use Prim.Native.Nat.{_+_, _*_, _<_, _≤_};
 ghost use lib.ListN.{length};
 ghost use Rattle.rules.specs.RowRules.{lo, hi, eleven};
-ghost use Rattle.rules.specs.Entries.{rowAt, entryOf, restOf, Room};
+ghost use Rattle.rules.specs.Entries.{rowAt, entryOf, restOf, InSlice};
 
 fn low(x: u32) -> u8
     ensures { λ r. ⌜ r ≡ lo x ⌝ }
@@ -55,7 +55,7 @@ fn in_rows(rows: &[u32], a: usize) -> [u8; 11]
 
 // The first entry of a source that has one.
 pub(crate) fn entry_at(layout: &[u8], rows: &[u32], src: Source) -> [u8; 11]
-    requires { ⌜ Room (now layout) (now rows) src ⌝ }
+    requires { ⌜ InSlice (now layout) (now rows) src ⌝ }
     requires { ⌜ 0 < src .count ⌝ }
     ensures { λ r. ⌜ r ≡ entryOf (now (layout .entry)) (now (rows .entry)) src ⌝ }
 {

@@ -1,4 +1,5 @@
-use Rattle.rules.specs.Entries.{room-one, first-row, first-bytes}
+-- There is room for one entry, in the rows or in the bytes. Assumes nothing.
+use Rattle.rules.specs.EntryLaws.{room-one, first-row, first-bytes}
 use borrow.Author.Needs.{needs}
 use Rattle.rules.proofs.entries.entry_at.Statement.{statement}
 use Rattle.rules.proofs.entries.entry_at.Tie as tie

@@ -1,6 +1,6 @@
 -- The first try, or all owners where it gave up. Assumes nothing.
 use borrow.Author.Needs.{needs}
-use Rattle.rules.specs.Told.{told-is}
+use Rattle.rules.specs.TriedLaws.{tried-is}
 use Rattle.rules.proofs.items.rules.Statement.{statement}
 use Rattle.rules.proofs.items.rules.Tie as tie
 
@@ -8,7 +8,7 @@ rules-tried-requires : tie.Need-rules-tried-requires
 rules-tried-requires c κs = (c .before .before .before .before .pre .0, c .if1 .taken)
 
 returns : tie.Need-returns
-returns c = told-is (c .before .rules-tried .ensures) (c .if2 .taken)
+returns c = tried-is (c .before .rules-tried .ensures) (c .if2 .taken)
 
 pub rules-spec : {M : Type 1} → statement M
 rules-spec = tie.close (tie.spec rules-tried-requires returns (λ c κs. search needs) (λ c. search needs))

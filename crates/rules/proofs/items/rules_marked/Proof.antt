@@ -1,7 +1,7 @@
 -- With 65,536 owners every answer is the number. Assumes nothing.
 use borrow.Author.Needs.{needs}
-use Rattle.plain_tiling.specs.Marking.{unowned}
-use Rattle.rules.specs.Told.{told-all}
+use Rattle.plain_tiling.specs.MarkingLaws.{unowned}
+use Rattle.rules.specs.TriedLaws.{tried-all}
 use Rattle.rules.proofs.items.rules_marked.Statement.{statement}
 use Rattle.rules.proofs.items.rules_marked.Tie as tie
 use native.Mathlib.Omega.{arith}
@@ -10,13 +10,13 @@ rules-few-requires : tie.Need-rules-few-requires
 rules-few-requires c κs = (c .before .before .before .before .before .pre .0, (c .before .if1 .taken, unowned 65536 (omega arith)))
 
 returns : tie.Need-returns
-returns c = told-all (c .before .rules-few .ensures) (search needs)
+returns c = tried-all (c .before .rules-few .ensures) (search needs)
 
 rules-65535-requires : tie.Need-rules-65535-requires
 rules-65535-requires c κs = (c .before .before .before .before .before .pre .0, (c .before .before .before .before .before .pre .1, unowned 65536 (omega arith)))
 
 returns-2 : tie.Need-returns-2
-returns-2 c = told-all (c .before .rules-65535 .ensures) (search needs)
+returns-2 c = tried-all (c .before .rules-65535 .ensures) (search needs)
 
 pub rules-marked-spec : {M : Type 1} → statement M
 rules-marked-spec =

@@ -2,12 +2,13 @@
 use mathlib.Core.Path.{refl, ap}
 use lib.ListN.{length}
 use borrow.Author.Needs.{needs}
-use Rattle.rules.specs.Told.{told, gave-up, told-is}
+use Rattle.rules.specs.Tried.{answered, gave-up}
+use Rattle.rules.specs.TriedLaws.{tried-is}
 use Rattle.rules.proofs.sequence.tiling.Statement.{statement}
 use Rattle.rules.proofs.sequence.tiling.Tie as tie
 
 returns : tie.Need-returns
-returns c = (told (told-is (c .before .tiling-by-search .ensures) (c .if2 .taken)), refl)
+returns c = (answered (tried-is (c .before .tiling-by-search .ensures) (c .if2 .taken)), refl)
 
 too-few-requires : tie.Need-too-few-requires
 too-few-requires c κs = (c .before .before .before .before .pre .0, c .before .before .before .before .pre .1 .0)
@@ -22,7 +23,7 @@ same-length : tie.Need-same-length
 same-length c = ap length (c .before .before .tiling-by-marks .ensures .1)
 
 returns-3 : tie.Need-returns-3
-returns-3 c = (told (c .before .before .tiling-by-marks .ensures .0), c .before .before .tiling-by-marks .ensures .1)
+returns-3 c = (answered (c .before .before .tiling-by-marks .ensures .0), c .before .before .tiling-by-marks .ensures .1)
 
 pub tiling-spec : {M : Type 1} → statement M
 tiling-spec =
