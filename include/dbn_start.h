@@ -16,7 +16,9 @@
  *     dbn_block, dbn_feed, dbn_layout, dbn_write_layout                       32 KiB
  *     the same for a layout of more than 4,096 structs, or with a record
  *     or struct whose fields stand far from the order of their offsets       320 KiB
- *     dbn_layout_plain                                                       320 KiB
+ *     dbn_layout_plain                                                        64 KiB
+ *     the same for a layout of more than 4,096 structs, or with a record
+ *     or struct that reaches to byte 8,191 or past it                        320 KiB
  * So 64 KiB do for streams below version 4 and for layouts in order, and 320 KiB for anything that a stranger sends.
  */
 #ifndef DBN_START_H

@@ -1,5 +1,5 @@
-//! What the C functions need of the stack, as the header says it: little for an ordinary layout, and a large frame only for
-//! marks and for many structs. `cargo test --release --test stack -- --nocapture` prints the bytes.
+//! What the C functions need of the stack, as the header says it: little for an ordinary layout, more for its marks, and a large
+//! frame only for marks far from the start and for many structs. `cargo test --release --test stack -- --nocapture` prints the bytes.
 mod common;
 #[allow(dead_code)]
 #[path = "../measure/shapes.rs"]
@@ -9,9 +9,10 @@ use dbn_start::{check_layout_plain, ffi, is_date, is_text, prelude, write_layout
 use shapes::{sheet, tiled, Order};
 use std::ffi::c_void;
 
-/// The three bounds of the header.
+/// The four bounds of the header.
 const SMALL: usize = 4 << 10;
 const ORDINARY: usize = 32 << 10;
+const MARKED: usize = 64 << 10;
 const LARGE: usize = 320 << 10;
 
 /// The painted stack, in words.
@@ -151,7 +152,8 @@ fn calls<'a>(sheet: &'a Sheet, layouts: &'a [Measured], symbols: &'a [u8]) -> Ve
         call("dbn_feed", *most, Box::new(feed(4, &shapes::block4(layout))));
         call("dbn_layout", *most, Box::new(read(layout)));
         call("dbn_write_layout", *most, Box::new(write(layout)));
-        call("dbn_layout_plain", LARGE, Box::new(|| assert!(check_layout_plain(layout, 71, sheet).is_ok())));
+        let marked = if *most == ORDINARY { MARKED } else { LARGE };
+        call("dbn_layout_plain", marked, Box::new(|| assert!(check_layout_plain(layout, 71, sheet).is_ok())));
     }
     calls
 }

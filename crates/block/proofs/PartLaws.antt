@@ -27,10 +27,11 @@ use Rattle.symbology.specs.ReadLaws.{section-parse, rest-parse, refused-promise
 use Rattle.layout.specs.declared.Verdict.the-variants as Verdict'
 use Rattle.symbology.specs.declared.SectionAnswer.{SectionAnswer}
 use Rattle.symbology.specs.declared.SectionAnswer.the-variants as SectionAnswer'
-use Rattle.rules.specs.Rules.{rulesOf, ruledOf, ruled-is}
+use Rattle.rules.specs.Rules.{rulesOf, ruledOf}
+use Rattle.rules.specs.RuleLaws.{ruled-is}
 use Rattle.block.specs.Block.{noItems, layoutPart, symbologyPart}
 use Rattle.block.specs.Parts.{spanOf, spanAt, Within, within, outside, sectionAt, layoutTable, LayoutReads, lays, lays-no, SymbologyReads}
-use Rattle.engines.specs.Verdicts.{verdict-ok, verdict-no, ruled-layout}
+use Rattle.engines.specs.VerdictLaws.{verdict-ok, verdict-no, ruled-layout}
 use Rattle.block.specs.declared.Span.{Span}
 use Rattle.block.specs.declared.Span.the-variants.{Part}
 use Rattle.block.specs.declared.Span.the-variants as Span'

@@ -17,7 +17,8 @@ use Rattle.prelude.specs.Prelude.{isVersion}
 use Rattle.layout.specs.Layout.{Layout, Parts, parts, toLayout, fromLayout}
 use Rattle.layout.specs.Given.{D}
 use Rattle.symbology.specs.Symbology.{Symbology, symbology, unspanned}
-use Rattle.rules.specs.Rules.{rulesOf, rules-blind}
+use Rattle.rules.specs.Rules.{rulesOf}
+use Rattle.rules.specs.RuleLaws.{rules-blind}
 use Rattle.block.specs.declared.MetadataLengths.{MetadataLengths}
 
 -- ---- the tree

@@ -37,19 +37,19 @@ pub fn check_rows_plain(rows: &[u32], width: u16, sheet: &[u16; 520]) -> u32
 }
 
 // The verdict on a layout by one engine.
-fn ruled_layout(layout: &[u8], width: u16, sheet: &[u16; 520], plain: bool) -> Verdict
+fn ruled_layout(layout: &[u8], width: u16, sheet: &[u16; 520], by_marks: bool) -> Verdict
     ensures { λ r. ⌜ r ≡ verdict (ruledOf (now (sheet .entry)) width (now (layout .entry))) ⌝ }
 {
     let none = [0u32; 1];
-    rules::check(layout, &none, false, width, sheet, plain)
+    rules::check(layout, &none, false, width, sheet, by_marks)
 }
 
 // The rules of rows by one engine.
-fn ruled_rows(rows: &[u32], width: u16, sheet: &[u16; 520], plain: bool) -> u32
+fn ruled_rows(rows: &[u32], width: u16, sheet: &[u16; 520], by_marks: bool) -> u32
     ensures { λ r. ⌜ r ≡ rowsRules (now (sheet .entry)) width (now (rows .entry)) ⌝ }
 {
     let none = [0u8; 1];
-    number(rules::check(&none, rows, true, width, sheet, plain))
+    number(rules::check(&none, rows, true, width, sheet, by_marks))
 }
 
 // A verdict's refusal number, or 0.

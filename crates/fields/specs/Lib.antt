@@ -1,4 +1,5 @@
 pub mod Sheet
 pub mod Field
+pub mod FieldLaws
 pub mod Answers
 pub mod Single

@@ -10,7 +10,7 @@ ghost use Rattle.fields.specs.Answers.{ExtentIs, ClassIs};
 // What the fields of one record or struct are held against: whether it is a record, its base size or its size, the
 // stream's symbol width and how many label defs there are.
 pub struct Frame {
-    pub open: bool,
+    pub is_record: bool,
     pub base: usize,
     pub width: usize,
     pub labels: usize,
@@ -32,7 +32,7 @@ pub struct Class {
 
 // Where the entry stands, seen from the base, or from the extensions where `ext` holds.
 pub fn extent_of(frame: Frame, ext: bool, e: [u8; 11]) -> Extent
-    ensures { λ r. ⌜ ExtentIs (frame .open) (frame .base) ext e r ⌝ }
+    ensures { λ r. ⌜ ExtentIs (frame .«is_record») (frame .base) ext e r ⌝ }
 {
     Extent {
         other: differ(ext, past_base(frame, e)),
@@ -55,7 +55,7 @@ pub fn class_of(sheet: &[u16; 520], e: [u8; 11]) -> Class
 // The first of rules 71 to 80 that the entry breaks, or 0. `aligns` has the alignment of each struct; `seen` says that
 // the entry's id came before.
 pub fn check_field(sheet: &[u16; 520], aligns: &[u16], frame: Frame, seen: bool, e: [u8; 11]) -> u32
-    ensures { λ r. ⌜ r ≡ fieldFault (now (sheet .entry)) (frame .width) (frame .labels) (now (aligns .entry)) (frame .open) (frame .base) seen e ⌝ }
+    ensures { λ r. ⌜ r ≡ fieldFault (now (sheet .entry)) (frame .width) (frame .labels) (now (aligns .entry)) (frame .«is_record») (frame .base) seen e ⌝ }
 {
     if breaks_71(sheet, seen, e) {
         return refusal::ID_TWICE;
@@ -207,9 +207,9 @@ fn is_extension(sheet: &[u16; 520], e: [u8; 11]) -> bool
 
 // Whether a record's entry stands at or past the base.
 fn past_base(frame: Frame, e: [u8; 11]) -> bool
-    ensures { λ r. ⌜ r ≡ pastBase (frame .open) (frame .base) e ⌝ }
+    ensures { λ r. ⌜ r ≡ pastBase (frame .«is_record») (frame .base) e ⌝ }
 {
-    both(frame.open, frame.base <= off_of(e))
+    both(frame.is_record, frame.base <= off_of(e))
 }
 
 // The alignment of an entry inside a struct, or 0 where the sheet has none.
@@ -252,9 +252,9 @@ fn breaks_71(sheet: &[u16; 520], seen: bool, e: [u8; 11]) -> bool
 }
 
 fn breaks_72(sheet: &[u16; 520], frame: Frame, e: [u8; 11]) -> bool
-    ensures { λ r. ⌜ r ≡ breaks72 (now (sheet .entry)) (frame .open) e ⌝ }
+    ensures { λ r. ⌜ r ≡ breaks72 (now (sheet .entry)) (frame .«is_record») e ⌝ }
 {
-    both(is_struct(sheet, e), !frame.open)
+    both(is_struct(sheet, e), !frame.is_record)
 }
 
 fn breaks_73(sheet: &[u16; 520], aligns: &[u16], frame: Frame, e: [u8; 11]) -> bool
@@ -290,14 +290,14 @@ fn breaks_77(sheet: &[u16; 520], frame: Frame, e: [u8; 11]) -> bool
 }
 
 fn breaks_79(sheet: &[u16; 520], frame: Frame, e: [u8; 11]) -> bool
-    ensures { λ r. ⌜ r ≡ breaks79 (now (sheet .entry)) (frame .open) (frame .base) e ⌝ }
+    ensures { λ r. ⌜ r ≡ breaks79 (now (sheet .entry)) (frame .«is_record») (frame .base) e ⌝ }
 {
     let d = differ(is_extension(sheet, e), past_base(frame, e));
     both(!is_padding(sheet, e), d)
 }
 
 fn breaks_80(frame: Frame, e: [u8; 11]) -> bool
-    ensures { λ r. ⌜ r ≡ breaks80 (frame .open) (frame .base) e ⌝ }
+    ensures { λ r. ⌜ r ≡ breaks80 (frame .«is_record») (frame .base) e ⌝ }
 {
     both(!past_base(frame, e), frame.base < end_of(e))
 }

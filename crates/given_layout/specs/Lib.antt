@@ -1,3 +1,3 @@
-pub mod Given
+pub mod Ruled
 pub mod RuledLaws
 pub mod Single

@@ -3,7 +3,7 @@ use Prim.Native.Nat.{ℕ, _/_}
 use mathlib.Core.Path.{_≡_, sym, ap, _∙_}
 use mathlib.Core.List.{List}
 use lib.ListN.{length}
-use Rattle.codec.specs.Codec.{Res, ok, refuse}
+use Rattle.codec.specs.Codec.{ok}
 use Rattle.layout.specs.Layout.{Layout}
 use Rattle.layout.specs.Given.{layoutOf}
 use Rattle.layout.specs.Answers.{verdict, Answers, judge, leave}
@@ -11,8 +11,8 @@ use Rattle.layout.specs.declared.Verdict.the-variants as Verdict'
 use Rattle.layout.specs.declared.Answer.{Answer}
 use Rattle.layout.specs.declared.Answer.the-variants as Answer'
 use Rattle.rules.specs.Rules.{ruledOf}
-use Rattle.engines.specs.Verdicts.{verdict-ok, verdict-no, ruled-layout}
-use Rattle.given_layout.specs.Given.{Ruled}
+use Rattle.engines.specs.VerdictLaws.{verdict-ok, verdict-no, ruled-layout}
+use Rattle.given_layout.specs.Ruled.{Ruled}
 
 module _ {sheet : List ℕ} {w : ℕ} {s t : List ℕ} where
   both-read : {t′ : List ℕ} {r : Answer} (l : Layout) (i j : ℕ) → layoutOf s ≡ ok l i → ruledOf sheet w s ≡ ok l j → Answers s t t′ r → Ruled s w sheet t t′ r

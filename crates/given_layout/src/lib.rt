@@ -1,5 +1,5 @@
 // A layout given by itself, with a symbol width: read, ruled on, and its rows in a lent table.
-ghost use Rattle.given_layout.specs.Given.{Ruled};
+ghost use Rattle.given_layout.specs.Ruled.{Ruled};
 
 // A layout given with a symbol width: 13, the layout, its rules, then 3. The table is written only where all is accepted and it
 // is long enough.

@@ -18,14 +18,15 @@ use Rattle.rules.specs.declared.Source.{Source}
 use Rattle.rules.specs.declared.Hit.{Hit}
 use Rattle.plain_tiling.specs.Tile.{Span}
 use Rattle.rules.specs.Rules.{first, noted, spans, largest, structAlign, baseFault, extFault, tilingFault, fieldsFault, seqFault, judged}
-use Rattle.rules.specs.Entries.{entryOf, entriesOf, restOf, Room, entries-cons, entries-nil, entries-length, room-rest}
-use Rattle.rules.specs.Chase.{Has, there, None, Chase, stop, Proper, find, startsHere, onSide, Within, Sought, Hits}
-use Rattle.rules.specs.Sequence.{idsOf, notedMarks}
+use Rattle.rules.specs.Entries.{entryOf, entriesOf, restOf, InSlice}
+use Rattle.rules.specs.EntryLaws.{entries-cons, entries-nil, entries-length, room-rest}
+use Rattle.rules.specs.Search.{Has, there, None, Chase, stop, Proper, find, startsHere, onSide, PartOf, Sought, Hits}
+use Rattle.rules.specs.Ids.{idsOf, notedMarks}
 use Rattle.plain_tiling.specs.Owners.{Placed}
 use Rattle.rules.specs.Engines.{Passed}
 use Rattle.rules.proofs.Search.{walk-sorted, find-none, find-has}
 
-no-true : true ≡ false → ⊥
+pub no-true : true ≡ false → ⊥
 no-true q = subst lib.Dec.T q tt
 
 -- ---- the side of the base
@@ -57,20 +58,20 @@ module _ (isRecord : Bool) (base : ℕ) (ext : Bool) where
 
     -- the search is at `left`, and what it finds from there on is what it finds in all
     pub record Seeking (src : Source) (c : ℕ) (left : Source) : Type 0 where
-      pub within : Within l t isRecord base ext src left
+      pub within : PartOf l t isRecord base ext src left
       pub same : find (S src) c ≡ find (S left) c
 
-    pub seeking : (src : Source) (c : ℕ) → Room l t src → Seeking src c src
+    pub seeking : (src : Source) (c : ℕ) → InSlice l t src → Seeking src c src
     seeking src c r = record { within = record { room = r; has = λ a b h. h }; same = refl }
 
-    within-rest : {src left : Source} → Within l t isRecord base ext src left → 0 < left .count → Within l t isRecord base ext src (restOf left)
+    within-rest : {src left : Source} → PartOf l t isRecord base ext src left → 0 < left .count → PartOf l t isRecord base ext src (restOf left)
     within-rest {src} {left} w m = record {
       room = room-rest l t (w .room) m;
       has = λ a b h. w .has a b (rw (entries-cons l t left m) (has-more (entryOf l t left) (entriesOf l t (restOf left)) h));
     }
 
     module _ {src : Source} {c : ℕ} {left : Source} (v : Seeking src c left) where
-      pub seek-room : Room l t left
+      pub seek-room : InSlice l t left
       seek-room = v .within .room
 
       module _ (m : 0 < left .count) {e : List ℕ} (is : e ≡ entryOf l t left) where
@@ -95,11 +96,11 @@ module _ (isRecord : Bool) (base : ℕ) (ext : Bool) where
         within = v .within;
       }
 
-    within-trans : {a b d : Source} → Within l t isRecord base ext a b → Within l t isRecord base ext b d → Within l t isRecord base ext a d
+    within-trans : {a b d : Source} → PartOf l t isRecord base ext a b → PartOf l t isRecord base ext b d → PartOf l t isRecord base ext a d
     within-trans v w = record { room = w .room; has = λ x y h. v .has x y (w .has x y h) }
 
     -- a hit near the last one, and the search from the front
-    pub near-hit : {src from : Source} {c : ℕ} {r : Hit} → Within l t isRecord base ext src from → Sought l t isRecord base ext from c r → (r .end ≡ 0 → ⊥) → Hits l t isRecord base ext src c r
+    pub near-hit : {src from : Source} {c : ℕ} {r : Hit} → PartOf l t isRecord base ext src from → Sought l t isRecord base ext from c r → (r .end ≡ 0 → ⊥) → Hits l t isRecord base ext src c r
     near-hit {src} {from} {c} {r} w s n = record {
       none = λ z. absurd (n z);
       some = λ _. w .has c (r .end) (rw (s .is) (find-has (S from) c (λ z. n (s .is ∙ z))));
@@ -118,11 +119,11 @@ module _ (isRecord : Bool) (base : ℕ) (ext : Bool) where
     -- ---- the count
 
     pub record Counting (src : Source) (left : Source) (k : ℕ) : Type 0 where
-      pub room : Room l t left
+      pub room : InSlice l t left
       pub few : k + left .count ≤ src .count
       pub same : k + length (S left) ≡ length (S src)
 
-    pub counting : (src : Source) → Room l t src → Counting src src 0
+    pub counting : (src : Source) → InSlice l t src → Counting src src 0
     counting src r = record { room = r; few = omega arith; same = zero-add (length (S src)) }
 
     module _ {src left : Source} {k : ℕ} (v : Counting src left k) where
@@ -202,11 +203,11 @@ module _ (isRecord : Bool) (base : ℕ) (es : List (List ℕ)) {b : ℕ} (e : b 
 
 module _ (sheet l t : List ℕ) where
   pub record Aligning (src left : Source) (a : ℕ) : Type 0 where
-    pub room : Room l t left
+    pub room : InSlice l t left
     pub least : 1 ≤ a
     pub same : structAlign sheet (entriesOf l t src) ≡ largest sheet a (entriesOf l t left)
 
-  pub aligning : (src : Source) → Room l t src → Aligning src src 1
+  pub aligning : (src : Source) → InSlice l t src → Aligning src src 1
   unfolding structAlign
   aligning src r = record { room = r; least = omega arith; same = refl }
 
@@ -266,13 +267,13 @@ module _ (sheet : List ℕ) (width labels : ℕ) (aligns : List ℕ) (isRecord :
   F ids s = fieldsFault sheet width labels aligns isRecord base ids (entriesOf l t s)
 
   pub record Fielding (src left : Source) (ws : List ℕ) : Type 0 where
-    pub room : Room l t left
+    pub room : InSlice l t left
     pub ids : List ℕ
     pub marks : Marks ws ids
     pub kept : (k : ℕ) → (among k ids || among k (idsOf (entriesOf l t left))) ≡ true → among k (idsOf (entriesOf l t src)) ≡ true
     pub same : F [] src ≡ F ids left
 
-  pub fielding : (src : Source) {ws : List ℕ} → Room l t src → Marks ws [] → Fielding src src ws
+  pub fielding : (src : Source) {ws : List ℕ} → InSlice l t src → Marks ws [] → Fielding src src ws
   fielding src r m = record { room = r; ids = []; marks = m; kept = λ k h. h; same = refl }
 
   module _ {src left : Source} {ws : List ℕ} (v : Fielding src left ws) where
@@ -340,7 +341,7 @@ module _ (sheet : List ℕ) (width labels : ℕ) (aligns : List ℕ) (isRecord :
 
 module _ (l t : List ℕ) where
   pub record Wiping (left : Source) (ws : List ℕ) : Type 0 where
-    pub room : Room l t left
+    pub room : InSlice l t left
     pub only : Only ws (idsOf (entriesOf l t left))
 
   pub wipe-go : {left : Source} {ws : List ℕ} → Wiping left ws → 0 < left .count → {e : List ℕ} → e ≡ entryOf l t left → {id : ℕ} → id ≡ idOf e → id < 65536

@@ -1,8 +1,8 @@
 -- Tiling by search. A chase goes from end to end, by any span that starts at the cursor, until there is none. The walk over the
 -- sorted spans says what the chase says: it meets a gap exactly where the chase used fewer spans than there are. Assumes nothing.
-use Prim.Native.Nat.{ℕ, zero, suc, _+_, _≤_, _<_, zero-le, suc-le-suc}
-use mathlib.Core.Path.{_≡_, refl, sym, ap, _∙_, subst}
-use mathlib.Core.Bool.{Bool, true, false, cond}
+use Prim.Native.Nat.{ℕ, suc, _+_, _≤_, _<_, zero-le, suc-le-suc}
+use mathlib.Core.Path.{_≡_, refl, ap, _∙_}
+use mathlib.Core.Bool.{true, false, cond}
 use mathlib.Core.List.{List, [], _∷_}
 use native.Mathlib.Nat.{le-refl, le-trans, le-of-lt, zero-add, add-zero}
 use native.Mathlib.Omega.{arith}
@@ -11,7 +11,7 @@ use lib.Dec.{leb, eqb, eqb·suc-suc, eqb·zero-suc}
 use borrow.Author.Tests.{eq-eqb, ne-eqb, leb-true, leb-false}
 use Rattle.codec.specs.Cases.{by-bool, by-eqb, by-order}
 use Rattle.plain_tiling.specs.Tile.{Span, insert, sorted, walk}
-use Rattle.rules.specs.Chase.{Has, here, there, None, Proper, Chase, stop, step, Reached, begun, on, find}
+use Rattle.rules.specs.Search.{Has, here, there, None, Proper, Chase, stop, step, Reached, begun, on, find}
 
 by-leb {ℓ} : {P : Type ℓ} (a b : ℕ) → (leb a b ≡ true → a ≤ b → P) → (leb a b ≡ false → b < a → P) → P
 by-leb a b f g = by-bool (leb a b) (λ e. f e (leb-true a b e)) (λ e. g e (leb-false a b e))

@@ -1,29 +1,29 @@
 -- What one turn of each loop over the records or structs does, over judged lists. Assumes nothing.
-use Prim.Native.Nat.{ℕ, zero, suc, _+_, _-_, _*_, _%_, _≤_, _<_}
-use mathlib.Core.Path.{_≡_, refl, sym, ap, ap₂, _∙_, subst}
-use mathlib.Core.Bool.{Bool, true, false, not, cond}
-use mathlib.Core.List.{List, [], _∷_, _++_, map, append-assoc, append-nil}
+use Prim.Native.Nat.{ℕ, zero, suc, _+_, _*_, _%_, _≤_, _<_}
+use mathlib.Core.Path.{_≡_, refl, sym, ap, _∙_}
+use mathlib.Core.Bool.{Bool, true, false}
+use mathlib.Core.List.{List, [], _∷_, _++_, append-assoc, append-nil}
 use native.Mathlib.Omega.{arith}
-use native.Mathlib.Nat.{add-zero, zero-add, le-trans}
+use native.Mathlib.Nat.{add-zero, zero-add}
 use native.Mathlib.Numerals.{add-one}
 use lib.ListN.{length, getD, set, take, drop, length-set}
 use lib.Seq.{take-suc-set, take-all}
-use lib.Dec.{eqb, ltb}
+use lib.Dec.{eqb}
 use borrow.Author.Tests.{eq-eqb, ne-eqb, lt-ltb, le-ltb}
 use Rattle.codec.specs.Codec.{among}
 use Rattle.codec.specs.Cases.{by-bool}
 use Rattle.marks.specs.Marks.{marked, withMark, Marks}
-use Rattle.marks.specs.MarkLaws.{marks-none, marks-more}
-use Rattle.numbers.specs.Numbers.{le16}
+use Rattle.marks.specs.MarkLaws.{marks-more}
 use Rattle.rules.specs.declared.Place.{Place}
 use Rattle.rules.specs.declared.Item.{Item}
 use Rattle.rules.specs.declared.Next.{Next}
 use Rattle.rules.specs.declared.Next.the-variants.{Found, End}
 use Rattle.rules.specs.Rules.{Seq, judged, first, structAlign, seqFault, structFault, recordFault, structsFault, recordsFault, alignsOf, seqsFault}
 use Rattle.rules.specs.RowRules.{column, rowsOf, rowSeq, seqsIn}
-use Rattle.rules.specs.Entries.{entriesOf, Room}
-use Rattle.rules.specs.Sequence.{Clean}
-use Rattle.rules.specs.Walk.{itemSeq, sectionSeqs, seqsBy, seqsFrom, Good, Step, Stepped, found, ended}
+use Rattle.rules.specs.Entries.{entriesOf}
+use Rattle.rules.specs.Ids.{Clean}
+use Rattle.rules.specs.Items.{itemSeq, seqsBy, seqsFrom, Good, Step, Stepped, found, ended}
+use Rattle.rules.specs.LayoutRuleLaws.{sections-length}
 use Rattle.rules.proofs.Loops.{first-none, first-some}
 use Rattle.rules.proofs.Walks.{rows-length}
 
@@ -56,17 +56,13 @@ seqs-few isRecord zero (r ∷ rs) =
     let g = seqs-few isRecord zero rs in
     by-bool (eqb (getD r 0 0) (column isRecord 10 13)) (λ e. rw e (omega arith)) (λ e. rw e (omega arith))
 
-sections-few : (isRecord : Bool) (l t : List ℕ) (n at : ℕ) → length (sectionSeqs isRecord l t at n) ≡ n
-sections-few isRecord l t zero at = refl
-sections-few isRecord l t (suc n) at = ap suc (sections-few isRecord l t n (at + le16 l at))
-
 pub few : (l t : List ℕ) (isRecord : Bool) (p : Place) → length (seqsFrom l t isRecord p) ≤ p .left
 unfolding seqsFrom
 few l t isRecord p = go (p .rows)
   where
     go : (b : Bool) → length (seqsBy isRecord l t b (p .at) (p .left)) ≤ p .left
     go true = let h = seqs-few isRecord 0 (rowsOf (p .left) (drop (9 * p .at) t)) in let g = rows-length (p .left) (drop (9 * p .at) t) in omega arith
-    go false = let h = sections-few isRecord l t (p .left) (p .at) in omega arith
+    go false = let h = sections-length isRecord l t (p .left) (p .at) in omega arith
 
 module _ (l t : List ℕ) (isRecord : Bool) where
   pub record Counted (place p : Place) (n : ℕ) : Type 0 where
@@ -91,10 +87,6 @@ module _ (l t : List ℕ) (isRecord : Bool) where
 module _ (sheet l t : List ℕ) where
   abbrev A : Place → List ℕ
   A p = alignsOf sheet (seqsFrom l t false p)
-
-  map-length : (qs : List Seq) → length (alignsOf sheet qs) ≡ length qs
-  map-length [] = refl
-  map-length (q ∷ qs) = ap suc (map-length qs)
 
   pub record Filling (place p : Place) (k : ℕ) (xs : List ℕ) : Type 0 where
     pub good : Good l t false p
@@ -130,9 +122,9 @@ module _ (sheet l t : List ℕ) where
 -- ---- one struct, one record
 
 module _ (sheet : List ℕ) (width labels : ℕ) (aligns l t : List ℕ) where
-  seq-plain : (isRecord : Bool) (q : Seq) → seqFault sheet width labels aligns isRecord (judged (q .base) (q .names) (q .entries)) ≡ seqFault sheet width labels aligns isRecord q
+  seq-judged : (isRecord : Bool) (q : Seq) → seqFault sheet width labels aligns isRecord (judged (q .base) (q .names) (q .entries)) ≡ seqFault sheet width labels aligns isRecord q
   unfolding seqFault
-  seq-plain isRecord q = refl
+  seq-judged isRecord q = refl
 
   module _ (i : Item) {a : ℕ} (al : a ≡ structAlign sheet (entriesOf l t (i .entries))) where
     pub struct-60 : (i .base % a ≡ 0 → ⊥) → 60 ≡ structFault sheet width labels aligns (itemSeq l t i)
@@ -141,7 +133,7 @@ module _ (sheet : List ℕ) (width labels : ℕ) (aligns l t : List ℕ) where
 
     pub struct-is : i .base % a ≡ 0 → {r : ℕ} → r ≡ seqFault sheet width labels aligns false (judged (i .base) (i .names) (entriesOf l t (i .entries))) → r ≡ structFault sheet width labels aligns (itemSeq l t i)
     unfolding structFault
-    struct-is z e = rw (← al, eq-eqb (i .base % a) 0 z) (e ∙ seq-plain false (itemSeq l t i))
+    struct-is z e = rw (← al, eq-eqb (i .base % a) 0 z) (e ∙ seq-judged false (itemSeq l t i))
 
   module _ (i : Item) {twice : Bool} where
     pub record-61 : twice ≡ true → 61 ≡ recordFault sheet width labels aligns twice (itemSeq l t i)
@@ -165,7 +157,7 @@ module _ (sheet : List ℕ) (width labels : ℕ) (aligns l t : List ℕ) where
 
           pub record-is : i .base % 8 ≡ 0 → {r : ℕ} → r ≡ seqFault sheet width labels aligns true (judged (i .base) (i .names) (entriesOf l t (i .entries))) → r ≡ recordFault sheet width labels aligns twice (itemSeq l t i)
           unfolding recordFault
-          record-is h e = rw (h1, ne-eqb (i .rtype % 256) 78 h2, le-ltb (i .base) (getD sheet 518 0) h3, eq-eqb (i .base % 8) 0 h) (e ∙ seq-plain true (itemSeq l t i))
+          record-is h e = rw (h1, ne-eqb (i .rtype % 256) 78 h2, le-ltb (i .base) (getD sheet 518 0) h3, eq-eqb (i .base % 8) 0 h) (e ∙ seq-judged true (itemSeq l t i))
 
   -- ---- all structs
 

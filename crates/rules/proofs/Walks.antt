@@ -4,25 +4,24 @@ use mathlib.Core.Path.{_≡_, refl, sym, ap, ap₂, _∙_, subst}
 use mathlib.Core.Bool.{Bool, true, false, cond}
 use mathlib.Core.List.{List, [], _∷_, map}
 use native.Mathlib.Omega.{arith}
-use native.Mathlib.Nat.{add-zero, zero-add, mul-zero, mul-suc}
+use native.Mathlib.Nat.{add-zero}
 use lib.ListN.{length, getD, take, drop, length-take, length-drop}
-use lib.Seq.{getD-take, getD-drop, drop-drop}
-use lib.Dec.{eqb, lit<, lit≤}
+use lib.Seq.{drop-drop}
+use lib.Dec.{lit<, lit≤}
 use borrow.Author.Tests.{eq-eqb, ne-eqb}
-use Rattle.codec.specs.Cases.{by-bool}
 use Rattle.numbers.specs.Numbers.{le16}
 use Rattle.layout.specs.Given.{D, D-least}
 use Rattle.entry.specs.Entry.{entryBytes, rowBytes}
 use Rattle.entry.specs.EntryLaws.{row-bytes-alone}
-use Rattle.rules.specs.declared.Source.{Source}
 use Rattle.rules.specs.declared.Place.{Place}
 use Rattle.rules.specs.declared.Item.{Item}
-use Rattle.rules.specs.declared.Next.{Next}
 use Rattle.rules.specs.declared.Next.the-variants.{Found, End}
 use Rattle.rules.specs.Rules.{Seq}
 use Rattle.rules.specs.RowRules.{column, rowsOf, rowCount, rowSeq, seqsIn}
-use Rattle.rules.specs.Entries.{entryAt, entriesAt, entriesOf, Room, entries-length}
-use Rattle.rules.specs.Walk.{itemSeq, countIn, sectionItem, Lies, sectionSeqs, Stand, rowItem, seqsFrom, Good, Step, Stepped, found, ended, kindOf}
+use Rattle.rules.specs.Entries.{entryAt, entriesAt, entriesOf, InSlice}
+use Rattle.rules.specs.EntryLaws.{row-cell, rows-step, entries-length}
+use Rattle.rules.specs.RuleLaws.{seq-eq}
+use Rattle.rules.specs.Items.{itemSeq, countIn, sectionItem, SectionInside, sectionSeqs, Stand, rowItem, seqsFrom, Good, Stepped, found, ended, kindOf}
 
 -- ---- sections
 
@@ -30,7 +29,7 @@ columns : (b : Bool) → (column b 6 2 + 2 ≤ column b 16 4) × (4 ≤ column b
 columns true = (omega arith, omega arith)
 columns false = (omega arith, omega arith)
 
-module _ {isRecord : Bool} {l : List ℕ} {at : ℕ} (h : Lies isRecord l at) where
+module _ {isRecord : Bool} {l : List ℕ} {at : ℕ} (h : SectionInside isRecord l at) where
   -- every number that is read of a section lies within it
   pub section-bounds : (at + 4 ≤ length l) × (at + column isRecord 6 2 + 2 ≤ length l) × (at + column isRecord 16 4 < length l) × (countIn isRecord l at + 2 ≤ length l)
   section-bounds = let c = columns isRecord in (omega (arith, h .fields, h .inside), omega (arith, h .fields, h .inside), omega (arith, h .fields, h .inside), omega (arith, h .fields, h .inside))
@@ -49,15 +48,15 @@ module _ (l t : List ℕ) (isRecord : Bool) {p : Place} (bytes : p .rows ≡ fal
   section-end z = ended (rw (bytes, z))
 
   module _ (good : Good l t isRecord p) (more : p .left ≡ 0 → ⊥) where
-    stands : Lies isRecord l (p .at) × Stand isRecord l t (p .at + le16 l (p .at)) (p .left - 1)
+    stands : SectionInside isRecord l (p .at) × Stand isRecord l t (p .at + le16 l (p .at)) (p .left - 1)
     unfolding Good
     stands = go (p .left) more (rw bytes at good)
       where
-        go : (n : ℕ) → (n ≡ 0 → ⊥) → Stand isRecord l t (p .at) n → Lies isRecord l (p .at) × Stand isRecord l t (p .at + le16 l (p .at)) (n - 1)
+        go : (n : ℕ) → (n ≡ 0 → ⊥) → Stand isRecord l t (p .at) n → SectionInside isRecord l (p .at) × Stand isRecord l t (p .at + le16 l (p .at)) (n - 1)
         go zero m g = absurd (m refl)
         go (suc n) m g = let q : n ≡ suc n - 1 = omega arith in (g .0, subst (λ (k : ℕ). Stand isRecord l t (p .at + le16 l (p .at)) k) q (g .1))
 
-    pub section-lies : Lies isRecord l (p .at)
+    pub section-lies : SectionInside isRecord l (p .at)
     section-lies = stands .0
 
     pub section-step : {i : Item} → i ≡ sectionItem isRecord l (p .at) → i .base < 65536 → {p′ : Place} → p′ ≡ record { rows = false; at = p .at + le16 l (p .at); left = p .left - 1 }
@@ -126,10 +125,10 @@ low true x y h g = h
 low false x y h g = g
 
 -- every number that is read of a row lies within the table
-pub row-bounds : (b : Bool) → (column b 3 8 < 9) × (column b 5 3 < 9) × (column b 6 4 < 9)
-row-bounds b = (low b 3 8 (lit< tt) (lit< tt), low b 5 3 (lit< tt) (lit< tt), low b 6 4 (lit< tt) (lit< tt))
+pub row-bounds : (b : Bool) → (column b 5 3 < 9) × (column b 6 4 < 9)
+row-bounds b = (low b 5 3 (lit< tt) (lit< tt), low b 6 4 (lit< tt) (lit< tt))
 
-pub row-item-is : (isRecord : Bool) (t : List ℕ) (q left : ℕ) {rt base c n m : ℕ} → rt ≡ getD t (9 * q + column isRecord 3 8) 0 % 65536 → base ≡ getD t (9 * q + column isRecord 5 3) 0 % 65536
+pub row-item-is : (isRecord : Bool) (t : List ℕ) (q left : ℕ) {rt base c n m : ℕ} → rt ≡ cond isRecord (getD t (9 * q + 3) 0 % 65536) 0 → base ≡ getD t (9 * q + column isRecord 5 3) 0 % 65536
     → c ≡ getD t (9 * q + column isRecord 6 4) 0 % 65536 → n ≡ min c (left - 1) → m ≡ min c (left - 1 - n)
     → record { rtype = rt; base = base; names = m; entries = record { rows = true; step = 9; at = 9 * q + 9; count = n } } ≡ rowItem isRecord t q left
 unfolding rowItem
@@ -138,16 +137,6 @@ row-item-is isRecord t q left a b e f g = rw (g, f, a, b, e)
 module _ (l t : List ℕ) (isRecord : Bool) where
   abbrev R : ℕ → ℕ → List Seq
   R q n = seqsIn isRecord 0 (rowsOf n (drop (9 * q) t))
-
-  rows-step : (q n : ℕ) → 0 < n → rowsOf n (drop (9 * q) t) ≡ take 9 (drop (9 * q) t) ∷ rowsOf (n - 1) (drop (9 * q + 9) t)
-  unfolding rowsOf
-  rows-step q zero h = absurd (let z : ⊥ = omega arith in z)
-  rows-step q (suc n) h =
-      let k : n ≡ suc n - 1 = omega arith in
-      ap₂ (λ (u : List ℕ) (m : ℕ). take 9 (drop (9 * q) t) ∷ rowsOf m u) (drop-drop 9 (9 * q) t) k
-
-  cell : (q j : ℕ) → j < 9 → getD (take 9 (drop (9 * q) t)) j 0 ≡ getD t (9 * q + j) 0
-  cell q j h = getD-take 9 (drop (9 * q) t) j 0 h ∙ getD-drop (9 * q) t j 0
 
   -- of n₀ rows from row q₀ on those before row q have been passed over, and n are left
   pub record Looking (q₀ n₀ q n : ℕ) : Type 0 where
@@ -172,7 +161,7 @@ module _ (l t : List ℕ) (isRecord : Bool) where
 
       kind-is : getD r 0 0 ≡ getD t (9 * q) 0
       unfolding r
-      kind-is = cell q 0 (lit< tt) ∙ ap (λ (m : ℕ). getD t m 0) (add-zero (9 * q))
+      kind-is = row-cell t (9 * q) 0 (lit< tt) ∙ ap (λ (m : ℕ). getD t m 0) (add-zero (9 * q))
 
       pub look-on : (getD t (9 * q) 0 ≡ kindOf isRecord → ⊥) → Looking q₀ n₀ (q + 1) (n - 1)
       unfolding seqsIn r
@@ -180,7 +169,7 @@ module _ (l t : List ℕ) (isRecord : Bool) where
           let m : 9 * q + 9 ≡ 9 * (q + 1) = omega arith in
           record {
             inside = omega (arith, v .inside);
-            same = v .same ∙ rw (rows-step q n more, ne-eqb (getD r 0 0) (column isRecord 10 13) (λ e. ne (sym kind-is ∙ e)), m);
+            same = v .same ∙ rw (rows-step t (9 * q) n more, ne-eqb (getD r 0 0) (column isRecord 10 13) (λ e. ne (sym kind-is ∙ e)), m);
           }
 
       count : ℕ
@@ -191,21 +180,17 @@ module _ (l t : List ℕ) (isRecord : Bool) where
 
       count-is : rowCount isRecord r ≡ count
       unfolding rowCount r count
-      count-is = ap (λ (x : ℕ). x % 65536) (cell q (column isRecord 6 4) (low isRecord 6 4 (lit< tt) (lit< tt)))
+      count-is = ap (λ (x : ℕ). x % 65536) (row-cell t (9 * q) (column isRecord 6 4) (low isRecord 6 4 (lit< tt) (lit< tt)))
 
       seq-is : rowSeq isRecord r rs ≡ itemSeq l t item
       unfolding rowSeq rowItem entriesOf item count rs r
       seq-is =
           rw (count-is)
-          (seq-eq (ap (λ (x : ℕ). x % 65536) (cell q (column isRecord 3 8) (low isRecord 3 8 (lit< tt) (lit< tt))))
-          (ap (λ (x : ℕ). x % 65536) (cell q (column isRecord 5 3) (low isRecord 5 3 (lit< tt) (lit< tt))))
+          (seq-eq (ap (λ (x : ℕ). cond isRecord (x % 65536) 0) (row-cell t (9 * q) 3 (lit< tt)))
+          (ap (λ (x : ℕ). x % 65536) (row-cell t (9 * q) (column isRecord 5 3) (low isRecord 5 3 (lit< tt) (lit< tt))))
           names-is
           (rows-heads l t count (n - 1) (9 * q + 9)))
         where
-          seq-eq : {a a′ b b′ m m′ : ℕ} {es es′ : List (List ℕ)} → a ≡ a′ → b ≡ b′ → m ≡ m′ → es ≡ es′
-              → _≡_ {A = Seq} (record { rtype = a; base = b; names = m; entries = es }) (record { rtype = a′; base = b′; names = m′; entries = es′ })
-          seq-eq p1 p2 p3 p4 = rw (p1, p2, p3, p4)
-
           names-is : length (take count (drop count rs)) ≡ min count (n - 1 - min count (n - 1))
           names-is = simp (length-take, length-drop, rows-length) (omega arith)
 
@@ -226,7 +211,7 @@ module _ (l t : List ℕ) (isRecord : Bool) where
           ∙ ap (seqsIn isRecord 0) (rows-drop (item .entries .count + item .names) (n - 1) (drop (9 * q + 9) t) used-few
           ∙ ap₂ rowsOf d (drop-drop (9 * (item .entries .count + item .names)) (9 * q + 9) t ∙ ap (λ (m : ℕ). drop m t) b)))
 
-      room-is : length t < 18446744073709551616 → Room l t (item .entries)
+      room-is : length t < 18446744073709551616 → InSlice l t (item .entries)
       unfolding item rowItem
       room-is small = record { least = lit≤ tt; inside = omega (arith, v .inside); small = omega (arith, v .inside) }
 
@@ -237,7 +222,7 @@ module _ (l t : List ℕ) (isRecord : Bool) where
       step-is : getD t (9 * q) 0 ≡ kindOf isRecord → length t < 18446744073709551616 → R q n ≡ itemSeq l t item ∷ R (q + (1 + used)) (n - (1 + used))
       unfolding r rs
       step-is k small =
-          ap (seqsIn isRecord 0) (rows-step q n more)
+          ap (seqsIn isRecord 0) (rows-step t (9 * q) n more)
           ∙ seqs-hit isRecord r rs (itemSeq l t item) (kind-is ∙ k) seq-is
           ∙ ap (λ (qs : List Seq). itemSeq l t item ∷ qs) (rest-is small)
 

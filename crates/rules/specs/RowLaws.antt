@@ -2,48 +2,25 @@
 use Prim.Native.Nat.{ℕ, zero, suc, _+_, _*_, _/_, _%_, _≤_, _<_}
 use native.Mathlib.Nat.{zero-add, mod-eq-of-lt}
 use native.Mathlib.Omega.{arith}
-use mathlib.Core.Path.{_≡_, refl, sym, ap, ap₂, _∙_, subst}
+use mathlib.Core.Path.{_≡_, refl, sym, ap, ap₂, _∙_}
 use mathlib.Core.Bool.{Bool, true, false, cond}
 use mathlib.Core.List.{List, [], _∷_, _++_, map, append-assoc, append-nil}
-use lib.ListN.{length, getD, take, drop, length-append}
+use lib.ListN.{length, getD, length-append, length-map}
 use lib.Seq.{take-at, drop-at, take-all}
-use lib.Dec.{eqb, ltb}
+use lib.Dec.{eqb}
 use borrow.Author.Tests.{eq-eqb, ne-eqb, le-ltb}
 use Rattle.codec.specs.Codec.{Bytes}
 use Rattle.table.specs.Out.{flat, allRows}
-use Rattle.wire.specs.Formats.{Name}
 use Rattle.table.specs.TableLaws.{Wide, wide-append, wide-map, wide-all}
-use Rattle.layout.specs.Layout.{Entry, Fields, RecordL, StructL, Label, LabelDef, Parts, toLayout}
+use Rattle.layout.specs.Layout.{Entry, Fields, RecordL, StructL, LabelDef, Parts, toLayout}
 use Rattle.layout.specs.Rows.{headRow, entryRow, nameRow, fieldRows, recordRows, structRows, labelRow, labelDefRows, rows}
 use Rattle.entry.specs.Entry.{rowBytes}
 use Rattle.entry.specs.EntryLaws.{numbers-bytes}
-use Rattle.rules.specs.Rules.{Seq, seqOf, structSeq, recordSeq, seqsFault, rulesOf}
+use Rattle.rules.specs.Rules.{Seq, seqOf, structSeq, recordSeq, rulesOf}
+use Rattle.rules.specs.RuleLaws.{seq-eq}
+use Rattle.rules.specs.RowFit.{AllOf, FitFields, FitRecord, FitStruct, FitParts}
 use Rattle.rules.specs.RowRules.{column, rowsOf, rowCount, rowSeq, seqsIn, kindRows, rowsRules}
 use Rattle.layout.specs.Standing.{bytes-11, rows-parts}
-
-abbrev pub AllOf : {A : Type 0} → (A → Type 0) → List A → Type 0
-AllOf P [] = Unit {0}
-AllOf P (x ∷ xs) = P x × AllOf P xs
-
--- what rows can show: fields and names are equal in number, a count fits a u16, and an entry is eleven bytes
-pub record FitFields (f : Fields) : Type 0 where
-  pub few : length (f .entries) < 65536
-  pub even : length (f .names) ≡ length (f .entries)
-  pub heads : AllOf (λ (e : Entry). (length (e .head) ≡ 11) × Bytes (e .head)) (f .entries)
-
-pub record FitRecord (r : RecordL) : Type 0 where
-  pub rtype : r .rtype < 65536
-  pub base : r .base < 65536
-  pub fields : FitFields (r .fields)
-
-pub record FitStruct (s : StructL) : Type 0 where
-  pub size : s .size < 65536
-  pub fields : FitFields (s .fields)
-
-pub record FitParts (t : Parts) : Type 0 where
-  pub records : AllOf FitRecord (t .1 .0)
-  pub structs : AllOf FitStruct (t .1 .1 .0)
-  pub few : length (t .1 .1 .0) < 65536
 
 -- ---- rows of nine
 
@@ -73,10 +50,6 @@ head-back h n b = numbers-bytes h b 11 0 ∙ bytes-11 h 0 (omega arith) ∙ take
 heads-back : (es : List Entry) → AllOf (λ (e : Entry). (length (e .head) ≡ 11) × Bytes (e .head)) es → map (λ (r : List ℕ). rowBytes r 0) (map entryRow es) ≡ map (λ e. e .head) es
 heads-back [] v = refl
 heads-back (e ∷ es) v = ap₂ _∷_ (head-back (e .head) (v .0 .0) (v .0 .1)) (heads-back es (v .1))
-
-map-length : {A B : Type 0} (f : A → B) (xs : List A) → length (map f xs) ≡ length xs
-map-length f [] = refl
-map-length f (x ∷ xs) = ap suc (map-length f xs)
 
 -- ---- rows passed over
 
@@ -130,13 +103,9 @@ unfolding seqsIn Other
 seqs-pass isRecord [] b v = refl
 seqs-pass isRecord (r ∷ a) b v = rw (ne-eqb (getD r 0 0) (column isRecord 10 13) (v .0)) (seqs-pass isRecord a b (v .1))
 
-seq-eq : {a a′ b b′ m m′ : ℕ} {es es′ : List (List ℕ)} → a ≡ a′ → b ≡ b′ → m ≡ m′ → es ≡ es′
-    → _≡_ {A = Seq} (record { rtype = a; base = b; names = m; entries = es }) (record { rtype = a′; base = b′; names = m′; entries = es′ })
-seq-eq p1 p2 p3 p4 = rw (p1, p2, p3, p4)
-
 -- the rows of one sequence, and the rows after them
-module _ (isRecord : Bool) (r : List ℕ) (f : Fields) (v : FitFields f) (rtype base : ℕ) (rest : List (List ℕ)) (kind : getD r 0 0 ≡ column isRecord 10 13)
-    (count : getD r (column isRecord 6 4) 0 ≡ length (f .entries)) (a : getD r (column isRecord 3 8) 0 % 65536 ≡ rtype) (b : getD r (column isRecord 5 3) 0 % 65536 ≡ base) where
+module _ (isRecord : Bool) (r : List ℕ) (f : Fields) (v : FitFields f) (rtype base : ℕ) (kind : getD r 0 0 ≡ column isRecord 10 13)
+    (count : getD r (column isRecord 6 4) 0 ≡ length (f .entries)) (a : cond isRecord (getD r 3 0 % 65536) 0 ≡ rtype) (b : getD r (column isRecord 5 3) 0 % 65536 ≡ base) (rest : List (List ℕ)) where
   abbrev E : List (List ℕ)
   E = map entryRow (f .entries)
 
@@ -153,32 +122,33 @@ module _ (isRecord : Bool) (r : List ℕ) (f : Fields) (v : FitFields f) (rtype 
   seq-is : rowSeq isRecord r after ≡ seqOf rtype base f
   unfolding rowSeq
   seq-is =
-      let l : length E ≡ length (f .entries) = map-length entryRow (f .entries) in
-      let m : length N ≡ length (f .entries) = map-length nameRow (f .names) ∙ v .even in
+      let l : length E ≡ length (f .entries) = length-map (f .entries) entryRow in
+      let m : length N ≡ length (f .entries) = length-map (f .names) nameRow ∙ v .even in
       rw (count-is, take-at E (N ++ rest) (length (f .entries)) l, drop-at E (N ++ rest) (length (f .entries)) l, take-at N rest (length (f .entries)) m)
-      (seq-eq a b (map-length nameRow (f .names)) (heads-back (f .entries) (v .heads)))
+      (seq-eq a b (length-map (f .names) nameRow) (heads-back (f .entries) (v .heads)))
 
   pub one-seq : seqsIn isRecord 0 (r ∷ (fieldRows f ++ rest)) ≡ seqOf rtype base f ∷ seqsIn isRecord 0 rest
   unfolding seqsIn
   one-seq =
       let n : length (map (λ (e : Entry). e .head) (f .entries)) + length (f .names) ≡ length (E ++ N) =
-      ap₂ _+_ (map-length (λ (e : Entry). e .head) (f .entries) ∙ sym (map-length entryRow (f .entries))) (sym (map-length nameRow (f .names))) ∙ sym (length-append E N) in
+      ap₂ _+_ (length-map (f .entries) (λ (e : Entry). e .head) ∙ sym (length-map (f .entries) entryRow)) (sym (length-map (f .names) nameRow)) ∙ sym (length-append E N) in
       rw (append-assoc E N rest, eq-eqb (getD r 0 0) (column isRecord 10 13) kind, seq-is)
       (ap (λ (qs : List Seq). seqOf rtype base f ∷ qs) (rw (← append-assoc E N rest) (seqs-past isRecord (E ++ N) rest _ (sym n))))
 
+-- the records, or the structs, one after the other
+seqs-of : {A : Type 0} (isRecord : Bool) (Fit : A → Type 0) (f : A → List (List ℕ)) (g : A → Seq)
+    → ((x : A) → Fit x → (rest : List (List ℕ)) → seqsIn isRecord 0 (f x ++ rest) ≡ g x ∷ seqsIn isRecord 0 rest)
+    → (xs : List A) → AllOf Fit xs → (rest : List (List ℕ)) → seqsIn isRecord 0 (allRows f xs ++ rest) ≡ map g xs ++ seqsIn isRecord 0 rest
+seqs-of isRecord Fit f g one [] v rest = refl
+seqs-of isRecord Fit f g one (x ∷ xs) v rest =
+    rw (append-assoc (f x) (allRows f xs) rest)
+    (one x (v .0) (allRows f xs ++ rest) ∙ ap (λ (qs : List Seq). g x ∷ qs) (seqs-of isRecord Fit f g one xs (v .1) rest))
+
 records-in : (xs : List RecordL) → AllOf FitRecord xs → (rest : List (List ℕ)) → seqsIn true 0 (allRows recordRows xs ++ rest) ≡ map recordSeq xs ++ seqsIn true 0 rest
-records-in [] v rest = refl
-records-in (x ∷ xs) v rest =
-    rw (append-assoc (recordRows x) (allRows recordRows xs) rest)
-    (one-seq true _ (x .fields) (v .0 .fields) (x .rtype) (x .base) (allRows recordRows xs ++ rest) refl refl (mod-eq-of-lt (v .0 .rtype)) (mod-eq-of-lt (v .0 .base))
-    ∙ ap (λ (qs : List Seq). recordSeq x ∷ qs) (records-in xs (v .1) rest))
+records-in = seqs-of true FitRecord recordRows recordSeq (λ x v rest. one-seq true _ (x .fields) (v .fields) (x .rtype) (x .base) refl refl (mod-eq-of-lt (v .rtype)) (mod-eq-of-lt (v .base)) rest)
 
 structs-in : (xs : List StructL) → AllOf FitStruct xs → (rest : List (List ℕ)) → seqsIn false 0 (allRows structRows xs ++ rest) ≡ map structSeq xs ++ seqsIn false 0 rest
-structs-in [] v rest = refl
-structs-in (x ∷ xs) v rest =
-    rw (append-assoc (structRows x) (allRows structRows xs) rest)
-    (one-seq false _ (x .fields) (v .0 .fields) 0 (x .size) (allRows structRows xs ++ rest) refl refl refl (mod-eq-of-lt (v .0 .size))
-    ∙ ap (λ (qs : List Seq). structSeq x ∷ qs) (structs-in xs (v .1) rest))
+structs-in = seqs-of false FitStruct structRows structSeq (λ x v rest. one-seq false _ (x .fields) (v .fields) 0 (x .size) refl refl refl (mod-eq-of-lt (v .size)) rest)
 
 -- ---- label defs
 
@@ -248,7 +218,7 @@ module _ (t : Parts) (v : FitParts t) where
   rules-are : (sheet : List ℕ) (w : ℕ) → rowsRules sheet w (flat (rows (toLayout (t, [])))) ≡ rulesOf sheet w t
   unfolding rowsRules rulesOf
   rules-are sheet w =
-      let n : length (map structSeq (t .1 .1 .0)) ≤ 65535 = let l = map-length structSeq (t .1 .1 .0) in omega (arith, v .few) in
+      let n : length (map structSeq (t .1 .1 .0)) ≤ 65535 = let l = length-map (t .1 .1 .0) structSeq in omega (arith, v .few) in
       rw (all-rows, the-structs, the-records, the-labels, le-ltb 65535 (length (map structSeq (t .1 .1 .0))) n)
 
 -- the rules over the rows of a layout are its rules

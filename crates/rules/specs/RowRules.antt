@@ -1,13 +1,12 @@
 -- The rules over a table of rows: what the writer is given before it has bytes. Any table of u32 is read.
 -- Assumes nothing.
 use Prim.Native.Nat.{ℕ, zero, suc, _+_, _/_, _%_}
-use mathlib.Core.Path.{_≡_, refl}
 use mathlib.Core.Bool.{Bool, true, false, cond}
 use mathlib.Core.List.{List, [], _∷_, map}
 use lib.ListN.{length, getD, take, drop}
 use lib.Dec.{ltb, eqb}
 use Rattle.entry.specs.Entry.{rowBytes}
-use Rattle.fields.specs.Field.{refuse}
+use Rattle.fields.specs.Field.{faultIf}
 use Rattle.rules.specs.Rules.{Seq, seqsFault}
 
 -- n rows of nine numbers, from the front
@@ -16,7 +15,7 @@ rowsOf zero t = []
 rowsOf (suc n) t = take 9 t ∷ rowsOf n (drop 9 t)
 
 -- a record's column, or a struct's: 10 record (name start, length, rtype, schema, base, field count, ..), 13 struct (start, length,
--- size, field count), whose last column is 0
+-- size, field count, ..)
 abbrev pub column : Bool → ℕ → ℕ → ℕ
 column isRecord r s = cond isRecord r s
 
@@ -24,10 +23,10 @@ module _ (isRecord : Bool) where
   unfoldable pub rowCount : List ℕ → ℕ
   rowCount r = getD r (column isRecord 6 4) 0 % 65536
 
-  -- a row with the rows after it: its entries are the next count rows, its names the count rows after them, as far as there are rows
+  -- a row with the rows after it: a struct has rtype 0; its entries are the next count rows, its names the count rows after them, as far as there are rows
   unfoldable pub rowSeq : List ℕ → List (List ℕ) → Seq
   rowSeq r rs = record {
-    rtype = getD r (column isRecord 3 8) 0 % 65536;
+    rtype = cond isRecord (getD r 3 0 % 65536) 0;
     base = getD r (column isRecord 5 3) 0 % 65536;
     names = length (take (rowCount r) (drop (rowCount r) rs));
     entries = map (λ (e : List ℕ). rowBytes e 0) (take (rowCount r) rs);
@@ -52,4 +51,4 @@ unfoldable pub rowsRules : List ℕ → ℕ → List ℕ → ℕ
 rowsRules sheet width t =
     let rs = rowsOf (length t / 9) t in
     let structs = seqsIn false 0 rs in
-    refuse (ltb 65535 (length structs)) 91 (seqsFault sheet width structs (seqsIn true 0 rs) (kindRows 14 rs))
+    faultIf (ltb 65535 (length structs)) 91 (seqsFault sheet width structs (seqsIn true 0 rs) (kindRows 14 rs))

@@ -1,19 +1,16 @@
 -- The rules of a layout, numbers 60 to 83 of document 01: 0 where all hold, else the number of the first that does not.
 -- They hold for any type sheet and any symbol width.
 -- Assumes nothing.
-use Prim.Native.Nat.{ℕ, zero, suc, _+_, _%_, max}
-use mathlib.Core.Path.{_≡_, refl}
+use Prim.Native.Nat.{ℕ, _%_, max}
 use mathlib.Core.Bool.{Bool, true, false, not, cond}
 use mathlib.Core.List.{List, [], _∷_, map}
 use lib.ListN.{length, getD}
 use lib.Dec.{ltb, eqb}
 use Rattle.codec.specs.Codec.{Res, ok, _>>=_, need, among}
-use Rattle.text.specs.Utf8.{utf8}
-use Rattle.layout.specs.Layout.{Fields, RecordL, StructL, Layout, Parts, fromLayout, parts}
-use Rattle.layout.specs.Standing.{structs-bare, records-bare, labels-bare}
-use Rattle.layout.specs.Given.{D, layoutOf}
+use Rattle.layout.specs.Layout.{Fields, RecordL, StructL, Layout, Parts, fromLayout}
+use Rattle.layout.specs.Given.{layoutOf}
 use Rattle.fields.specs.Sheet.{idOf, offOf, endOf, isPadding, pastBase, memberAlign}
-use Rattle.fields.specs.Field.{refuse, differs, fieldFault}
+use Rattle.fields.specs.Field.{faultIf, differs, fieldFault}
 use Rattle.plain_tiling.specs.Tile.{Span, sorted, walk}
 
 -- the first of two verdicts that is a refusal
@@ -75,20 +72,20 @@ module _ (sheet : List ℕ) (width labels : ℕ) (aligns : List ℕ) where
   -- 70, then the fields one by one, then 81 to 83
   unfoldable pub seqFault : Bool → Seq → ℕ
   seqFault isRecord q =
-      refuse (not (eqb (q .names) (length (q .entries)))) 70
+      faultIf (not (eqb (q .names) (length (q .entries)))) 70
       (first (fieldsFault isRecord (q .base) [] (q .entries)) (tilingFault isRecord (q .base) (q .entries)))
 
   -- 60: the size is no multiple of the alignment
   unfoldable pub structFault : Seq → ℕ
-  structFault q = refuse (not (eqb (q .base % structAlign sheet (q .entries)) 0)) 60 (seqFault false q)
+  structFault q = faultIf (not (eqb (q .base % structAlign sheet (q .entries)) 0)) 60 (seqFault false q)
 
   -- 61: rtype twice; 62: its low byte is 4E; 63: base below header; 64: base not of 8
   unfoldable pub recordFault : Bool → Seq → ℕ
   recordFault twice q =
-      refuse twice 61
-      (refuse (eqb (q .rtype % 256) 78) 62
-      (refuse (ltb (q .base) (getD sheet 518 0)) 63
-      (refuse (not (eqb (q .base % 8) 0)) 64 (seqFault true q))))
+      faultIf twice 61
+      (faultIf (eqb (q .rtype % 256) 78) 62
+      (faultIf (ltb (q .base) (getD sheet 518 0)) 63
+      (faultIf (not (eqb (q .base % 8) 0)) 64 (seqFault true q))))
 
   -- in table order
   unfoldable pub structsFault : List Seq → ℕ
@@ -130,18 +127,3 @@ ruledOf sheet width s =
     layoutOf s >>= λ t j.
     need (eqb 0 (rulesOf sheet width (fromLayout t .0))) (rulesOf sheet width (fromLayout t .0)) j >>= λ _ j.
     ok t j
-
--- a layout with a fault is refused by its number
-pub ruled-is : (sheet : List ℕ) (width : ℕ) (s : List ℕ) → ruledOf sheet width s
-    ≡ (layoutOf s >>= λ t j. need (eqb 0 (rulesOf sheet width (fromLayout t .0))) (rulesOf sheet width (fromLayout t .0)) j >>= λ _ j. ok t j)
-unfolding ruledOf
-ruled-is sheet width s = refl
-
--- ---- the rules see no start and no skipped byte
-
-seq : ℕ → ℕ → ℕ → List (List ℕ) → Seq
-seq rtype base names es = record { rtype = rtype; base = base; names = names; entries = es }
-
-pub rules-blind : (sheet : List ℕ) (w : ℕ) (x : Parts) → rulesOf sheet w (parts utf8 D .codec .bare x) ≡ rulesOf sheet w x
-unfolding rulesOf seq
-rules-blind sheet w x = rw (structs-bare seq x, records-bare seq x, labels-bare x)

@@ -2,11 +2,11 @@
 use crate::Source;
 ghost use mathlib.Core.Path.{_≡_};
 ghost use Prim.Native.Nat.{_+_, _*_, _<_};
-ghost use Rattle.rules.specs.Entries.{entryOf, restOf, Room};
+ghost use Rattle.rules.specs.Entries.{entryOf, restOf, InSlice};
 
 // The first entry of a source that has one.
 pub(crate) fn entry_at(layout: &[u8], rows: &[u32], src: Source) -> [u8; 11]
-    requires { ⌜ Room (now layout) (now rows) src ⌝ }
+    requires { ⌜ InSlice (now layout) (now rows) src ⌝ }
     requires { ⌜ 0 < src .count ⌝ }
     ensures { λ r. ⌜ r ≡ entryOf (now (layout .entry)) (now (rows .entry)) src ⌝ }
 {

@@ -15,10 +15,11 @@ ghost use Prim.Native.Nat.{_<_, _≤_};
 ghost use lib.ListN.{length};
 ghost use Rattle.marks.specs.Marks.{Marks};
 ghost use Rattle.rules.specs.Rules.{structFault, recordFault, structsFault, recordsFault, alignsOf};
-ghost use Rattle.rules.specs.Told.{Told, Unowned};
-ghost use Rattle.rules.specs.Entries.{Room};
-ghost use Rattle.rules.specs.Sequence.{Clean};
-ghost use Rattle.rules.specs.Walk.{itemSeq, seqsFrom, Good, Ready, taskFault};
+ghost use Rattle.plain_tiling.specs.Places.{Unowned};
+ghost use Rattle.rules.specs.Tried.{Tried};
+ghost use Rattle.rules.specs.Entries.{InSlice};
+ghost use Rattle.rules.specs.Ids.{Clean};
+ghost use Rattle.rules.specs.Items.{itemSeq, seqsFrom, Good, Ready, taskFault};
 
 fn wide(x: u16) -> usize
     ensures { λ r. ⌜ r ≡ x ⌝ }
@@ -77,11 +78,11 @@ fn struct_fault(
     marks: &mut [u64; 1024],
     owners: &mut [u16],
 ) -> u32
-    requires { ⌜ Room (now layout) (now rows) (item .entries) ⌝ }
+    requires { ⌜ InSlice (now layout) (now rows) (item .entries) ⌝ }
     requires { ⌜ Marks (now marks) [] ⌝ }
     requires { ⌜ item .base < 65536 ⌝ }
     requires { ⌜ Unowned (now owners) ⌝ }
-    ensures { λ r. ⌜ Told (now (owners .entry)) (structFault (now (sheet .entry)) (task .width) (task .labels) (now (aligns .entry)) (itemSeq (now (layout .entry)) (now (rows .entry)) item)) r ⌝ }
+    ensures { λ r. ⌜ Tried (now (owners .entry)) (structFault (now (sheet .entry)) (task .width) (task .labels) (now (aligns .entry)) (itemSeq (now (layout .entry)) (now (rows .entry)) item)) r ⌝ }
     ensures { λ r. ⌜ Clean r (now (marks .exit)) ⌝ }
     ensures { λ _. ⌜ now (owners .exit) ≡ now (owners .entry) ⌝ }
 {
@@ -91,13 +92,23 @@ fn struct_fault(
         return refusal::STRUCT_SIZE;
     }
     let f = Frame {
-        open: false,
+        is_record: false,
         base: item.base,
         width: task.width,
         labels: task.labels,
     };
-    let plain = task.plain;
-    seq_fault(sheet, aligns, layout, rows, item, f, marks, plain, owners)
+    let by_marks = task.by_marks;
+    seq_fault(
+        sheet,
+        aligns,
+        layout,
+        rows,
+        item,
+        f,
+        marks,
+        by_marks,
+        owners,
+    )
 }
 
 // The first of numbers 61 to 64 and 70 to 83 that a record gives, or 0; `twice` says that its rtype came before.
@@ -112,11 +123,11 @@ fn record_fault(
     marks: &mut [u64; 1024],
     owners: &mut [u16],
 ) -> u32
-    requires { ⌜ Room (now layout) (now rows) (item .entries) ⌝ }
+    requires { ⌜ InSlice (now layout) (now rows) (item .entries) ⌝ }
     requires { ⌜ Marks (now marks) [] ⌝ }
     requires { ⌜ item .base < 65536 ⌝ }
     requires { ⌜ Unowned (now owners) ⌝ }
-    ensures { λ r. ⌜ Told (now (owners .entry)) (recordFault (now (sheet .entry)) (task .width) (task .labels) (now (aligns .entry)) twice (itemSeq (now (layout .entry)) (now (rows .entry)) item)) r ⌝ }
+    ensures { λ r. ⌜ Tried (now (owners .entry)) (recordFault (now (sheet .entry)) (task .width) (task .labels) (now (aligns .entry)) twice (itemSeq (now (layout .entry)) (now (rows .entry)) item)) r ⌝ }
     ensures { λ r. ⌜ Clean r (now (marks .exit)) ⌝ }
     ensures { λ _. ⌜ now (owners .exit) ≡ now (owners .entry) ⌝ }
 {
@@ -133,13 +144,23 @@ fn record_fault(
         return refusal::BASE_NOT_OF_8;
     }
     let f = Frame {
-        open: true,
+        is_record: true,
         base: item.base,
         width: task.width,
         labels: task.labels,
     };
-    let plain = task.plain;
-    seq_fault(sheet, aligns, layout, rows, item, f, marks, plain, owners)
+    let by_marks = task.by_marks;
+    seq_fault(
+        sheet,
+        aligns,
+        layout,
+        rows,
+        item,
+        f,
+        marks,
+        by_marks,
+        owners,
+    )
 }
 
 // The first number that a struct gives, in table order, or 0.
@@ -155,7 +176,7 @@ fn structs_fault(
     requires { ⌜ Good (now layout) (now rows) false (task .structs) ⌝ }
     requires { ⌜ Marks (now marks) [] ⌝ }
     requires { ⌜ Unowned (now owners) ⌝ }
-    ensures { λ r. ⌜ Told (now (owners .entry)) (structsFault (now (sheet .entry)) (task .width) (task .labels) (now (aligns .entry)) (seqsFrom (now (layout .entry)) (now (rows .entry)) false (task .structs))) r ⌝ }
+    ensures { λ r. ⌜ Tried (now (owners .entry)) (structsFault (now (sheet .entry)) (task .width) (task .labels) (now (aligns .entry)) (seqsFrom (now (layout .entry)) (now (rows .entry)) false (task .structs))) r ⌝ }
     ensures { λ r. ⌜ Clean r (now (marks .exit)) ⌝ }
     ensures { λ _. ⌜ now (owners .exit) ≡ now (owners .entry) ⌝ }
 {
@@ -187,7 +208,7 @@ fn records_fault(
     requires { ⌜ Good (now layout) (now rows) true (task .records) ⌝ }
     requires { ⌜ Marks (now marks) [] ⌝ }
     requires { ⌜ Unowned (now owners) ⌝ }
-    ensures { λ r. ⌜ Told (now (owners .entry)) (recordsFault (now (sheet .entry)) (task .width) (task .labels) (now (aligns .entry)) [] (seqsFrom (now (layout .entry)) (now (rows .entry)) true (task .records))) r ⌝ }
+    ensures { λ r. ⌜ Tried (now (owners .entry)) (recordsFault (now (sheet .entry)) (task .width) (task .labels) (now (aligns .entry)) [] (seqsFrom (now (layout .entry)) (now (rows .entry)) true (task .records))) r ⌝ }
 {
     let mut rtypes = [0u64; 1024];
     let mut p = task.records;
@@ -221,7 +242,7 @@ fn rules_in(
     requires { ⌜ Good (now layout) (now rows) true (task .records) ⌝ }
     requires { ⌜ length (now aligns) ≡ length (seqsFrom (now layout) (now rows) false (task .structs)) ⌝ }
     requires { ⌜ Unowned (now owners) ⌝ }
-    ensures { λ r. ⌜ Told (now (owners .entry)) (taskFault (now (sheet .entry)) (now (layout .entry)) (now (rows .entry)) task) r ⌝ }
+    ensures { λ r. ⌜ Tried (now (owners .entry)) (taskFault (now (sheet .entry)) (now (layout .entry)) (now (rows .entry)) task) r ⌝ }
 {
     fill_aligns(sheet, layout, rows, task.structs, aligns);
     let mut marks = [0u64; 1024];
@@ -244,7 +265,7 @@ fn rules_by(
     requires { ⌜ Ready (now layout) (now rows) (task .structs) (task .n) (task .records) ⌝ }
     requires { ⌜ task .n ≤ length (now table) ⌝ }
     requires { ⌜ Unowned (now owners) ⌝ }
-    ensures { λ r. ⌜ Told (now (owners .entry)) (taskFault (now (sheet .entry)) (now (layout .entry)) (now (rows .entry)) task) r ⌝ }
+    ensures { λ r. ⌜ Tried (now (owners .entry)) (taskFault (now (sheet .entry)) (now (layout .entry)) (now (rows .entry)) task) r ⌝ }
 {
     let n = task.n;
     rules_in(sheet, layout, rows, task, &mut table[..n], owners)
@@ -254,7 +275,7 @@ fn rules_64(sheet: &[u16; 520], layout: &[u8], rows: &[u32], task: Task, owners:
     requires { ⌜ Ready (now layout) (now rows) (task .structs) (task .n) (task .records) ⌝ }
     requires { ⌜ task .n ≤ 64 ⌝ }
     requires { ⌜ Unowned (now owners) ⌝ }
-    ensures { λ r. ⌜ Told (now (owners .entry)) (taskFault (now (sheet .entry)) (now (layout .entry)) (now (rows .entry)) task) r ⌝ }
+    ensures { λ r. ⌜ Tried (now (owners .entry)) (taskFault (now (sheet .entry)) (now (layout .entry)) (now (rows .entry)) task) r ⌝ }
 {
     let mut table = [0u16; 64];
     rules_by(sheet, layout, rows, task, &mut table, owners)
@@ -271,7 +292,7 @@ fn rules_4096(
     requires { ⌜ Ready (now layout) (now rows) (task .structs) (task .n) (task .records) ⌝ }
     requires { ⌜ task .n ≤ 4096 ⌝ }
     requires { ⌜ Unowned (now owners) ⌝ }
-    ensures { λ r. ⌜ Told (now (owners .entry)) (taskFault (now (sheet .entry)) (now (layout .entry)) (now (rows .entry)) task) r ⌝ }
+    ensures { λ r. ⌜ Tried (now (owners .entry)) (taskFault (now (sheet .entry)) (now (layout .entry)) (now (rows .entry)) task) r ⌝ }
 {
     let mut table = [0u16; 4096];
     rules_by(sheet, layout, rows, task, &mut table, owners)
@@ -288,56 +309,82 @@ fn rules_65535(
     requires { ⌜ Ready (now layout) (now rows) (task .structs) (task .n) (task .records) ⌝ }
     requires { ⌜ task .n ≤ 65535 ⌝ }
     requires { ⌜ Unowned (now owners) ⌝ }
-    ensures { λ r. ⌜ Told (now (owners .entry)) (taskFault (now (sheet .entry)) (now (layout .entry)) (now (rows .entry)) task) r ⌝ }
+    ensures { λ r. ⌜ Tried (now (owners .entry)) (taskFault (now (sheet .entry)) (now (layout .entry)) (now (rows .entry)) task) r ⌝ }
 {
     let mut table = [0u16; 65535];
     rules_by(sheet, layout, rows, task, &mut table, owners)
 }
 
-// The rules by search alone, or that it gave up. The table for the alignments is no larger than it must be, since it is cleared
-// first: here and below.
+// The rules of at most 4,096 structs. The table for the alignments is no larger than it must be, since it is cleared first.
+fn rules_few(sheet: &[u16; 520], layout: &[u8], rows: &[u32], task: Task, owners: &mut [u16]) -> u32
+    requires { ⌜ Ready (now layout) (now rows) (task .structs) (task .n) (task .records) ⌝ }
+    requires { ⌜ task .n ≤ 4096 ⌝ }
+    requires { ⌜ Unowned (now owners) ⌝ }
+    ensures { λ r. ⌜ Tried (now (owners .entry)) (taskFault (now (sheet .entry)) (now (layout .entry)) (now (rows .entry)) task) r ⌝ }
+{
+    if task.n <= 64 {
+        return rules_64(sheet, layout, rows, task, owners);
+    }
+    rules_4096(sheet, layout, rows, task, owners)
+}
+
+// The rules by search alone, or that it gave up.
 fn rules_searched(sheet: &[u16; 520], layout: &[u8], rows: &[u32], task: Task) -> u32
     requires { ⌜ Ready (now layout) (now rows) (task .structs) (task .n) (task .records) ⌝ }
     requires { ⌜ task .n ≤ 4096 ⌝ }
-    ensures { λ r. ⌜ Told [] (taskFault (now (sheet .entry)) (now (layout .entry)) (now (rows .entry)) task) r ⌝ }
+    ensures { λ r. ⌜ Tried [] (taskFault (now (sheet .entry)) (now (layout .entry)) (now (rows .entry)) task) r ⌝ }
 {
     let mut none = [0u16; 0];
-    if task.n <= 64 {
-        return rules_64(sheet, layout, rows, task, &mut none);
-    }
-    rules_4096(sheet, layout, rows, task, &mut none)
+    rules_few(sheet, layout, rows, task, &mut none)
 }
 
-// The rules with an owner for each place, which a record or a struct is marked with where the task is plain or its search gives
-// up. This is the only frame that holds the owners, 128 KiB; a table for 65,535 structs is as large again, in a frame of its own.
+// The rules with an owner for each of the first 8,192 places, or that a record or a struct reaches past them. They are 16 KiB,
+// in a frame of their own.
+fn rules_near(sheet: &[u16; 520], layout: &[u8], rows: &[u32], task: Task) -> u32
+    requires { ⌜ Ready (now layout) (now rows) (task .structs) (task .n) (task .records) ⌝ }
+    requires { ⌜ task .n ≤ 4096 ⌝ }
+    ensures { λ r. ⌜ Tried [] (taskFault (now (sheet .entry)) (now (layout .entry)) (now (rows .entry)) task) r ⌝ }
+{
+    let mut owners = [0u16; 8192];
+    rules_few(sheet, layout, rows, task, &mut owners)
+}
+
+// A first try, without the large frames: by marks where the task says so, else by search.
+fn rules_tried(sheet: &[u16; 520], layout: &[u8], rows: &[u32], task: Task) -> u32
+    requires { ⌜ Ready (now layout) (now rows) (task .structs) (task .n) (task .records) ⌝ }
+    requires { ⌜ task .n ≤ 4096 ⌝ }
+    ensures { λ r. ⌜ Tried [] (taskFault (now (sheet .entry)) (now (layout .entry)) (now (rows .entry)) task) r ⌝ }
+{
+    if task.by_marks {
+        return rules_near(sheet, layout, rows, task);
+    }
+    rules_searched(sheet, layout, rows, task)
+}
+
+// The rules with an owner for each place, which a record or a struct is marked with where the task says so or its search gives
+// up. This is the only frame that holds them all, 128 KiB; a table for 65,535 structs is as large again, in a frame of its own.
 fn rules_marked(sheet: &[u16; 520], layout: &[u8], rows: &[u32], task: Task) -> u32
     requires { ⌜ Ready (now layout) (now rows) (task .structs) (task .n) (task .records) ⌝ }
     requires { ⌜ task .n ≤ 65535 ⌝ }
     ensures { λ r. ⌜ r ≡ (taskFault (now (sheet .entry)) (now (layout .entry)) (now (rows .entry)) task) ⌝ }
 {
     let mut owners = [0u16; 65536];
-    if task.n <= 64 {
-        return rules_64(sheet, layout, rows, task, &mut owners);
-    }
     if task.n <= 4096 {
-        return rules_4096(sheet, layout, rows, task, &mut owners);
+        return rules_few(sheet, layout, rows, task, &mut owners);
     }
     rules_65535(sheet, layout, rows, task, &mut owners)
 }
 
-// The rules of the structs and of the records. Where the task is plain all of 81 to 83 are found by marks; else by search, and
-// by marks only for a record or a struct whose search gives up. Other layouts pay nothing for the marks, nor for a table of
-// more than 4,096 structs.
+// The rules of the structs and of the records. Where the task says so all of 81 to 83 are found by marks; else by search, and
+// by marks only for a record or a struct whose search gives up. Layouts of up to 4,096 structs whose search gives an answer, or
+// whose records and structs end below place 8,192 where the task says so, pay nothing for the large frames.
 pub(crate) fn rules(sheet: &[u16; 520], layout: &[u8], rows: &[u32], task: Task) -> u32
     requires { ⌜ Ready (now layout) (now rows) (task .structs) (task .n) (task .records) ⌝ }
     requires { ⌜ task .n ≤ 65535 ⌝ }
     ensures { λ r. ⌜ r ≡ (taskFault (now (sheet .entry)) (now (layout .entry)) (now (rows .entry)) task) ⌝ }
 {
-    if task.plain {
-        return rules_marked(sheet, layout, rows, task);
-    }
     if task.n <= 4096 {
-        let v = rules_searched(sheet, layout, rows, task);
+        let v = rules_tried(sheet, layout, rows, task);
         if v != GAVE_UP {
             return v;
         }

@@ -7,16 +7,16 @@ ghost use lib.ListN.{length};
 ghost use Rattle.layout.specs.Answers.{verdict};
 ghost use Rattle.layout.specs.Given.{layoutOf};
 ghost use Rattle.rules.specs.Rules.{ruledOf};
-ghost use Rattle.rules.specs.Ruling.{passed, ruling};
+ghost use Rattle.rules.specs.Check.{asVerdict, ruling};
 ghost use Rattle.rules.specs.RowRules.{rowsOf, kindRows, rowsRules};
 ghost use Rattle.layout.specs.Standing.{skipTo};
-ghost use Rattle.rules.specs.Whole.{Accepted, Skips, rulesIn, isKind};
+ghost use Rattle.rules.specs.LayoutRules.{Accepted, Skips, rulesIn, isKind};
 
+mod by_marks;
+mod by_search;
 mod entries;
 mod items;
-mod plain;
 mod sequence;
-mod tile;
 mod walk;
 
 // The entries of one record or struct: whether they lie in the rows or in the layout's bytes, how far apart, where the
@@ -78,7 +78,7 @@ pub struct Task {
     pub records: Place,
     pub width: usize,
     pub labels: usize,
-    pub plain: bool,
+    pub by_marks: bool,
 }
 
 // The next record or struct, and what comes after it.
@@ -87,12 +87,12 @@ pub enum Next {
     End,
 }
 
-// The answer where a search has looked too often and there are no owners to go on with: no number of document 01.
+// The answer where a search has looked too often, or a record or a struct reaches past the owners lent: no number of document 01.
 pub(crate) const GAVE_UP: u32 = 65536;
 
 // The verdict on the rules, of a layout or of a table of rows. Of a layout given with a symbol width: 13, then the layout,
 // then its rules; its version and how many rows it has, or the refusal. Of rows: the first number that their rules give, or
-// accepted, of version 0 and 0 rows. The answer is the same by either engine: where `plain` holds all of 81 to 83 are found by
+// accepted, of version 0 and 0 rows. The answer is the same by either engine: where `by_marks` holds all of 81 to 83 are found by
 // marks.
 pub fn check(
     layout: &[u8],
@@ -100,19 +100,19 @@ pub fn check(
     of_rows: bool,
     width: u16,
     sheet: &[u16; 520],
-    plain: bool,
+    by_marks: bool,
 ) -> Verdict
     ensures { λ r. ⌜ r ≡ ruling (now (sheet .entry)) width (now (layout .entry)) (now (rows .entry)) «of_rows» ⌝ }
 {
     if of_rows {
-        return pass(check_rows(rows, width, sheet, plain));
+        return as_verdict(check_rows(rows, width, sheet, by_marks));
     }
-    check_layout(layout, width, sheet, plain)
+    check_layout(layout, width, sheet, by_marks)
 }
 
 // Accepted where the number is 0, else the refusal.
-fn pass(why: u32) -> Verdict
-    ensures { λ r. ⌜ r ≡ passed why ⌝ }
+fn as_verdict(why: u32) -> Verdict
+    ensures { λ r. ⌜ r ≡ asVerdict why ⌝ }
 {
     if why == 0 {
         return Verdict::Accepted {
@@ -150,7 +150,7 @@ fn skip(layout: &[u8], at: usize, n: usize) -> usize
 }
 
 // The rules of an accepted layout: the first number that they give, or 0.
-fn layout_rules(layout: &[u8], sheet: &[u16; 520], width: usize, plain: bool) -> u32
+fn layout_rules(layout: &[u8], sheet: &[u16; 520], width: usize, by_marks: bool) -> u32
     requires { ⌜ Accepted (now layout) ⌝ }
     ensures { λ r. ⌜ r ≡ rulesIn (now (sheet .entry)) width (layoutOf (now (layout .entry))) ⌝ }
 {
@@ -176,19 +176,19 @@ fn layout_rules(layout: &[u8], sheet: &[u16; 520], width: usize, plain: bool) ->
         records,
         width,
         labels,
-        plain,
+        by_marks,
     };
     items::rules(sheet, layout, &none, task)
 }
 
 // The verdict on a layout given with a symbol width: 13, then the layout, then its rules. Its version and how many rows
-// it has, or the refusal. The answer is the same by either engine: where `plain` holds all of 81 to 83 are found by marks.
-fn check_layout(layout: &[u8], width: u16, sheet: &[u16; 520], plain: bool) -> Verdict
+// it has, or the refusal. The answer is the same by either engine: where `by_marks` holds all of 81 to 83 are found by marks.
+fn check_layout(layout: &[u8], width: u16, sheet: &[u16; 520], by_marks: bool) -> Verdict
     ensures { λ r. ⌜ r ≡ verdict (ruledOf (now (sheet .entry)) width (now (layout .entry))) ⌝ }
 {
     match layout_verdict(layout) {
         Verdict::Accepted { version, rows } => {
-            let why = layout_rules(layout, sheet, width as usize, plain);
+            let why = layout_rules(layout, sheet, width as usize, by_marks);
             if why == 0 {
                 return Verdict::Accepted { version, rows };
             }
@@ -221,8 +221,8 @@ fn label_rows(rows: &[u32]) -> usize
 }
 
 // The rules of the records and structs in a table of rows: the first number that they give, or 0; 91 where there are more
-// than 65,535 structs. The answer is the same by either engine: where `plain` holds all of 81 to 83 are found by marks.
-fn check_rows(rows: &[u32], width: u16, sheet: &[u16; 520], plain: bool) -> u32
+// than 65,535 structs. The answer is the same by either engine: where `by_marks` holds all of 81 to 83 are found by marks.
+fn check_rows(rows: &[u32], width: u16, sheet: &[u16; 520], by_marks: bool) -> u32
     ensures { λ r. ⌜ r ≡ rowsRules (now (sheet .entry)) width (now (rows .entry)) ⌝ }
 {
     let none = [0u8; 1];
@@ -242,7 +242,7 @@ fn check_rows(rows: &[u32], width: u16, sheet: &[u16; 520], plain: bool) -> u32
         records: all,
         width: width as usize,
         labels,
-        plain,
+        by_marks,
     };
     items::rules(sheet, &none, rows, task)
 }

@@ -2,20 +2,22 @@
 use crate::GAVE_UP;
 use crate::Item;
 use crate::Source;
+use crate::by_marks;
+use crate::by_search;
 use crate::entries;
-use crate::plain;
-use crate::tile;
+use crate::walk;
 use fields::Frame;
 ghost use mathlib.Core.Path.{_≡_};
 ghost use mathlib.Core.Bool.{true, false};
 ghost use mathlib.Core.List.{[]};
-ghost use Prim.Native.Nat.{_<_, _≤_, max, min};
+ghost use Prim.Native.Nat.{_<_, _≤_, max};
 ghost use Rattle.marks.specs.Marks.{Marks, Only};
 ghost use Rattle.rules.specs.Rules.{structAlign, fieldsFault, tilingFault, seqFault, judged};
 ghost use Rattle.rules.specs.Engines.{Passed};
-ghost use Rattle.rules.specs.Told.{Told, Unowned};
-ghost use Rattle.rules.specs.Entries.{entriesOf, Room};
-ghost use Rattle.rules.specs.Sequence.{idsOf, notedMarks, Marking, Clean};
+ghost use Rattle.plain_tiling.specs.Places.{Unowned};
+ghost use Rattle.rules.specs.Tried.{Tried};
+ghost use Rattle.rules.specs.Entries.{entriesOf, InSlice};
+ghost use Rattle.rules.specs.Ids.{idsOf, notedMarks, OnlyIds, Clean};
 
 fn larger(a: u16, b: u16) -> u16
     ensures { λ r. ⌜ r ≡ max a b ⌝ }
@@ -25,7 +27,7 @@ fn larger(a: u16, b: u16) -> u16
 
 // The largest alignment in a struct, at least 1.
 pub(crate) fn struct_align(sheet: &[u16; 520], layout: &[u8], rows: &[u32], src: Source) -> u16
-    requires { ⌜ Room (now layout) (now rows) src ⌝ }
+    requires { ⌜ InSlice (now layout) (now rows) src ⌝ }
     ensures { λ r. ⌜ (r ≡ structAlign (now (sheet .entry)) (entriesOf (now (layout .entry)) (now (rows .entry)) src)) × (1 ≤ r) ⌝ }
 {
     let mut left = src;
@@ -60,10 +62,10 @@ fn fields_fault(
     frame: Frame,
     marks: &mut [u64; 1024],
 ) -> u32
-    requires { ⌜ Room (now layout) (now rows) src ⌝ }
+    requires { ⌜ InSlice (now layout) (now rows) src ⌝ }
     requires { ⌜ Marks (now marks) [] ⌝ }
-    ensures { λ r. ⌜ r ≡ fieldsFault (now (sheet .entry)) (frame .width) (frame .labels) (now (aligns .entry)) (frame .open) (frame .base) [] (entriesOf (now (layout .entry)) (now (rows .entry)) src) ⌝ }
-    ensures { λ r. ⌜ Marking r (entriesOf (now (layout .entry)) (now (rows .entry)) src) (now (marks .exit)) ⌝ }
+    ensures { λ r. ⌜ r ≡ fieldsFault (now (sheet .entry)) (frame .width) (frame .labels) (now (aligns .entry)) (frame .«is_record») (frame .base) [] (entriesOf (now (layout .entry)) (now (rows .entry)) src) ⌝ }
+    ensures { λ r. ⌜ OnlyIds r (entriesOf (now (layout .entry)) (now (rows .entry)) src) (now (marks .exit)) ⌝ }
 {
     let mut left = src;
     while 0 < left.count {
@@ -82,7 +84,7 @@ fn fields_fault(
 
 // Clears the marks of the entries' ids.
 fn wipe_ids(sheet: &[u16; 520], layout: &[u8], rows: &[u32], src: Source, marks: &mut [u64; 1024])
-    requires { ⌜ Room (now layout) (now rows) src ⌝ }
+    requires { ⌜ InSlice (now layout) (now rows) src ⌝ }
     requires { ⌜ Only (now marks) (idsOf (entriesOf (now layout) (now rows) src)) ⌝ }
     ensures { λ _. ⌜ Marks (now (marks .exit)) [] ⌝ }
 {
@@ -95,50 +97,44 @@ fn wipe_ids(sheet: &[u16; 520], layout: &[u8], rows: &[u32], src: Source, marks:
     }
 }
 
-fn smaller(a: usize, b: usize) -> usize
-    ensures { λ r. ⌜ r ≡ min a b ⌝ }
-{
-    if a < b { a } else { b }
-}
-
 // How many looks a search may take from the front again before marks cost less: one for each entry and one for 16 places. Where
 // no owners are lent one more for each entry and 1,024 more, since all the rules are then gone through once more.
 fn looks(count: usize, base: usize, lent: usize) -> usize {
-    let entries = smaller(count, 65536);
-    let places = smaller(base, 65536) / 16;
+    let entries = walk::smaller(count, 65536);
+    let places = walk::smaller(base, 65536) / 16;
     if lent == 65536 {
         return entries + places;
     }
     2 * entries + places + 1024
 }
 
-// The first of numbers 81 to 83 that entries give which passed 71 to 80, or 0: by search, unless `plain` holds; by marks where
-// no search is made or it gives up. The owners come back as they were lent.
+// The first of numbers 81 to 83 that entries give which passed 71 to 80, or 0: by search, unless `by_marks` holds; by marks where
+// no search is made or it gives up; or there are too few owners for the marks. The owners come back as they were lent.
 fn tiling(
     layout: &[u8],
     rows: &[u32],
     src: Source,
     frame: Frame,
-    plain: bool,
+    by_marks: bool,
     owners: &mut [u16],
 ) -> u32
-    requires { ⌜ Room (now layout) (now rows) src ⌝ }
-    requires { ⌜ Passed (frame .open) (frame .base) (entriesOf (now layout) (now rows) src) ⌝ }
+    requires { ⌜ InSlice (now layout) (now rows) src ⌝ }
+    requires { ⌜ Passed (frame .«is_record») (frame .base) (entriesOf (now layout) (now rows) src) ⌝ }
     requires { ⌜ Unowned (now owners) ⌝ }
-    ensures { λ r. ⌜ Told (now (owners .entry)) (tilingFault (frame .open) (frame .base) (entriesOf (now (layout .entry)) (now (rows .entry)) src)) r ⌝ }
+    ensures { λ r. ⌜ Tried (now (owners .entry)) (tilingFault (frame .«is_record») (frame .base) (entriesOf (now (layout .entry)) (now (rows .entry)) src)) r ⌝ }
     ensures { λ _. ⌜ now (owners .exit) ≡ now (owners .entry) ⌝ }
 {
-    if !plain {
+    if !by_marks {
         let spare = looks(src.count, frame.base, owners.len());
-        let v = tile::tiling_by_search(layout, rows, src, frame, spare);
+        let v = by_search::tiling_by_search(layout, rows, src, frame, spare);
         if v != GAVE_UP {
             return v;
         }
     }
-    if owners.len() != 65536 {
+    if by_marks::too_few(layout, rows, src, frame, owners.len()) {
         return GAVE_UP;
     }
-    plain::tiling_by_marks(layout, rows, src, frame, owners)
+    by_marks::tiling_by_marks(layout, rows, src, frame, owners)
 }
 
 // The first of numbers 70 to 83 that a record or a struct gives, or 0, with 81 to 83 as `tiling` has them. The marks of ids
@@ -151,14 +147,14 @@ pub(crate) fn seq_fault(
     item: Item,
     frame: Frame,
     marks: &mut [u64; 1024],
-    plain: bool,
+    by_marks: bool,
     owners: &mut [u16],
 ) -> u32
-    requires { ⌜ Room (now layout) (now rows) (item .entries) ⌝ }
+    requires { ⌜ InSlice (now layout) (now rows) (item .entries) ⌝ }
     requires { ⌜ Marks (now marks) [] ⌝ }
     requires { ⌜ frame .base < 65536 ⌝ }
     requires { ⌜ Unowned (now owners) ⌝ }
-    ensures { λ r. ⌜ Told (now (owners .entry)) (seqFault (now (sheet .entry)) (frame .width) (frame .labels) (now (aligns .entry)) (frame .open) (judged (frame .base) (item .names) (entriesOf (now (layout .entry)) (now (rows .entry)) (item .entries)))) r ⌝ }
+    ensures { λ r. ⌜ Tried (now (owners .entry)) (seqFault (now (sheet .entry)) (frame .width) (frame .labels) (now (aligns .entry)) (frame .«is_record») (judged (frame .base) (item .names) (entriesOf (now (layout .entry)) (now (rows .entry)) (item .entries)))) r ⌝ }
     ensures { λ r. ⌜ Clean r (now (marks .exit)) ⌝ }
     ensures { λ _. ⌜ now (owners .exit) ≡ now (owners .entry) ⌝ }
 {
@@ -171,5 +167,5 @@ pub(crate) fn seq_fault(
         return a;
     }
     wipe_ids(sheet, layout, rows, src, marks);
-    tiling(layout, rows, src, frame, plain, owners)
+    tiling(layout, rows, src, frame, by_marks, owners)
 }

@@ -8,7 +8,7 @@ ghost use mathlib.Core.Bool.{cond};
 ghost use Prim.Native.Nat.{_+_, _*_, _%_, _<_, _≤_, min};
 ghost use lib.ListN.{length, getD};
 ghost use Rattle.numbers.specs.Numbers.{le16};
-ghost use Rattle.rules.specs.Walk.{sectionItem, rowItem, Lies, Good, Stepped, kindOf};
+ghost use Rattle.rules.specs.Items.{sectionItem, rowItem, SectionInside, Good, Stepped, kindOf};
 ghost use Rattle.rules.specs.RowRules.{column};
 
 fn wide(x: u8) -> usize
@@ -25,7 +25,7 @@ pub(crate) fn half(s: &[u8], at: usize) -> usize
     wide(s[at]) + 256 * wide(s[at + 1])
 }
 
-fn smaller(a: usize, b: usize) -> usize
+pub(crate) fn smaller(a: usize, b: usize) -> usize
     ensures { λ r. ⌜ r ≡ min a b ⌝ }
 {
     if a < b { a } else { b }
@@ -40,6 +40,7 @@ fn column(is_record: bool, r: usize, s: usize) -> usize
 
 // ---- sections
 
+// The rtype at `at` of a record; a struct has 0.
 fn rtype_at(layout: &[u8], is_record: bool, at: usize) -> u16
     requires { ⌜ at + 2 ≤ length (now layout) ⌝ }
     ensures { λ r. ⌜ r ≡ cond «is_record» (le16 (now (layout .entry)) at) 0 ⌝ }
@@ -52,7 +53,7 @@ fn rtype_at(layout: &[u8], is_record: bool, at: usize) -> u16
 
 // The record or struct of the section at `at`.
 fn section_item(layout: &[u8], is_record: bool, at: usize) -> Item
-    requires { ⌜ Lies «is_record» (now layout) at ⌝ }
+    requires { ⌜ SectionInside «is_record» (now layout) at ⌝ }
     ensures { λ r. ⌜ (r ≡ sectionItem «is_record» (now (layout .entry)) at) × (r .base < 65536) ⌝ }
 {
     let rtype = rtype_at(layout, is_record, at + 2);
@@ -101,12 +102,23 @@ fn cell(rows: &[u32], q: usize, j: usize) -> usize
     (rows[9 * q + j] % 65536) as usize
 }
 
+// The rtype of the record of row q; a struct has 0.
+fn rtype_in(rows: &[u32], is_record: bool, q: usize) -> u16
+    requires { ⌜ 9 * q + 3 < length (now rows) ⌝ }
+    ensures { λ r. ⌜ r ≡ cond «is_record» (getD (now (rows .entry)) (9 * q + 3) 0 % 65536) 0 ⌝ }
+{
+    if is_record {
+        return cell(rows, q, 3) as u16;
+    }
+    0
+}
+
 // The record or struct of row q, where `left` rows are left from q on.
 fn row_item(rows: &[u32], is_record: bool, q: usize, left: usize) -> Item
     requires { ⌜ (0 < left) × (9 * (q + left) ≤ length (now rows)) ⌝ }
     ensures { λ r. ⌜ (r ≡ rowItem «is_record» (now (rows .entry)) q left) × (r .base < 65536) ⌝ }
 {
-    let rtype = cell(rows, q, column(is_record, 3, 8)) as u16;
+    let rtype = rtype_in(rows, is_record, q);
     let base = cell(rows, q, column(is_record, 5, 3));
     let count = cell(rows, q, column(is_record, 6, 4));
     let fields = smaller(count, left - 1);

@@ -5,7 +5,7 @@ use Rattle.text.specs.Utf8.{utf8}
 use Rattle.layout.specs.Layout.{Fields, Layout, LegalLayout, fromLayout}
 use Rattle.layout.specs.Given.{D, entry, fields, recordL, structL}
 use Rattle.layout.specs.Prints.{entry-told, fields-told, struct-told, record-told, layout-told}
-use Rattle.rules.specs.RowLaws.{AllOf, FitFields, FitRecord, FitStruct, FitParts}
+use Rattle.rules.specs.RowFit.{AllOf, FitFields, FitRecord, FitStruct, FitParts}
 
 all-of : {A : Type 0} (c : Codec A) (P : A → Type 0) → ((x : A) → c .legal x → P x) → (xs : List A) → timesLegal c xs → AllOf P xs
 all-of c P h [] lg = tt

@@ -18,7 +18,8 @@ use Rattle.layout.specs.Rows.{rows}
 use Rattle.layout.specs.RowLaws.{noStart}
 use Rattle.layout.specs.TextLaws.{rowText}
 use Rattle.layout.specs.Prints.{reads, parts-still}
-use Rattle.rules.specs.Rules.{rulesOf, ruledOf, rules-blind, ruled-is}
+use Rattle.rules.specs.Rules.{rulesOf, ruledOf}
+use Rattle.rules.specs.RuleLaws.{rules-blind, ruled-is}
 use Rattle.rules.specs.RowRules.{rowsRules}
 use Rattle.rules.specs.RowLaws.{rows-rules}
 use Rattle.rows_check.specs.Tree.{rowsIn, treeOf}

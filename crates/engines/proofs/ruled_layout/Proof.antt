@@ -2,7 +2,7 @@
 -- Assumes nothing.
 use mathlib.Core.Path.{_∙_}
 use borrow.Author.Needs.{needs}
-use Rattle.rules.specs.Ruling.{of-layout}
+use Rattle.rules.specs.CheckLaws.{of-layout}
 use Rattle.engines.proofs.ruled_layout.Statement.{statement}
 use Rattle.engines.proofs.ruled_layout.Tie as tie
 

@@ -1,3 +1,4 @@
+-- Padding, a struct, and all else, in this order. Assumes nothing.
 use borrow.Author.Needs.{needs}
 use Rattle.fields.proofs.Outcomes.{align-padding, align-struct, align-missing, align-natural}
 use mathlib.Core.Path.{refl, sym, _∙_}

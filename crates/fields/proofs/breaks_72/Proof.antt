@@ -1,3 +1,4 @@
+-- The two tests are those of the rule. Assumes nothing.
 use borrow.Author.Needs.{needs}
 use Rattle.fields.specs.Field.{breaks72}
 use Rattle.fields.proofs.breaks_72.Statement.{statement}

@@ -1,3 +1,4 @@
+-- A struct's def index is tested by the structs, a label user's by the label defs. Assumes nothing.
 use borrow.Author.Needs.{needs}
 use mathlib.Core.Path.{sym, _∙_}
 use Rattle.fields.proofs.Outcomes.{def-struct, def-label}

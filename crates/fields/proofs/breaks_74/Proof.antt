@@ -1,3 +1,4 @@
+-- An alignment of 0 or 1 is never missed; any other divides the offset or not. Assumes nothing.
 use borrow.Author.Needs.{needs}
 use Rattle.fields.proofs.Outcomes.{aligned-any, aligned-by}
 use mathlib.Core.Path.{refl}

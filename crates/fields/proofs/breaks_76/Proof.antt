@@ -1,3 +1,4 @@
+-- The two tests are those of the rule. Assumes nothing.
 use Rattle.fields.specs.Field.{breaks76}
 use borrow.Author.Needs.{needs}
 use Rattle.fields.proofs.breaks_76.Statement.{statement}

@@ -1,3 +1,4 @@
+-- The two tests are those of the rule. Assumes nothing.
 use borrow.Author.Needs.{needs}
 use Rattle.fields.specs.Field.{breaks80}
 use Rattle.fields.proofs.breaks_80.Statement.{statement}

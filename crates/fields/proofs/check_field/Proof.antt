@@ -1,3 +1,4 @@
+-- Each way out is the first rule that is broken, since those before it hold. Assumes nothing.
 use borrow.Author.Needs.{needs}
 use mathlib.Core.Path.{sym, _∙_}
 use Rattle.fields.proofs.Outcomes.{fault71, fault72, fault73, fault74, fault75, fault76, fault77, fault78, fault79, fault80, fault-none}

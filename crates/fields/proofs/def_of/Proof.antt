@@ -1,3 +1,4 @@
+-- The two bytes of the def index. Assumes nothing.
 use borrow.Author.Needs.{needs}
 use Rattle.fields.specs.Sheet.{defOf}
 use Rattle.fields.proofs.def_of.Statement.{statement}

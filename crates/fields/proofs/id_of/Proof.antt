@@ -1,3 +1,4 @@
+-- The two bytes of the id. Assumes nothing.
 use borrow.Author.Needs.{needs}
 use Rattle.fields.specs.Sheet.{idOf}
 use Rattle.fields.proofs.id_of.Statement.{statement}

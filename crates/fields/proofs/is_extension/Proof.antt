@@ -1,3 +1,4 @@
+-- A weight of 0 marks nothing; any other is divided out of the flags. Assumes nothing.
 use borrow.Author.Needs.{needs}
 use Rattle.fields.specs.Sheet.{isExtension}
 use Prim.Native.Nat.{ℕ}

@@ -1,3 +1,4 @@
+-- The type is compared with the sheet's. Assumes nothing.
 use borrow.Author.Needs.{needs}
 use Rattle.fields.specs.Sheet.{isPadding}
 use Rattle.fields.proofs.is_padding.Statement.{statement}

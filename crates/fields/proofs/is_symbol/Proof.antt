@@ -1,3 +1,4 @@
+-- The type is compared with the sheet's. Assumes nothing.
 use borrow.Author.Needs.{needs}
 use Rattle.fields.specs.Sheet.{isSymbol}
 use Rattle.fields.proofs.is_symbol.Statement.{statement}

@@ -1,3 +1,4 @@
+-- Padding, a struct, and all else, in this order. Assumes nothing.
 use mathlib.Core.Path.{refl, sym, _∙_}
 use Rattle.fields.proofs.Outcomes.{member-padding, member-struct, member-natural}
 use borrow.Author.Needs.{needs}

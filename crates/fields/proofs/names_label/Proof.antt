@@ -1,3 +1,4 @@
+-- The sheet marks the type, and the def index is not the one that means none. Assumes nothing.
 use borrow.Author.Needs.{needs}
 use Rattle.fields.specs.Sheet.{namesLabel}
 use Rattle.fields.proofs.names_label.Statement.{statement}

@@ -1,3 +1,4 @@
+-- The two bytes of the offset. Assumes nothing.
 use borrow.Author.Needs.{needs}
 use Rattle.fields.specs.Sheet.{offOf}
 use Rattle.fields.proofs.off_of.Statement.{statement}

@@ -1,3 +1,4 @@
+-- Only a record's entry can be past the base. Assumes nothing.
 use borrow.Author.Needs.{needs}
 use Rattle.fields.specs.Sheet.{pastBase}
 use Rattle.fields.proofs.past_base.Statement.{statement}

@@ -1,3 +1,4 @@
+-- The two bytes of the size. Assumes nothing.
 use borrow.Author.Needs.{needs}
 use Rattle.fields.specs.Sheet.{sizeOf}
 use Rattle.fields.proofs.size_of.Statement.{statement}

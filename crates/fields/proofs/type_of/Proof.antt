@@ -1,3 +1,4 @@
+-- The byte of the type. Assumes nothing.
 use borrow.Author.Needs.{needs}
 use Rattle.fields.specs.Sheet.{typeOf}
 use Rattle.fields.proofs.type_of.Statement.{statement}

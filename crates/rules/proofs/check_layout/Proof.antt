@@ -1,4 +1,5 @@
-use Rattle.rules.specs.Whole.{accepted, ruled-fine, ruled-broken, ruled-unread}
+-- The layout first, then its rules, whose number decides. Assumes nothing.
+use Rattle.rules.specs.LayoutRuleLaws.{accepted, ruled-fine, ruled-broken, ruled-unread}
 use mathlib.Core.Path.{sym, _∙_}
 use borrow.Author.Needs.{needs}
 use Rattle.rules.proofs.check_layout.Statement.{statement}

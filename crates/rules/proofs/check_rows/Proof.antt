@@ -1,5 +1,6 @@
+-- 91 where there are too many structs, else the rules of all rows. Assumes nothing.
 use borrow.Author.Needs.{needs}
-use Rattle.rules.specs.Whole.{rows-good, rows-ready, rows-many, rows-are}
+use Rattle.rules.specs.LayoutRuleLaws.{rows-good, rows-ready, rows-many, rows-are}
 use Rattle.rules.proofs.check_rows.Statement.{statement}
 use Rattle.rules.proofs.check_rows.Tie as tie
 

@@ -1,5 +1,6 @@
+-- 1 or 0, by the test. Assumes nothing.
 use lib.Dec.{lit≤}
-use Rattle.rules.specs.Whole.{kind-yes, kind-no}
+use Rattle.rules.specs.LayoutRuleLaws.{kind-yes, kind-no}
 use Rattle.rules.proofs.is_kind.Statement.{statement}
 use Rattle.rules.proofs.is_kind.Tie as tie
 

@@ -1,5 +1,6 @@
+-- The invariant: the label defs so far and those in the rows to come make all. Assumes nothing.
 use Prim.Native.Nat.{_-_}
-use Rattle.rules.specs.Whole.{Kinds, kinds, kinds-on, kinds-end}
+use Rattle.rules.specs.LayoutRuleLaws.{Kinds, kinds, kinds-on, kinds-end}
 use native.Mathlib.Omega.{arith}
 use borrow.Author.Needs.{needs}
 use Rattle.rules.proofs.label_rows.Statement.{statement}

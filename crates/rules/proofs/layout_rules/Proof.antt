@@ -1,7 +1,8 @@
+-- An accepted layout's records, structs and label defs stand where they are looked for. Assumes nothing.
 use native.Mathlib.Omega.{arith}
 use mathlib.Core.List.{[]}
 use borrow.Author.Needs.{needs}
-use Rattle.rules.specs.Whole.{records-here, structs-here, counts-here, layout-ready, layout-is}
+use Rattle.rules.specs.LayoutRuleLaws.{records-here, structs-here, counts-here, layout-ready, layout-is}
 use Rattle.rules.proofs.layout_rules.Statement.{statement}
 use Rattle.rules.proofs.layout_rules.Tie as tie
 

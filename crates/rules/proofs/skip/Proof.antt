@@ -1,4 +1,5 @@
-use Rattle.rules.specs.Whole.{Skipping, skip-one, skip-on, skip-end}
+-- The invariant: the sections left end where all do. Assumes nothing.
+use Rattle.rules.specs.LayoutRuleLaws.{Skipping, skip-one, skip-on, skip-end}
 use mathlib.Core.Path.{refl}
 use native.Mathlib.Omega.{arith}
 use borrow.Author.Needs.{needs}

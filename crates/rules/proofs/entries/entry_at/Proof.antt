@@ -1,6 +1,5 @@
--- From rows or from bytes, as the source says.
--- Assumes nothing.
-use Rattle.rules.specs.Entries.{first-row, first-bytes}
+-- From rows or from bytes, as the source says. Assumes nothing.
+use Rattle.rules.specs.EntryLaws.{first-row, first-bytes}
 use borrow.Author.Needs.{needs}
 use Rattle.rules.proofs.entries.entry_at.Statement.{statement}
 use Rattle.rules.proofs.entries.entry_at.Tie as tie

@@ -1,4 +1,5 @@
-use Rattle.rules.specs.Entries.{mul-step}
+-- One step further, one entry less. Assumes nothing.
+use Rattle.rules.specs.EntryLaws.{mul-step}
 use native.Mathlib.Omega.{arith}
 use borrow.Author.Needs.{needs}
 use Rattle.rules.proofs.entries.rest.Statement.{statement}

@@ -1,5 +1,6 @@
+-- The invariant: the count so far and what is to come make the count of all. Assumes nothing.
 use Rattle.rules.proofs.Turns.{step-found, step-end, step-less, Counted, count-on, count-room, count-done}
-use Rattle.rules.specs.Walk.{seqsFrom}
+use Rattle.rules.specs.Items.{seqsFrom}
 use lib.ListN.{length}
 use native.Mathlib.Nat.{zero-add}
 use native.Mathlib.Omega.{arith}

@@ -1,3 +1,4 @@
+-- The invariant: the alignments so far and those to come are the alignments of all structs. Assumes nothing.
 use lib.ListN.{length-set}
 use mathlib.Core.Path.{refl}
 use Rattle.rules.proofs.Turns.{step-found, step-end, Filling, filling, fill-on, fill-done, fill-end}

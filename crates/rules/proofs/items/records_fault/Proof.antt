@@ -5,8 +5,9 @@ use mathlib.Core.List.{[]}
 use lib.ListN.{length}
 use borrow.Author.Needs.{needs}
 use Rattle.marks.specs.MarkLaws.{marks-none}
-use Rattle.rules.specs.Walk.{seqsFrom}
-use Rattle.rules.specs.Told.{told, told-as, told-by, told-0}
+use Rattle.rules.specs.Items.{seqsFrom}
+use Rattle.rules.specs.Tried.{answered}
+use Rattle.rules.specs.TriedLaws.{tried-as, tried-by, tried-0}
 use Rattle.rules.proofs.Turns.{step-found, step-end, step-less, Recording, records-stop, records-on, records-end}
 use Rattle.rules.proofs.items.records_fault.Statement.{statement}
 use Rattle.rules.proofs.items.records_fault.Tie as tie
@@ -35,20 +36,20 @@ same-length c = ap length (c .before .before .before .record-fault .ensures .1 .
 
 returns : tie.Need-returns Inv-loop μ-loop
 returns c =
-    told-as (λ e. records-stop _ _ _ _ _ _ (c .before .before .before .before .before .before .before .before .before .before .before .before .loop .inv .0) (step-found (c .before .before .before .before .before .before .before .before .before .before .before .next-item .ensures) (c .before .before .before .before .before .before .before .before .before .item .given .1)) (search needs) (c .before .before .before .before .before .before .is-marked .ensures) e (c .if1 .taken)) (told-by (c .before .before .before .before .before .before .before .before .before .before .before .before .loop .inv .1) (c .before .before .before .record-fault .ensures .0))
+    tried-as (λ e. records-stop _ _ _ _ _ _ (c .before .before .before .before .before .before .before .before .before .before .before .before .loop .inv .0) (step-found (c .before .before .before .before .before .before .before .before .before .before .before .next-item .ensures) (c .before .before .before .before .before .before .before .before .before .item .given .1)) (search needs) (c .before .before .before .before .before .before .is-marked .ensures) e (c .if1 .taken)) (tried-by (c .before .before .before .before .before .before .before .before .before .before .before .before .loop .inv .1) (c .before .before .before .record-fault .ensures .0))
 
 loop-less : tie.Need-loop-less Inv-loop μ-loop
 loop-less c = step-less (step-found (c .before .before .before .before .before .before .before .before .before .before .before .before .before .next-item .ensures) (c .before .before .before .before .before .before .before .before .before .before .before .item .given .1))
 
 loop-again : tie.Need-loop-again Inv-loop μ-loop
 loop-again c =
-    (records-on _ _ _ _ _ _ (c .before .before .before .before .before .before .before .before .before .before .before .before .before .before .loop .inv .0) (step-found (c .before .before .before .before .before .before .before .before .before .before .before .before .before .next-item .ensures) (c .before .before .before .before .before .before .before .before .before .before .before .item .given .1)) (search needs) (c .before .before .before .before .before .before .before .before .is-marked .ensures) (told-0 (c .before .before .before .before .before .record-fault .ensures .0) (c .before .before .if1 .left)) (c .before .before .if1 .left) (c .before .before .before .before .before .record-fault .ensures .1 .0) (c .mark .ensures), c .before .before .before .before .before .record-fault .ensures .1 .1 ∙ c .before .before .before .before .before .before .before .before .before .before .before .before .before .before .loop .inv .1)
+    (records-on _ _ _ _ _ _ (c .before .before .before .before .before .before .before .before .before .before .before .before .before .before .loop .inv .0) (step-found (c .before .before .before .before .before .before .before .before .before .before .before .before .before .next-item .ensures) (c .before .before .before .before .before .before .before .before .before .before .before .item .given .1)) (search needs) (c .before .before .before .before .before .before .before .before .is-marked .ensures) (tried-0 (c .before .before .before .before .before .record-fault .ensures .0) (c .before .before .if1 .left)) (c .before .before .if1 .left) (c .before .before .before .before .before .record-fault .ensures .1 .0) (c .mark .ensures), c .before .before .before .before .before .record-fault .ensures .1 .1 ∙ c .before .before .before .before .before .before .before .before .before .before .before .before .before .before .loop .inv .1)
 
 same-length-2 : tie.Need-same-length-2 Inv-loop μ-loop
 same-length-2 c = ap length (c .before .before .before .loop .inv .1)
 
 returns-2 : tie.Need-returns-2 Inv-loop μ-loop
-returns-2 c = told (records-end _ _ _ _ _ _ (c .before .before .before .loop .inv .0) (step-end (c .before .before .next-item .ensures) (c .enum-told .given .1)))
+returns-2 c = answered (records-end _ _ _ _ _ _ (c .before .before .before .loop .inv .0) (step-end (c .before .before .next-item .ensures) (c .enum-told .given .1)))
 
 pub records-fault-spec : {M : Type 1} → statement M
 records-fault-spec =

@@ -1,3 +1,4 @@
+-- The first numbers of the table are as many as there are structs. Assumes nothing.
 use native.Mathlib.Omega.{arith}
 use mathlib.Core.Path.{sym}
 use lib.ListN.{length-take}

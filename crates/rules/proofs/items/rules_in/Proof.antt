@@ -1,6 +1,7 @@
+-- The alignments, then the structs, then the records. Assumes nothing.
 use borrow.Author.Needs.{needs}
 use Rattle.marks.specs.MarkLaws.{marks-none}
-use Rattle.rules.specs.Told.{told-as, told-by, told-0}
+use Rattle.rules.specs.TriedLaws.{tried-as, tried-by, tried-0}
 use Rattle.rules.proofs.Turns.{all-structs, all-records}
 use Rattle.rules.proofs.items.rules_in.Statement.{statement}
 use Rattle.rules.proofs.items.rules_in.Tie as tie
@@ -12,13 +13,13 @@ structs-fault-requires : tie.Need-structs-fault-requires
 structs-fault-requires c κs = (c .before .before .before .before .before .before .before .before .before .before .before .pre .0, (marks-none, c .before .before .before .before .before .before .before .before .before .before .before .pre .1 .1 .1))
 
 returns : tie.Need-returns
-returns c = told-as (λ e. all-structs _ _ _ _ _ (c .before .before .before .before .before .before .before .before .before .fill-aligns .ensures) e (c .if1 .taken)) (c .before .before .before .structs-fault .ensures .0)
+returns c = tried-as (λ e. all-structs _ _ _ _ _ (c .before .before .before .before .before .before .before .before .before .fill-aligns .ensures) e (c .if1 .taken)) (c .before .before .before .structs-fault .ensures .0)
 
 records-fault-requires : tie.Need-records-fault-requires
 records-fault-requires c κs = (c .before .before .before .before .before .before .before .before .before .before .before .before .before .before .before .before .before .before .pre .1 .0, (c .before .before .before .before .before .before .structs-fault .ensures .1 .0 (c .before .before .before .if1 .left), rw (c .before .before .before .before .before .before .structs-fault .ensures .1 .1) (c .before .before .before .before .before .before .before .before .before .before .before .before .before .before .before .before .before .before .pre .1 .1 .1)))
 
 returns-2 : tie.Need-returns-2
-returns-2 c = told-as (λ e. all-records _ _ _ _ _ (c .before .before .before .before .before .before .before .before .before .before .before .before .before .before .before .fill-aligns .ensures) (told-0 (c .before .before .before .before .before .before .before .before .before .structs-fault .ensures .0) (c .before .before .before .before .before .before .if1 .left)) (c .before .before .before .before .before .before .if1 .left) e) (told-by (c .before .before .before .before .before .before .before .before .before .structs-fault .ensures .1 .1) (c .before .before .records-fault .ensures))
+returns-2 c = tried-as (λ e. all-records _ _ _ _ _ (c .before .before .before .before .before .before .before .before .before .before .before .before .before .before .before .fill-aligns .ensures) (tried-0 (c .before .before .before .before .before .before .before .before .before .structs-fault .ensures .0) (c .before .before .before .before .before .before .if1 .left)) (c .before .before .before .before .before .before .if1 .left) e) (tried-by (c .before .before .before .before .before .before .before .before .before .structs-fault .ensures .1 .1) (c .before .before .records-fault .ensures))
 
 pub rules-in-spec : {M : Type 1} → statement M
 rules-in-spec =

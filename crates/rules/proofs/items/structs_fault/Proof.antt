@@ -3,8 +3,9 @@ use mathlib.Core.Bool.{false}
 use mathlib.Core.Path.{_≡_, refl, ap, _∙_}
 use lib.ListN.{length}
 use borrow.Author.Needs.{needs}
-use Rattle.rules.specs.Walk.{seqsFrom}
-use Rattle.rules.specs.Told.{told, told-as, told-by, told-0}
+use Rattle.rules.specs.Items.{seqsFrom}
+use Rattle.rules.specs.Tried.{answered}
+use Rattle.rules.specs.TriedLaws.{tried-as, tried-by, tried-0}
 use Rattle.rules.proofs.Turns.{step-found, step-end, step-less, Structing, structs-stop, structs-on, structs-end}
 use Rattle.rules.proofs.items.structs_fault.Statement.{statement}
 use Rattle.rules.proofs.items.structs_fault.Tie as tie
@@ -33,20 +34,20 @@ same-length c = ap length (c .before .before .before .struct-fault .ensures .1 .
 
 returns : tie.Need-returns Inv-loop μ-loop
 returns c =
-    (told-as (λ e. structs-stop _ _ _ _ _ _ (c .before .before .before .before .before .before .before .before .before .before .loop .inv .0) (step-found (c .before .before .before .before .before .before .before .before .before .next-item .ensures) (c .before .before .before .before .before .before .before .item .given .1)) e (c .if1 .taken)) (told-by (c .before .before .before .before .before .before .before .before .before .before .loop .inv .1) (c .before .before .before .struct-fault .ensures .0)), (λ z. absurd (c .if1 .taken z), c .before .before .before .struct-fault .ensures .1 .1 ∙ c .before .before .before .before .before .before .before .before .before .before .loop .inv .1))
+    (tried-as (λ e. structs-stop _ _ _ _ _ _ (c .before .before .before .before .before .before .before .before .before .before .loop .inv .0) (step-found (c .before .before .before .before .before .before .before .before .before .next-item .ensures) (c .before .before .before .before .before .before .before .item .given .1)) e (c .if1 .taken)) (tried-by (c .before .before .before .before .before .before .before .before .before .before .loop .inv .1) (c .before .before .before .struct-fault .ensures .0)), (λ z. absurd (c .if1 .taken z), c .before .before .before .struct-fault .ensures .1 .1 ∙ c .before .before .before .before .before .before .before .before .before .before .loop .inv .1))
 
 loop-less : tie.Need-loop-less Inv-loop μ-loop
 loop-less c = step-less (step-found (c .before .before .before .before .before .before .before .before .before .next-item .ensures) (c .before .before .before .before .before .before .before .item .given .1))
 
 loop-again : tie.Need-loop-again Inv-loop μ-loop
 loop-again c =
-    (structs-on _ _ _ _ _ _ (c .before .before .before .before .before .before .before .before .before .before .loop .inv .0) (step-found (c .before .before .before .before .before .before .before .before .before .next-item .ensures) (c .before .before .before .before .before .before .before .item .given .1)) (told-0 (c .before .before .before .struct-fault .ensures .0) (c .if1 .left)) (c .if1 .left) (c .before .before .before .struct-fault .ensures .1 .0), c .before .before .before .struct-fault .ensures .1 .1 ∙ c .before .before .before .before .before .before .before .before .before .before .loop .inv .1)
+    (structs-on _ _ _ _ _ _ (c .before .before .before .before .before .before .before .before .before .before .loop .inv .0) (step-found (c .before .before .before .before .before .before .before .before .before .next-item .ensures) (c .before .before .before .before .before .before .before .item .given .1)) (tried-0 (c .before .before .before .struct-fault .ensures .0) (c .if1 .left)) (c .if1 .left) (c .before .before .before .struct-fault .ensures .1 .0), c .before .before .before .struct-fault .ensures .1 .1 ∙ c .before .before .before .before .before .before .before .before .before .before .loop .inv .1)
 
 same-length-2 : tie.Need-same-length-2 Inv-loop μ-loop
 same-length-2 c = ap length (c .before .before .before .loop .inv .1)
 
 returns-2 : tie.Need-returns-2 Inv-loop μ-loop
-returns-2 c = (told (structs-end _ _ _ _ _ _ (c .before .before .before .loop .inv .0) (step-end (c .before .before .next-item .ensures) (c .enum-told .given .1))), (λ _. c .before .before .before .loop .inv .0 .marks, c .before .before .before .loop .inv .1))
+returns-2 c = (answered (structs-end _ _ _ _ _ _ (c .before .before .before .loop .inv .0) (step-end (c .before .before .next-item .ensures) (c .enum-told .given .1))), (λ _. c .before .before .before .loop .inv .0 .marks, c .before .before .before .loop .inv .1))
 
 pub structs-fault-spec : {M : Type 1} → statement M
 structs-fault-spec =

@@ -1,3 +1,4 @@
+-- The invariant: the fields left give the same number, and the marks are the ids so far. Assumes nothing.
 use Rattle.rules.proofs.Loops.{Fielding, fielding, fields-stop, fields-go, fields-end, fields-marks}
 use native.Mathlib.Omega.{arith}
 use borrow.Author.Needs.{needs}
@@ -6,7 +7,7 @@ use Rattle.rules.proofs.sequence.fields_fault.Tie as tie
 
 abbrev Inv-loop : tie.InvT-loop
 Inv-loop sheet aligns layout rows frame marks₀ left₀ marks left =
-    Fielding sheet (frame .width) (frame .labels) aligns (frame .open) (frame .base) layout rows left₀ left marks
+    Fielding sheet (frame .width) (frame .labels) aligns (frame .«is_record») (frame .base) layout rows left₀ left marks
 
 abbrev μ-loop : tie.MeasureT-loop
 μ-loop sheet aligns layout rows frame marks₀ left₀ marks left =

@@ -1,3 +1,4 @@
+-- Padding has no id to mark. Assumes nothing.
 use Rattle.rules.proofs.Loops.{note-skip, note-set}
 use mathlib.Core.Path.{sym, _∙_}
 use borrow.Author.Needs.{needs}

@@ -1,3 +1,4 @@
+-- The invariant: the largest so far and the entries left have the largest of all. Assumes nothing.
 use Rattle.rules.proofs.Loops.{Aligning, aligning, align-go, align-end}
 use native.Mathlib.Omega.{arith}
 use borrow.Author.Needs.{needs}

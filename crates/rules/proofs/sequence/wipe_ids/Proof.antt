@@ -1,3 +1,4 @@
+-- The invariant: only ids of the entries left are marked. Assumes nothing.
 use Rattle.rules.proofs.Loops.{Wiping, wipe-go, wipe-end}
 use native.Mathlib.Omega.{arith}
 use borrow.Author.Needs.{needs}

@@ -1,3 +1,4 @@
+-- The invariant: no row passed over is a record or struct that is looked for. Assumes nothing.
 use Rattle.rules.proofs.Walks.{Looking, looking, look-end, look-on, look-few, look-found}
 use native.Mathlib.Omega.{arith}
 use mathlib.Core.Path.{refl, sym, _∙_}

@@ -1,3 +1,4 @@
+-- A section that is left lies within the layout. Assumes nothing.
 use Rattle.rules.proofs.Walks.{section-bounds, section-end, section-lies, section-step}
 use mathlib.Core.Bool.{false}
 use native.Mathlib.Omega.{arith}

@@ -1,3 +1,4 @@
+-- A struct has rtype 0. Assumes nothing.
 use borrow.Author.Needs.{needs}
 use Rattle.rules.proofs.walk.rtype_at.Statement.{statement}
 use Rattle.rules.proofs.walk.rtype_at.Tie as tie

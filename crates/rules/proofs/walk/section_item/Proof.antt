@@ -1,3 +1,4 @@
+-- Every number that is read of a section lies within it. Assumes nothing.
 use Rattle.rules.proofs.Walks.{section-bounds, section-item-is}
 use Rattle.layout.specs.Given.{D-is}
 use native.Mathlib.Omega.{arith}
