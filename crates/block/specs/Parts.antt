@@ -4,7 +4,7 @@ use mathlib.Core.Path.{_≡_}
 use mathlib.Core.Bool.{Bool, true, false}
 use mathlib.Core.List.{List}
 use lib.ListN.{length, take, drop}
-use Rattle.codec.specs.Codec.{Res, ok, refuse, _>>=_, num, raw}
+use Rattle.codec.specs.Codec.{Res, ok, refuse, faultOf, _>>=_, num, raw}
 use Rattle.numbers.specs.Pick.{pick}
 use Rattle.layout.specs.Layout.{Layout}
 use Rattle.layout.specs.Rows.{rows}
@@ -30,11 +30,6 @@ pub record Fixed (v : MetadataLengths) (b : List ℕ) : Type 0 where
   pub two : 0 < v .«symbol_cstr_len_len» → v .«symbol_cstr_len_len» ≡ 2
   pub long : 100 ≤ length b
   pub small : length b ≤ 4294967295
-
--- the number of a refusal, 0 where there is none
-abbrev pub faultOf : {A : Type 0} → Res A → ℕ
-faultOf (ok x j) = 0
-faultOf (refuse k) = k
 
 -- P holds of the header, where it is accepted
 abbrev pub OfHeader : MetadataLengths → List ℕ → (Header → Type 0) → Type 0

@@ -3,7 +3,7 @@
 use Prim.Native.Nat.{ℕ, _+_, _≤_}
 use mathlib.Core.List.{List}
 use lib.ListN.{length}
-use Rattle.codec.specs.Codec.{Res, ok, refuse, Codec}
+use Rattle.codec.specs.Codec.{faultOf, Codec}
 use Rattle.codec.specs.Format.{raw}
 use Rattle.text.specs.Utf8.{utf8}
 use Rattle.numbers.specs.Numbers.{gotOf}
@@ -19,11 +19,6 @@ name = Formats.name utf8 .codec
 -- the length of a name's text
 unfoldable pub nameAt : List ℕ → ℕ → Got
 nameAt s at = gotOf (λ n. length (n .text)) (name .parse 0 s at)
-
--- the number that refuses what was read, or 0
-abbrev faultOf : {A : Type 0} → Res A → ℕ
-faultOf (ok x j) = 0
-faultOf (refuse k) = k
 
 -- the number that refuses the bytes t as a name's text, or 0
 unfoldable pub textFault : List ℕ → ℕ

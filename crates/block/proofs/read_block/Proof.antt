@@ -1,3 +1,4 @@
+-- 11, 13 and the header, then the body. Assumes nothing.
 use mathlib.Core.Path.{_≡_, refl, sym, ap, _∙_}
 use native.Mathlib.Omega.{arith}
 use Rattle.block.proofs.BodyLaws.{fixed, block-low, block-high, block-short, block-long, block-header, block-done}

@@ -1,3 +1,4 @@
+-- The layout, then the symbology; the answer and both tables follow from theirs. Assumes nothing.
 use mathlib.Core.Path.{refl}
 use Rattle.block.proofs.BodyLaws.{lays-at, lays-bad, body-no, body-bad, body-short, body-read}
 use borrow.Author.Needs.{needs}

@@ -1,3 +1,4 @@
+-- The verdict first; the rows where it accepts and the table is long enough. Assumes nothing.
 use native.Mathlib.Omega.{arith}
 use mathlib.Core.Path.{sym, _∙_}
 use Rattle.layout.proofs.Public.{accepts, ans-read, ans-short, ans-no}

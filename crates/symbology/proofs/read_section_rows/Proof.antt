@@ -1,3 +1,4 @@
+-- The verdict first; then the rows, without the tests that it made. Assumes nothing.
 use native.Mathlib.Omega.{arith}
 use mathlib.Core.Path.{sym, _∙_}
 use Rattle.symbology.proofs.Public.{finds, rows-read, rows-counted, rows-unasked, rows-refused}

@@ -1,3 +1,4 @@
+-- 28 where the contents leave bytes of their section over. Assumes nothing.
 use mathlib.Core.Path.{sym, _∙_}
 use Rattle.symbology.proofs.Public.{section-28, section-full, section-rest, section-no}
 use borrow.Author.Needs.{needs}

@@ -1,3 +1,4 @@
+-- 13 for the block, then the symbology with a table too short for a row. Assumes nothing.
 use native.Mathlib.Omega.{arith}
 use Rattle.symbology.proofs.Public.{found-13, found-ok, found-no}
 use borrow.Author.Needs.{needs}

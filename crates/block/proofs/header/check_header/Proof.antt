@@ -1,3 +1,4 @@
+-- Each test that fails is a fault of the header, in its order; none is its acceptance. Assumes nothing.
 use mathlib.Core.Path.{_≡_, refl, sym, ap, _∙_}
 use Rattle.block.specs.Block.{isSchema}
 use Rattle.block.proofs.HeaderLaws.{was, was-text, fault-0, fault-20, fault-21, fault-22, fault-23}

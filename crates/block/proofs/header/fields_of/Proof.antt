@@ -1,3 +1,4 @@
+-- Each field is the number at its place in the header. Assumes nothing.
 use mathlib.Core.Path.{_≡_, refl, sym, ap, _∙_}
 use native.Mathlib.Omega.{arith}
 use Rattle.block.specs.Fields.{schemaOf, endOf, limitOf, stypeInOf}

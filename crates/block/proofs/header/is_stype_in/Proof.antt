@@ -1,3 +1,4 @@
+-- The accepted codes, by comparison. Assumes nothing.
 use borrow.Author.Tests.{le-leb, lt-leb, eq-eqb, ne-eqb}
 use borrow.Author.Needs.{needs}
 use Rattle.block.proofs.header.is_stype_in.Statement.{statement}

@@ -1,3 +1,4 @@
+-- One row for each version. Assumes nothing.
 use borrow.Author.Tests.{le-leb, lt-leb, eq-eqb, ne-eqb}
 use Rattle.block.specs.Block.{lengths}
 use borrow.Author.Needs.{needs}

@@ -1,3 +1,4 @@
+-- The width stands in front of the reserved bytes; a version without one has 22. Assumes nothing.
 use mathlib.Core.Path.{_≡_, refl, sym, ap, _∙_}
 use native.Mathlib.Omega.{arith}
 use Rattle.block.specs.Block.{widthOf}

@@ -1,3 +1,4 @@
+-- By what the length says and whether the version has a layout. Assumes nothing.
 use mathlib.Core.Path.{_≡_, refl, sym, ap, _∙_}
 use native.Mathlib.Omega.{arith}
 use Rattle.block.specs.Parts.{lays-no}

@@ -1,3 +1,4 @@
+-- A layout was read before, so its rows fit its reader's promise. Assumes nothing.
 use borrow.Author.Needs.{needs}
 use Rattle.block.proofs.parts.put_layout.Statement.{statement}
 use Rattle.block.proofs.parts.put_layout.Tie as tie

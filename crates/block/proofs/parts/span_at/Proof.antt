@@ -1,3 +1,4 @@
+-- A length and that many bytes, by the laws of numbers and bytes. Assumes nothing.
 use mathlib.Core.Path.{sym, _∙_}
 use native.Mathlib.Omega.{arith}
 use native.Mathlib.Nat.{le-refl}

@@ -1,3 +1,4 @@
+-- The section is handed on as its own part. Assumes nothing.
 use mathlib.Core.Path.{sym, _∙_}
 use native.Mathlib.Omega.{arith}
 use Rattle.block.proofs.PartLaws.{within-at, symbology-cut, symbology-reads}

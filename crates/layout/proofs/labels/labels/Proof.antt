@@ -1,3 +1,4 @@
+-- The invariant: the labels left, after the codes that are marked, give what all give. Assumes nothing.
 use native.Mathlib.Omega.{arith}
 use borrow.Author.Needs.{needs}
 use mathlib.Core.Path.{sym, _∙_}

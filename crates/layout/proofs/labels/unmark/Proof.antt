@@ -1,3 +1,4 @@
+-- The invariant: the codes of the labels left are the only marks. Assumes nothing.
 use native.Mathlib.Omega.{arith}
 use borrow.Author.Needs.{needs}
 use Rattle.layout.specs.Labels.{Codes}

@@ -1,3 +1,4 @@
+-- A count, the entries, then a name for each. Assumes nothing.
 use native.Mathlib.Omega.{arith}
 use mathlib.Core.Path.{sym, _∙_}
 use Rattle.numbers.specs.NumberLaws.{past-at}

@@ -1,3 +1,4 @@
+-- The invariant: the names left, written from row n on, fill the table as all do. Assumes nothing.
 use borrow.Author.Needs.{needs}
 use native.Mathlib.Omega.{arith}
 use mathlib.Core.Path.{sym, _∙_}

@@ -1,3 +1,4 @@
+-- A count, then that many sections. Assumes nothing.
 use native.Mathlib.Omega.{arith}
 use mathlib.Core.Path.{sym, _∙_}
 use Rattle.table.specs.OutLaws.{ran-on, ran-on-no}

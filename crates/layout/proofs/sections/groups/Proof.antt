@@ -1,3 +1,4 @@
+-- Records, structs, label defs. Assumes nothing.
 use Rattle.table.specs.OutLaws.{ran-is, ran-at, ran-seq, ran-stop}
 use Rattle.layout.proofs.Laws.{groups-is}
 use Rattle.marks.specs.MarkLaws.{marks-none}

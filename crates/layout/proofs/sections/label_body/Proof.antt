@@ -1,3 +1,4 @@
+-- A name, a count, then the labels. Assumes nothing.
 use native.Mathlib.Omega.{arith}
 use mathlib.Core.Path.{sym, _∙_}
 use Rattle.table.specs.OutLaws.{ran-is, ran-on, ran-on-no, ran-row, put-as}

@@ -1,3 +1,4 @@
+-- Fourteen bytes, a name, then the fields. Assumes nothing.
 use native.Mathlib.Omega.{arith}
 use borrow.Author.Needs.{needs}
 use mathlib.Core.Path.{sym, _∙_}

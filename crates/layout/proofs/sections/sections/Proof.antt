@@ -1,3 +1,4 @@
+-- The invariant: the sections left give what all give; each body is its own part of the layout. Assumes nothing.
 use native.Mathlib.Omega.{arith}
 use borrow.Author.Needs.{needs}
 use mathlib.Core.Path.{sym, _∙_}

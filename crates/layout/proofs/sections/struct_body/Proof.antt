@@ -1,3 +1,4 @@
+-- A size, a name, then the fields. Assumes nothing.
 use native.Mathlib.Omega.{arith}
 use mathlib.Core.Path.{sym, _∙_}
 use Rattle.numbers.specs.NumberLaws.{past-at}

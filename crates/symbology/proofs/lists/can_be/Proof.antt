@@ -1,3 +1,4 @@
+-- Without a least size no item can be; else the quotient decides. Assumes nothing.
 use Rattle.symbology.specs.Reader.{canBe}
 use Rattle.symbology.proofs.ReaderLaws.{can-0}
 use borrow.Author.Needs.{needs}

@@ -1,3 +1,4 @@
+-- A row of a symbol has the length without trailing NULs. Assumes nothing.
 use native.Mathlib.Omega.{arith}
 use mathlib.Core.Path.{_∙_, ap}
 use borrow.Author.Needs.{needs}
