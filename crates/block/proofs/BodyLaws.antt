@@ -7,8 +7,8 @@ use mathlib.Core.List.{List}
 use lib.ListN.{length, take, drop}
 use lib.Dec.{leb, eqb}
 use borrow.Author.Tests.{le-leb, lt-leb}
-use Rattle.codec.specs.Cases.{by-bool}
-use Rattle.codec.specs.Codec.{Res, ok, refuse, named, _then_, _on_, whole}
+use Rattle.codec.specs.CaseLaws.{by-bool}
+use Rattle.codec.specs.Codec.{Res, ok, refuse, named, _then_, _on_, whole, faultOf}
 use Rattle.layout.specs.Layout.{Layout}
 use Rattle.layout.specs.Rows.{rows}
 use Rattle.symbology.specs.Symbology.{Symbology}
@@ -19,8 +19,8 @@ use Rattle.symbology.specs.declared.SectionAnswer.{SectionAnswer}
 use Rattle.symbology.specs.declared.SectionAnswer.the-variants as SectionAnswer'
 use Rattle.block.specs.Block.{Header, Block, lengths, header, widthOf, layoutPart, symbologyPart, toBlock, block, blockOf}
 use Rattle.block.specs.Fields.{fieldsWith, fieldsOf}
-use Rattle.block.specs.Read.{fives, nines, roomy, over, blockAnswer, blockSymbology, blockLayout, Promise}
-use Rattle.block.specs.Parts.{Fixed, faultOf, OfHeader, Headed, layoutTable, LayoutRead, LayoutReads, lays, lays-no, SymbologyReads, Does}
+use Rattle.block.specs.Read.{fives, nines, roomy, over, blockAnswer, blockSymbology, blockLayout, Promise, answerOf, symbologyAfter, layoutAfter}
+use Rattle.block.specs.Parts.{Fixed, OfHeader, Headed, layoutTable, LayoutRead, LayoutReads, lays, lays-no, SymbologyReads, Does}
 use Rattle.block.specs.declared.MetadataLengths.{MetadataLengths}
 use Rattle.block.specs.declared.Fields.{Fields}
 use Rattle.block.specs.declared.LayoutFound.{LayoutFound}
@@ -47,14 +47,17 @@ lays-bad {has} {sheet} {w} {b} {k = k} h q = go (rw q at h)
 
 module _ (v : MetadataLengths) {z : Res (Block × List ℕ)} (s l : List ℕ) where
   pub does-no : {k : ℕ} → z ≡ refuse k → Does v z s l (Refused k) s l
+  unfolding answerOf symbologyAfter layoutAfter
   does-no e = record { answer = rw e; symbology = rw e; layout = rw e }
 
   module _ {x : Block × List ℕ} {i : ℕ} (e : z ≡ ok x i) where
     does-short : roomy (x .0) (length s) (length l) ≡ false → Does v z s l (Short (length (fives (x .0))) (length (nines (x .0)))) s l
+    unfolding answerOf symbologyAfter layoutAfter
     does-short q = record { answer = rw (e, q); symbology = rw (e, q); layout = rw (e, q) }
 
     does-read : {s′ l′ : List ℕ} {f : Fields} → roomy (x .0) (length s) (length l) ≡ true → leb (length (nines (x .0))) (length l / 9) ≡ true
         → s′ ≡ over (fives (x .0)) 5 s → l′ ≡ leave l (ok (x .0 .layout) 0) → f ≡ fieldsOf v (x .0) → Does v z s l (Read f) s′ l′
+    unfolding answerOf symbologyAfter layoutAfter
     does-read q q9 es el ef = record { answer = rw (e, q, ef); symbology = es ∙ rw (e, q); layout = el ∙ rw (e, q, q9) }
 
 -- ---- the whole from its parts

@@ -6,13 +6,13 @@ use mathlib.Core.Path.{_≡_, refl, sym, ap, _∙_, subst}
 use mathlib.Core.Bool.{Bool, true, false}
 use mathlib.Core.List.{List}
 use lib.ListN.{length, getD, take, drop}
-use Rattle.codec.specs.Codec.{Res, ok, refuse, _>>=_, need, Codec, raw, skip, num, value, _then_, named, checked}
-use Rattle.codec.specs.Cases.{by-bool}
-use Rattle.codec.specs.Steps.{raw-got, num-got, byte-got}
+use Rattle.codec.specs.Codec.{Res, ok, refuse, _>>=_, need, Codec, raw, skip, num, value, _then_, named, checked, faultOf}
+use Rattle.codec.specs.CaseLaws.{by-bool}
+use Rattle.codec.specs.StepLaws.{raw-got, num-got, byte-got}
 use Rattle.text.specs.Utf8.{utf8}
 use Rattle.text.specs.Trim.{trimmedLen}
 use Rattle.block.specs.Block.{Header, header, isSchema, isStype, isStypeIn, widthOf}
-use Rattle.block.specs.Parts.{Fixed, faultOf, OfHeader}
+use Rattle.block.specs.Parts.{Fixed, OfHeader}
 use Rattle.block.specs.Fields.{fieldsWith, schemaOf, endOf, limitOf, stypeInOf, tsOutOf}
 use Rattle.block.specs.declared.MetadataLengths.{MetadataLengths}
 use Rattle.block.specs.declared.Fields.{Fields}

@@ -9,15 +9,14 @@ use lib.ListN.{length, take, drop, length-take, length-drop}
 use lib.Seq.{take-all}
 use lib.Dec.{leb, eqb}
 use borrow.Author.Tests.{le-leb}
-use Rattle.codec.specs.Cases.{by-bool}
-use Rattle.codec.specs.Codec.{Res, ok, refuse, _>>=_, need, Codec, raw, num, value, sized, named, checked, judged, asks, whole, boxed, isNil, full}
+use Rattle.codec.specs.CaseLaws.{by-bool}
+use Rattle.codec.specs.Codec.{Res, ok, refuse, _>>=_, need, Codec, raw, num, value, sized, named, checked, judged, asks, whole, boxed, isNil, full, remainder}
 use Rattle.codec.specs.Laws.{bind-ok}
-use Rattle.codec.specs.Steps.{raw-got, raw-bad, num-got, num-bad}
-use Rattle.codec.specs.Remainder.{remainder}
+use Rattle.codec.specs.StepLaws.{raw-got, raw-bad, num-got, num-bad}
 use Rattle.text.specs.Utf8.{utf8}
 use Rattle.dates.specs.Date.{isDate}
 use Rattle.layout.specs.Layout.{Layout, Parts, parts, toLayout, fromLayout}
-use Rattle.layout.specs.Given.{D, layoutOf}
+use Rattle.layout.specs.LayoutOf.{D, layoutOf}
 use Rattle.symbology.specs.Symbology.{Symbology, symbology}
 use Rattle.symbology.specs.Reader.{sectionOf}
 use Rattle.layout.specs.Answers.{leave, verdict}

@@ -1,9 +1,8 @@
 -- The block, as document 01's "Bytes on the wire" has it: the tree that keeps every byte, and one format for versions 1 to 4.
 -- Assumes nothing.
-use Prim.Native.Nat.{ℕ, zero, suc, _<_}
-use native.Mathlib.Omega.{arith}
+use Prim.Native.Nat.{ℕ, zero, suc}
 use mathlib.Core.Path.{_≡_, refl, ap}
-use mathlib.Core.Bool.{Bool, true, false, _||_}
+use mathlib.Core.Bool.{Bool, true, false, _||_, cond}
 use mathlib.Core.List.{List, []}
 use lib.ListN.{length}
 use lib.Dec.{leb, eqb}
@@ -12,10 +11,10 @@ use Rattle.codec.specs.Codec.{Res, _>>=_, need, whole, isNil}
 use Rattle.codec.specs.Format.{Format, raw, num, skip, rawTest, numTest, _then_, on, named, checked, judged, asks, sized, apart, spanned, remainder}
 use Rattle.text.specs.Utf8.{utf8}
 use Rattle.dates.specs.Date.{isDate}
-use Rattle.numbers.specs.Pick.{pick}
 use Rattle.prelude.specs.Prelude.{isVersion}
 use Rattle.layout.specs.Layout.{Layout, Parts, parts, toLayout, fromLayout}
-use Rattle.layout.specs.Given.{D}
+use Rattle.layout.specs.LayoutOf.{D}
+use Rattle.layout.specs.LayoutLaws.{parts-some}
 use Rattle.symbology.specs.Symbology.{Symbology, symbology, unspanned}
 use Rattle.rules.specs.Rules.{rulesOf}
 use Rattle.rules.specs.RuleLaws.{rules-blind}
@@ -57,7 +56,7 @@ abbrev pub v4 : MetadataLengths
 v4 = record { «dataset_cstr_len» = 38; «record_count_len» = 0; «symbol_cstr_len_len» = 2; «reserved_len» = 31; «has_layout» = true }
 
 unfoldable pub lengths : ℕ → MetadataLengths
-lengths version = pick (eqb version 1) v1 (pick (eqb version 4) v4 v2)
+lengths version = cond (eqb version 1) v1 (cond (eqb version 4) v4 v2)
 
 -- ---- accepted codes
 
@@ -109,14 +108,9 @@ widthOf v h = orV1 (v .«symbol_cstr_len_len») (h .width)
 abbrev pub noItems : List ℕ → Layout
 noItems b = toLayout ((0, ([], ([], []))), b)
 
--- the version alone has two bytes
-pub parts-some : (x : Parts) → parts utf8 D .codec .legal x → 0 < length (parts utf8 D .codec .print x)
-unfolding parts plain._then_ plain.num
-parts-some x lg = omega arith
-
 -- u32 layout length and that many bytes, 24 where they run past the end; 26 where there are none
 abbrev pub layoutBox : Format (Parts × List ℕ) false
-layoutBox = apart 24 24 24 4 0 (asks 26 1 (parts utf8 D) parts-some)
+layoutBox = apart 24 24 24 4 0 (asks 26 1 (parts utf8 D) (parts-some utf8 D))
 
 pub layout-blind : (sheet : List ℕ) (width : ℕ) (z : Parts × List ℕ) → rulesOf sheet width (layoutBox .codec .bare z .0) ≡ rulesOf sheet width (z .0)
 unfolding plain.boxed plain.asks

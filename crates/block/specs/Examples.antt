@@ -4,14 +4,13 @@ use mathlib.Core.Path.{_≡_, refl}
 use mathlib.Core.Bool.{Bool, true, false}
 use mathlib.Core.List.{List, [], _∷_, _++_}
 use lib.ListN.{replicate, length}
-use Rattle.codec.specs.Codec.{Res, ok, refuse, _>>=_, Codec, raw, skip, num, _then_, _on_, named, checked, placed, sized, limited, asks, whole}
-use Rattle.codec.specs.Remainder.{remainder}
+use Rattle.codec.specs.Codec.{Res, ok, refuse, _>>=_, Codec, raw, skip, num, _then_, _on_, named, checked, placed, sized, limited, asks, whole, remainder}
 use Rattle.text.specs.Utf8.{utf8}
 use Rattle.symbology.specs.Symbology.{symbol, date, list, interval, mapping, symbology}
 use Rattle.symbology.specs.SymbologyRows.{symbologyRows}
 use Rattle.layout.specs.Rows.{rows}
 use Rattle.block.specs.Block.{Block, lengths, header, layoutPart, symbologyPart, block, blockOf}
-use Rattle.block.specs.Read.{fives, blockSymbology}
+use Rattle.block.specs.Read.{fives, blockSymbology, symbologyAfter}
 
 abbrev pub listed : List ℕ → List ℕ
 listed t = replicate 45 0 ++ (3 ∷ 0 ∷ []) ++ replicate 53 0 ++ replicate 4 0 ++ (1 ∷ 0 ∷ 0 ∷ 0 ∷ []) ++ t ++ replicate 12 0
@@ -30,5 +29,5 @@ P11 sheet = refl
 
 -- and what stands in a table of one row after reading
 pub P10-table : (sheet : List ℕ) → blockSymbology 2 (listed (69 ∷ 83 ∷ 0 ∷ [])) sheet (replicate 5 7) [] ≡ 0 ∷ 108 ∷ 2 ∷ 0 ∷ 0 ∷ []
-unfolding rows blockSymbology blockOf lengths whole block _on_ header named _then_ checked raw skip num layoutPart sized symbologyPart remainder symbology list limited symbol placed date interval mapping asks symbologyRows utf8
+unfolding rows blockSymbology symbologyAfter blockOf lengths whole block _on_ header named _then_ checked raw skip num layoutPart sized symbologyPart remainder symbology list limited symbol placed date interval mapping asks symbologyRows utf8
 P10-table sheet = refl

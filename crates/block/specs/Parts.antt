@@ -1,14 +1,13 @@
 -- What the reader's private functions answer: lines over the formats. Assumes nothing.
 use Prim.Native.Nat.{ℕ, _+_, _-_, _≤_, _<_}
 use mathlib.Core.Path.{_≡_}
-use mathlib.Core.Bool.{Bool, true, false}
+use mathlib.Core.Bool.{Bool, true, false, cond}
 use mathlib.Core.List.{List}
 use lib.ListN.{length, take, drop}
 use Rattle.codec.specs.Codec.{Res, ok, refuse, faultOf, _>>=_, num, raw}
-use Rattle.numbers.specs.Pick.{pick}
 use Rattle.layout.specs.Layout.{Layout}
 use Rattle.layout.specs.Rows.{rows}
-use Rattle.layout.specs.Given.{layoutOf}
+use Rattle.layout.specs.LayoutOf.{layoutOf}
 use Rattle.symbology.specs.Symbology.{Symbology}
 use Rattle.symbology.specs.Answers.{SectionPromise}
 use Rattle.symbology.specs.declared.SectionAnswer.{SectionAnswer}
@@ -61,7 +60,7 @@ sectionAt false b at = Part at (length b - at)
 
 -- the table after a layout, where a version has one
 abbrev pub layoutTable : Bool → List ℕ → List ℕ → List ℕ
-layoutTable has part t = pick has (leave t (layoutOf part)) t
+layoutTable has part t = cond has (leave t (layoutOf part)) t
 
 -- the layout part that was read: it ends at e, and its rows make of a table what its bytes make of it
 pub record LayoutRead (has : Bool) (sheet : List ℕ) (width : ℕ) (b : List ℕ) (v n e : ℕ) : Type 0 where

@@ -8,7 +8,8 @@ ghost use lib.ListN.{length, take, drop};
 ghost use Rattle.codec.specs.Codec.{value};
 ghost use Rattle.block.specs.Block.{lengths, header, widthOf, isSchema, isStype, isStypeIn};
 ghost use Rattle.block.specs.Fields.{unless, endOf, fieldsWith};
-ghost use Rattle.block.specs.Parts.{Fixed, faultOf, OfHeader};
+ghost use Rattle.codec.specs.Codec.{faultOf};
+ghost use Rattle.block.specs.Parts.{Fixed, OfHeader};
 
 // The refusal of a header, or 0.
 pub(crate) fn check_header(block: &[u8], v: MetadataLengths) -> u32

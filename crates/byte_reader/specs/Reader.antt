@@ -1,12 +1,12 @@
 -- A reader that keeps its section and its place together: where it stands after a step, and what a step promises.
--- What is read is said by the definitions of the slice's readers (`wire`'s Wire.antt).
+-- What is read is said by the definitions of the slice's readers (`wire`'s Reader.antt).
 -- Assumes nothing.
 use Prim.Native.Nat.{ℕ}
 use mathlib.Core.Path.{_≡_}
 use mathlib.Core.List.{List}
 use denote.Ref.{now}
 use Rattle.numbers.specs.Numbers.{u16At, gotOn, Past}
-use Rattle.wire.specs.Wire.{nameAt}
+use Rattle.wire.specs.Reader.{nameAt}
 use Rattle.numbers.specs.declared.Got.{Got}
 use Rattle.numbers.specs.declared.Got.the-variants.{Value, Refused}
 use Rattle.byte_reader.specs.declared.ByteReader.{ByteReader}

@@ -5,7 +5,7 @@ use numbers::Got;
 ghost use mathlib.Core.Path.{_≡_};
 ghost use Prim.Native.Nat.{_+_};
 ghost use Rattle.numbers.specs.Numbers.{takeAt, numAt};
-ghost use Rattle.wire.specs.Wire.{nameAt};
+ghost use Rattle.wire.specs.Reader.{nameAt};
 ghost use Rattle.byte_reader.specs.Reader.{after, Stepped, LabelAfter, LabelIs};
 
 // A section, and the place in it where the next read begins.

@@ -6,7 +6,7 @@ use mathlib.Core.List.{List}
 use lib.ListN.{length}
 use lib.Dec.{leb}
 use Rattle.codec.specs.Codec.{Res, ok, refuse}
-use Rattle.codec.specs.Cases.{by-bool}
+use Rattle.codec.specs.CaseLaws.{by-bool}
 use Rattle.layout.specs.Layout.{Layout}
 use Rattle.layout.specs.Rows.{rows}
 use Rattle.layout.specs.Answers.{verdict, judge, layoutNumber, verdictNumber}

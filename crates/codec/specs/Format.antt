@@ -9,9 +9,7 @@ use mathlib.Core.List.{List}
 use lib.ListN.{length}
 use Rattle.codec.specs.Codec as plain
 use Rattle.codec.specs.Codec.{Codec}
-use Rattle.codec.specs.Laws.{Law, law-raw, law-skip, law-padded, law-num, law-byte, law-then, law-on, law-named, law-checked, law-judged, law-asks, law-placed, law-sized, law-times, law-distinct, law-limited, law-boxed, law-full, length-bare}
-use Rattle.codec.specs.Remainder as rest
-use Rattle.codec.specs.Remainder.{law-remainder}
+use Rattle.codec.specs.Laws.{Law, law-raw, law-skip, law-padded, law-num, law-byte, law-then, law-on, law-named, law-checked, law-judged, law-asks, law-placed, law-sized, law-times, law-distinct, law-limited, law-boxed, law-full, law-remainder, length-bare}
 use Rattle.codec.specs.Edits.{Edits}
 use Rattle.codec.specs.EditLaws.{edits-kept, edits-still, edits-skip, edits-padded, edits-then, edits-on, edits-named, edits-checked, edits-judged, edits-asks, edits-placed, edits-sized, edits-times, edits-distinct, edits-limited, edits-apart, edits-boxed}
 
@@ -228,4 +226,4 @@ module _ {A : Type 0} {d : Bool} (k j w own : ℕ) (F : Format A d) where
 
 -- what stands from here on, as a list of its own; no edit changes it
 abbrev pub remainder : {A : Type 0} {d e : Bool} → Format A d → Format A e
-remainder {e = e} F = record { codec = rest.remainder (F .codec); law = law-remainder _ (F .law); edits = edits-kept _ (tail e) }
+remainder {e = e} F = record { codec = plain.remainder (F .codec); law = law-remainder _ (F .law); edits = edits-kept _ (tail e) }

@@ -14,12 +14,12 @@ use Rattle.codec.specs.Laws.{need-ok, whole-reads, whole-back}
 use Rattle.codec.specs.Edits.{Marked, bytesOf, Edit, put}
 use Rattle.text.specs.Utf8.{utf8}
 use Rattle.dates.specs.Date.{isDate}
-use Rattle.layout.specs.Given.{D}
+use Rattle.layout.specs.LayoutOf.{D}
 use Rattle.layout.specs.Layout.{parts, toLayout, bareLayout}
 use Rattle.layout.specs.TextLaws.{rowText, texts}
 use Rattle.block.specs.Block.{Header, Block, v4, lengths, header, layoutPart, block, blockOf}
 use Rattle.block.specs.Fields.{fieldsWith, fieldsOf}
-use Rattle.block.specs.Read.{fives, nines, blockAnswer}
+use Rattle.block.specs.Read.{fives, nines, blockAnswer, answerOf}
 use Rattle.demands.specs.LayoutRows.{moveRow}
 use Rattle.demands.specs.SymbologyRows.{symbologyTexts, symbology-located}
 use Rattle.demands.specs.Edited.{header-length, B4, width, section, layoutIn, header-bare, layout-bare, parted, nines-move, fives-move, section-moved, section-stays, nines-texts, fives-texts}
@@ -105,7 +105,7 @@ module _ (sheet : List ℕ) where
   answers-same : (b b′ : List ℕ) (x z : Block) (r r′ : List ℕ) (i j : ℕ) → blockOf 4 sheet b ≡ ok (x, r) i → blockOf 4 sheet b′ ≡ ok (z, r′) j
       → length (fives z) ≡ length (fives x) → length (nines z) ≡ length (nines x) → fieldsOf v4 z ≡ fieldsOf v4 x
       → (s l : List ℕ) → blockAnswer 4 b′ sheet s l ≡ blockAnswer 4 b sheet s l
-  unfolding blockAnswer lengths
+  unfolding blockAnswer answerOf lengths
   answers-same b b′ x z r r′ i j p q f n e s l = rw (p, q, f, n, e)
 
   module _ (b : List ℕ) (x : Block) (r : List ℕ) (k : ℕ) (read : blockOf 4 sheet b ≡ ok (x, r) k) (bytes : b ≡ B4 sheet .print x ++ r)

@@ -6,8 +6,7 @@ use native.Mathlib.Omega.{arith}
 use mathlib.Core.Path.{_≡_, refl, sym, _∙_}
 use mathlib.Core.List.{List, [], _∷_, _++_}
 use lib.ListN.{replicate}
-use Rattle.codec.specs.Codec.{Res, ok, refuse, _>>=_, raw, skip, num, named, checked, judged, asks, sized, limited, times, whole, boxed, full, _then_, _on_}
-use Rattle.codec.specs.Remainder.{remainder}
+use Rattle.codec.specs.Codec.{Res, ok, refuse, _>>=_, raw, skip, num, named, checked, judged, asks, sized, limited, times, whole, boxed, full, _then_, _on_, remainder}
 use Rattle.text.specs.Utf8.{utf8}
 use Rattle.symbology.specs.Symbology.{list, mapping, symbology}
 use Rattle.symbology.specs.SymbologyRows.{symbologyRows}

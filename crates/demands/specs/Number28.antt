@@ -14,7 +14,7 @@ use Rattle.codec.specs.Codec.{ok, refuse, Bytes, little, raw, skip, num, named,
 use Rattle.codec.specs.Laws.{Here, law-boxed, whole-back}
 use Rattle.text.specs.Utf8.{utf8}
 use Rattle.dates.specs.Date.{isDate}
-use Rattle.layout.specs.Given.{D}
+use Rattle.layout.specs.LayoutOf.{D}
 use Rattle.layout.specs.Layout.{printLayout}
 use Rattle.symbology.specs.Symbology.{Symbology, symbology}
 use Rattle.block.specs.Block.{Header, Block, v4, lengths, header, layoutPart, symbologyPart, block, blockOf}

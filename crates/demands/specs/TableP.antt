@@ -11,12 +11,12 @@ use Rattle.dates.specs.Hand.{p12}
 use Rattle.text.specs.Hand.{p13}
 use Rattle.wire.specs.Formats.{section, textOf, text, name}
 use Rattle.layout.specs.Layout.{label, labelDef, parts, groups, readLayout}
-use Rattle.layout.specs.Given.{layoutOf}
+use Rattle.layout.specs.LayoutOf.{layoutOf}
 use Rattle.layout.specs.Rows.{rows}
 use Rattle.layout.specs.Examples.{p7, p8, p9, p7rows}
 use Rattle.rules.specs.Rules.{rulesOf, ruledOf, seqsFault, structsFault, recordsFault}
 use Rattle.block.specs.Examples.{listed, rowsOf, P10, P11}
-use Rattle.feed.specs.Hand.{Gives, p1, p2, p3, p4, p5}
+use Rattle.feed.specs.Examples.{Gives, p1, p2, p3, p4, p5}
 use Rattle.feed.specs.declared.Answer.the-variants.{Needs, Refused}
 
 -- a layout's version and rows, or the refusal

@@ -8,7 +8,7 @@ use Rattle.codec.specs.Codec.{raw, padded, num, byte, named, checked, placed, s
 use Rattle.text.specs.Utf8.{utf8}
 use Rattle.wire.specs.Formats.{section, text, textOf, name}
 use Rattle.layout.specs.Layout.{entry, fields, recordL, structL, label, labelDef, parts, groups, printLayout}
-use Rattle.layout.specs.Given.{D}
+use Rattle.layout.specs.LayoutOf.{D}
 use Rattle.entry.specs.Entry.{cutBytes, rowBytes}
 use Rattle.fields.specs.Sheet.{alignOf, defOf, idOf, isDecimal, isExtension, isPadding, isStruct, isSymbol, memberAlign, namesLabel, offOf, pastBase, sizeOf, typeOf}
 use Rattle.fields.specs.Field.{breaks71, breaks72, breaks73, breaks74, breaks76, breaks77, breaks79, breaks80, fieldFault}

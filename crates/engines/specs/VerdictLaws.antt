@@ -8,7 +8,7 @@ use lib.Dec.{eqb}
 use Rattle.codec.specs.Codec.{Res, ok, refuse}
 use Rattle.codec.specs.Laws.{bind-ok, need-ok}
 use Rattle.layout.specs.Layout.{Layout, fromLayout}
-use Rattle.layout.specs.Given.{layoutOf}
+use Rattle.layout.specs.LayoutOf.{layoutOf}
 use Rattle.layout.specs.Rows.{rows}
 use Rattle.layout.specs.Answers.{verdict}
 use Rattle.layout.specs.declared.Verdict.the-variants as Verdict'

@@ -7,4 +7,4 @@ pub mod LeastLaws
 pub mod BytewiseLaws
 pub mod PieceLaws
 pub mod NeverPastLaws
-pub mod Hand
+pub mod Examples

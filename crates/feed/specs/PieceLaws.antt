@@ -9,7 +9,7 @@ use lib.Seq.{paste, paste-zero}
 use Rattle.feed.specs.BytewiseLaws.{eats, after, after-eats, eats-append, eats-none, rest}
 use Rattle.feed.specs.Feeding.{stageOf, needOf, takenOf, blockSays, blockIn, answerAt, symbologyAt, layoutAt, Judgement, Feeding}
 use Rattle.feed.specs.Single.{Same, one-feed}
-use Rattle.block.specs.Read.{again}
+use Rattle.block.specs.ReadLaws.{again}
 use Rattle.feed.specs.declared.Answer.{Answer}
 use Rattle.feed.specs.declared.Fed.{Fed}
 use Rattle.prelude.specs.declared.Stage.{Stage}

@@ -10,7 +10,7 @@ use Rattle.codec.specs.Codec.{among}
 use Rattle.marks.specs.Marks.{wiped, Marks, Only}
 use Rattle.marks.specs.MarkLaws.{only-next, only-end}
 use Rattle.numbers.specs.Numbers.{le16, u16At}
-use Rattle.wire.specs.Wire.{nameAt}
+use Rattle.wire.specs.Reader.{nameAt}
 use Rattle.numbers.specs.NumberLaws.{u16-value}
 use Rattle.wire.specs.NameLaws.{name-place}
 use Rattle.table.specs.OutLaws.{Going}

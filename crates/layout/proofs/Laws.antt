@@ -11,24 +11,24 @@ use native.Mathlib.Omega.{arith}
 use borrow.Author.Tests.{eq-eqb, ne-eqb}
 use Rattle.codec.specs.Codec.{Res, ok, refuse, _>>=_, padded, num, named, _then_, sized, times, timesParse, among, distinct, distinctParse, counted}
 use Rattle.codec.specs.Laws.{bind-ok}
-use Rattle.codec.specs.Steps.{raw-got, raw-bad, num-got, num-bad, times-length, distinct-length}
-use Rattle.codec.specs.Cases.{by-bool, by-le}
+use Rattle.codec.specs.StepLaws.{raw-got, raw-bad, num-got, num-bad, times-length, distinct-length}
+use Rattle.codec.specs.CaseLaws.{by-bool, by-le}
 use Rattle.text.specs.Utf8.{utf8}
 use Rattle.wire.specs.Formats
 use Rattle.wire.specs.Formats.{Name}
-use Rattle.wire.specs.Wire.{name, nameAt, sectionAt}
+use Rattle.wire.specs.Reader.{name, nameAt, sectionAt}
 use Rattle.numbers.specs.Numbers.{takeAt, u16At, part, le16, le32, le64}
 use Rattle.numbers.specs.NumberLaws.{take-ok, take-no, take-value, take-refused, num-is, u16-is, u64-is}
 use Rattle.wire.specs.NameLaws.{name-ok, name-no}
 use Rattle.table.specs.Out.{Out, said, row, seq, onGot, allRows}
 use Rattle.table.specs.StepLaws.{items-end, items-row, items-no, both, both-seq, said-named, count-row, said-num, seq-same}
-use Rattle.wire.specs.Steps.{said-name, parts-end, parts-run, parts-no}
+use Rattle.wire.specs.StepLaws.{said-name, parts-end, parts-run, parts-no}
 use Rattle.numbers.specs.declared.Got.{Got}
 use Rattle.numbers.specs.declared.Got.the-variants.{Value, Refused}
 use Rattle.layout.specs.Layout
 use Rattle.layout.specs.Layout.{Entry, Fields, RecordL, StructL, Label, LabelDef, toRecord, toStruct, toLabelDef}
-use Rattle.layout.specs.Given
-use Rattle.layout.specs.Given.{D, D-least}
+use Rattle.layout.specs.LayoutOf
+use Rattle.layout.specs.LayoutOf.{D, D-least}
 use Rattle.layout.specs.Rows.{headRow, entryRow, nameRow, fieldRows, recordRows, structRows, labelRow, labelDefRows, row10, row12, row13, row14, row15}
 use Rattle.entry.specs.Entry.{entryBytes}
 use Rattle.layout.specs.Reader.{entriesAt, namesAt, fieldsAt, recordBody, structBody, labelBody, bodyOf, sectionsAt, groupAt, groupsAt, labelsAt}
@@ -55,7 +55,7 @@ bytes-11 s at h =
 
 -- an entry of D bytes
 module _ (base : ℕ) (s : List ℕ) (at : ℕ) where
-  pub entry-ok : {v p : ℕ} → takeAt 50 D s at ≡ Value v p → (x : Entry) × (Given.entry .parse base s at ≡ ok x p) × (entryRow x ≡ headRow (entryBytes s at))
+  pub entry-ok : {v p : ℕ} → takeAt 50 D s at ≡ Value v p → (x : Entry) × (LayoutOf.entry .parse base s at ≡ ok x p) × (entryRow x ≡ headRow (entryBytes s at))
   unfolding Layout.entry named padded
   entry-ok {v} {p} e =
       let w = take-value 50 D s at e in
@@ -68,7 +68,7 @@ module _ (base : ℕ) (s : List ℕ) (at : ℕ) where
         ap headRow (take-take 11 (11 + (D - 11)) (drop at s) (omega arith) ∙ sym (bytes-11 s at l)),
       )
 
-  pub entry-no : {k : ℕ} → takeAt 50 D s at ≡ Refused k → Given.entry .parse base s at ≡ refuse k
+  pub entry-no : {k : ℕ} → takeAt 50 D s at ≡ Refused k → LayoutOf.entry .parse base s at ≡ refuse k
   unfolding Layout.entry named padded
   entry-no {k} e =
       let (x, h) = take-refused 50 D s at e in
@@ -77,17 +77,17 @@ module _ (base : ℕ) (s : List ℕ) (at : ℕ) where
 
 pub entries-end : (base n : ℕ) (s : List ℕ) (at : ℕ) → n ≤ 0 → entriesAt base n s at ≡ ok [] at
 unfolding entriesAt
-entries-end base n s at h = items-end Given.entry entryRow base s n at h
+entries-end base n s at h = items-end LayoutOf.entry entryRow base s n at h
 
 pub entries-row : (base n : ℕ) (s : List ℕ) (at : ℕ) {d v p : ℕ} → d ≡ D → 0 < n → takeAt 50 d s at ≡ Value v p → entriesAt base n s at ≡ row (headRow (entryBytes s at)) (entriesAt base (n - 1) s p)
 unfolding entriesAt
 entries-row base n s at {d} {v} {p} q h e =
     let (x, e1, e2) = entry-ok base s at (rw q at e) in
-    items-row Given.entry entryRow base s n at h e1 ∙ ap (λ r. row r (said (map entryRow) (timesParse Given.entry (n - 1) base s p))) e2
+    items-row LayoutOf.entry entryRow base s n at h e1 ∙ ap (λ r. row r (said (map entryRow) (timesParse LayoutOf.entry (n - 1) base s p))) e2
 
 pub entries-no : (base n : ℕ) (s : List ℕ) (at : ℕ) {d k : ℕ} → d ≡ D → 0 < n → takeAt 50 d s at ≡ Refused k → entriesAt base n s at ≡ refuse k
 unfolding entriesAt
-entries-no base n s at q h e = items-no Given.entry entryRow base s n at h (entry-no base s at (rw q at e))
+entries-no base n s at q h e = items-no LayoutOf.entry entryRow base s n at h (entry-no base s at (rw q at e))
 
 pub names-end : (base n : ℕ) (s : List ℕ) (at : ℕ) → n ≤ 0 → namesAt base n s at ≡ ok [] at
 unfolding namesAt
@@ -111,7 +111,7 @@ fieldsTo z = record { entries = z .0; names = z .1 }
 pub fields-ok : (base : ℕ) (s : List ℕ) (at : ℕ) {count p : ℕ} → u16At s at ≡ Value count p → fieldsAt base s at ≡ seq (entriesAt base count s p) (λ q. namesAt base count s q)
 unfolding fieldsAt entriesAt namesAt Layout.fields named sized _then_ times
 fields-ok base s at {count} {p} e =
-    let r : Res (List Entry) = timesParse Given.entry count base s p in
+    let r : Res (List Entry) = timesParse LayoutOf.entry count base s p in
     let g : ℕ → Res (List Name) = λ q. timesParse name count base s q in
     rw (num-is 50 2 s at base, e) (said-named fieldRows fieldsTo (both r g) ∙ both-seq (map entryRow) (map nameRow) r g)
 
@@ -122,20 +122,20 @@ fields-no base s at e = rw (num-is 50 2 s at base, e)
 -- the fields after a row that tells their number
 module _ (base : ℕ) (s : List ℕ) (at : ℕ) (h : ℕ → List ℕ) where
   abbrev pairsAt : ℕ → ℕ → Res (List Entry × List Name)
-  pairsAt n j = both (timesParse Given.entry n base s j) (λ q. timesParse name n base s q)
+  pairsAt n j = both (timesParse LayoutOf.entry n base s j) (λ q. timesParse name n base s q)
 
   pairs-length : (n p : ℕ) (z : List Entry × List Name) (j : ℕ) → pairsAt n p ≡ ok z j → length (z .0) ≡ n
   pairs-length n p z j e =
-      let (x, m, e1, e2) = bind-ok (timesParse Given.entry n base s p) _ z j e in
+      let (x, m, e1, e2) = bind-ok (timesParse LayoutOf.entry n base s p) _ z j e in
       let (y, k, e3, e4) = bind-ok (timesParse name n base s m) _ z j e2 in
       let q : (x, y) ≡ z = cc in
-      ap (λ w. length (w .0)) (sym q) ∙ times-length Given.entry base s n p x m e1
+      ap (λ w. length (w .0)) (sym q) ∙ times-length LayoutOf.entry base s n p x m e1
 
   pairs-said : {count p : ℕ} → u16At s at ≡ Value count p → fieldsAt base s at ≡ said (λ z. fieldRows (fieldsTo z)) (pairsAt count p)
   unfolding fieldsAt Layout.fields named sized _then_ times
   pairs-said {count} {p} e = rw (num-is 50 2 s at base, e) (said-named fieldRows fieldsTo (pairsAt count p))
 
-  pub head-fields : said (λ f. h (length (f .entries)) ∷ fieldRows f) (Given.fields .parse base s at) ≡ onGot (u16At s at) (λ count _. row (h count) (fieldsAt base s at))
+  pub head-fields : said (λ f. h (length (f .entries)) ∷ fieldRows f) (LayoutOf.fields .parse base s at) ≡ onGot (u16At s at) (λ count _. row (h count) (fieldsAt base s at))
   unfolding Layout.fields named sized _then_ times
   head-fields =
       said-named (λ f. h (length (f .entries)) ∷ fieldRows f) fieldsTo (num 50 2 .parse base s at >>= pairsAt)
@@ -152,13 +152,13 @@ module _ {A : Type 0} (f : A → List (List ℕ)) (to : Name × Fields → A) (h
   abbrev Told : Out
   Told = onGot (nameAt s at) λ len q. onGot (u16At s q) λ count _. row (h (base + (at + 1)) len count) (fieldsAt base s q)
 
-  pub name-fields : said (λ z. f (to z)) ((name then Given.fields) .parse base s at) ≡ Told
+  pub name-fields : said (λ z. f (to z)) ((name then LayoutOf.fields) .parse base s at) ≡ Told
   unfolding _then_
   name-fields =
-      said-name (λ z. f (to z)) base s at (λ x q. Given.fields .parse base s q >>= λ y k. ok (x, y) k) _
+      said-name (λ z. f (to z)) base s at (λ x q. LayoutOf.fields .parse base s q >>= λ y k. ok (x, y) k) _
       (λ x len q e l.
-      said-named (λ z. f (to z)) (λ y. (x, y)) (Given.fields .parse base s q)
-      ∙ same x (Given.fields .parse base s q)
+      said-named (λ z. f (to z)) (λ y. (x, y)) (LayoutOf.fields .parse base s q)
+      ∙ same x (LayoutOf.fields .parse base s q)
       ∙ head-fields base s q (h (x .start) (length (x .text)))
       ∙ ap₂ (λ a b. onGot (u16At s q) (λ count _. row (h a b count) (fieldsAt base s q))) e l)
     where
@@ -170,21 +170,21 @@ pub struct-is : (base : ℕ) (s : List ℕ)
     → structBody base s ≡ (onGot (u16At s 0) λ size p. onGot (nameAt s p) λ len q. onGot (u16At s q) λ count _. row (row13 (base + (p + 1)) len size count) (fieldsAt base s q))
 unfolding structBody _then_
 struct-is base s =
-    said-num (λ z. structRows (toStruct (z, []))) base s 0 50 2 (λ x j. (name then Given.fields) .parse base s j >>= λ y k. ok (x, y) k) _
+    said-num (λ z. structRows (toStruct (z, []))) base s 0 50 2 (λ x j. (name then LayoutOf.fields) .parse base s j >>= λ y k. ok (x, y) k) _
     (λ size p.
-    said-named (λ z. structRows (toStruct (z, []))) (λ y. (size, y)) ((name then Given.fields) .parse base s p)
+    said-named (λ z. structRows (toStruct (z, []))) (λ y. (size, y)) ((name then LayoutOf.fields) .parse base s p)
     ∙ name-fields (λ z. structRows (toStruct (z, []))) (λ y. (size, y)) (λ a b c. row13 a b size c) (λ x y. refl) base s p)
 
 pub label-is : (base : ℕ) (s : List ℕ)
     → labelBody base s ≡ (onGot (nameAt s 0) λ len p. onGot (u16At s p) λ count q. row (row14 (base + 1) len count) (labelsAt base [] count s q))
 unfolding labelBody labelsAt _then_ sized distinct
 label-is base s =
-    said-name (λ z. labelDefRows (toLabelDef (z, []))) base s 0 (λ x j. num 50 2 .parse base s j >>= (λ n j. distinctParse Given.label (λ l. l .code) 55 n [] base s j) >>= λ y k. ok (x, y) k) _
+    said-name (λ z. labelDefRows (toLabelDef (z, []))) base s 0 (λ x j. num 50 2 .parse base s j >>= (λ n j. distinctParse LayoutOf.label (λ l. l .code) 55 n [] base s j) >>= λ y k. ok (x, y) k) _
     (λ x len p e l.
-    said-named (λ z. labelDefRows (toLabelDef (z, []))) (λ y. (x, y)) (num 50 2 .parse base s p >>= λ n j. distinctParse Given.label (λ l. l .code) 55 n [] base s j)
-    ∙ count-row 50 2 (row14 (x .start) (length (x .text))) (map labelRow) length base s p (λ n j. distinctParse Given.label (λ l. l .code) 55 n [] base s j)
-    (λ n q xs j. distinct-length Given.label base s (λ l. l .code) 55 n [] q xs j)
-    ∙ ap₂ (λ a b. onGot (u16At s p) (λ count q. row (row14 a b count) (said (map labelRow) (distinctParse Given.label (λ l. l .code) 55 count [] base s q)))) e l)
+    said-named (λ z. labelDefRows (toLabelDef (z, []))) (λ y. (x, y)) (num 50 2 .parse base s p >>= λ n j. distinctParse LayoutOf.label (λ l. l .code) 55 n [] base s j)
+    ∙ count-row 50 2 (row14 (x .start) (length (x .text))) (map labelRow) length base s p (λ n j. distinctParse LayoutOf.label (λ l. l .code) 55 n [] base s j)
+    (λ n q xs j. distinct-length LayoutOf.label base s (λ l. l .code) 55 n [] q xs j)
+    ∙ ap₂ (λ a b. onGot (u16At s p) (λ count q. row (row14 a b count) (said (map labelRow) (distinctParse LayoutOf.label (λ l. l .code) 55 count [] base s q)))) e l)
 
 -- a record's fourteen bytes
 abbrev tag : {B : Type 0} → ℕ → Res B → Res (ℕ × B)
@@ -205,7 +205,7 @@ record-is base s =
     let h2 : 2 + 2 ≤ length s = omega arith in
     let h4 : 4 + 2 ≤ length s = omega arith in
     let h6 : 6 + 8 ≤ length s = omega arith in
-    let r : Res (Name × Fields) = (name then Given.fields) .parse base s 14 in
+    let r : Res (Name × Fields) = (name then LayoutOf.fields) .parse base s 14 in
     rw (
       take-ok 50 14 s 0 h,
       num-got 50 2 base s 0 h0,
@@ -278,25 +278,25 @@ module _ (kind n : ℕ) (s : List ℕ) (at : ℕ) where
 
 -- a count and as many items
 module _ (s : List ℕ) (p : ℕ) where
-  kind0 : said (allRows recordRows) (counted Given.recordL 50 .parse 0 s p) ≡ groupAt 0 s p
+  kind0 : said (allRows recordRows) (counted LayoutOf.recordL 50 .parse 0 s p) ≡ groupAt 0 s p
   unfolding groupAt sectionsAt sized times
-  kind0 = said-num (allRows recordRows) 0 s p 50 2 (λ n j. timesParse Given.recordL n 0 s j) _ (λ v p. refl)
+  kind0 = said-num (allRows recordRows) 0 s p 50 2 (λ n j. timesParse LayoutOf.recordL n 0 s j) _ (λ v p. refl)
 
-  kind1 : said (allRows structRows) (counted Given.structL 50 .parse 0 s p) ≡ groupAt 1 s p
+  kind1 : said (allRows structRows) (counted LayoutOf.structL 50 .parse 0 s p) ≡ groupAt 1 s p
   unfolding groupAt sectionsAt sized times
-  kind1 = said-num (allRows structRows) 0 s p 50 2 (λ n j. timesParse Given.structL n 0 s j) _ (λ v p. refl)
+  kind1 = said-num (allRows structRows) 0 s p 50 2 (λ n j. timesParse LayoutOf.structL n 0 s j) _ (λ v p. refl)
 
-  kind2 : said (allRows labelDefRows) (counted Given.labelDef 50 .parse 0 s p) ≡ groupAt 2 s p
+  kind2 : said (allRows labelDefRows) (counted LayoutOf.labelDef 50 .parse 0 s p) ≡ groupAt 2 s p
   unfolding groupAt sectionsAt sized times
-  kind2 = said-num (allRows labelDefRows) 0 s p 50 2 (λ n j. timesParse Given.labelDef n 0 s j) _ (λ v p. refl)
+  kind2 = said-num (allRows labelDefRows) 0 s p 50 2 (λ n j. timesParse LayoutOf.labelDef n 0 s j) _ (λ v p. refl)
 
 -- records, structs and label defs
 pub groups-is : (s : List ℕ) (at : ℕ) → groupsAt s at ≡ seq (groupAt 0 s at) (λ p. seq (groupAt 1 s p) (λ q. groupAt 2 s q))
 unfolding groupsAt Layout.groups _then_
 groups-is s at =
-    let rs : Res (List RecordL) = counted Given.recordL 50 .parse 0 s at in
-    let ss : ℕ → Res (List StructL) = λ p. counted Given.structL 50 .parse 0 s p in
-    let ls : ℕ → Res (List LabelDef) = λ q. counted Given.labelDef 50 .parse 0 s q in
+    let rs : Res (List RecordL) = counted LayoutOf.recordL 50 .parse 0 s at in
+    let ss : ℕ → Res (List StructL) = λ p. counted LayoutOf.structL 50 .parse 0 s p in
+    let ls : ℕ → Res (List LabelDef) = λ q. counted LayoutOf.labelDef 50 .parse 0 s q in
     both-seq (allRows recordRows) (λ z. allRows structRows (z .0) ++ allRows labelDefRows (z .1)) rs (λ p. both (ss p) ls)
     ∙ ap (λ o. seq o (λ p. said (λ z. allRows structRows (z .0) ++ allRows labelDefRows (z .1)) (both (ss p) ls))) (kind0 s at)
     ∙ seq-same (groupAt 0 s at) _ _ (λ p.
@@ -307,16 +307,16 @@ groups-is s at =
 -- ---- labels, after labels of the codes `seen`
 
 module _ (base : ℕ) (s : List ℕ) (at : ℕ) where
-  label-no : {j : ℕ} → u16At s at ≡ Refused j → Given.label .parse base s at ≡ refuse j
+  label-no : {j : ℕ} → u16At s at ≡ Refused j → LayoutOf.label .parse base s at ≡ refuse j
   unfolding Layout.label named _then_
   label-no e = rw (num-is 50 2 s at base, e)
 
-  label-no2 : {code p j : ℕ} → u16At s at ≡ Value code p → nameAt s p ≡ Refused j → Given.label .parse base s at ≡ refuse j
+  label-no2 : {code p j : ℕ} → u16At s at ≡ Value code p → nameAt s p ≡ Refused j → LayoutOf.label .parse base s at ≡ refuse j
   unfolding Layout.label named _then_
   label-no2 {code} {p} e f = rw (num-is 50 2 s at base, e, name-no base s p f)
 
   label-ok : {code p len q : ℕ} → u16At s at ≡ Value code p → nameAt s p ≡ Value len q
-      → (x : Label) × (Given.label .parse base s at ≡ ok x q) × (x .code ≡ code) × (labelRow x ≡ row15 (base + (p + 1)) len code)
+      → (x : Label) × (LayoutOf.label .parse base s at ≡ ok x q) × (x .code ≡ code) × (labelRow x ≡ row15 (base + (p + 1)) len code)
   unfolding Layout.label named _then_
   label-ok {code} {p} {len} {q} e f =
       let (n, e1, e2, e3) = name-ok base s p f in
@@ -352,7 +352,7 @@ module _ (base : ℕ) (seen : List ℕ) where
   labels-row (suc n) s at {code} {p} {len} {q} h e f g =
       let (x, e1, e2, e3) = label-ok base s at e f in
       let k : suc n - 1 ≡ n = omega arith in
-      rw (e1, e2, g, k, ← e3) (go x (distinctParse Given.label (λ l. l .code) 55 n (code ∷ seen) base s q))
+      rw (e1, e2, g, k, ← e3) (go x (distinctParse LayoutOf.label (λ l. l .code) 55 n (code ∷ seen) base s q))
     where
       go : (x : Label) (r : Res (List Label)) → said (map labelRow) (r >>= λ xs k. ok (x ∷ xs) k) ≡ row (labelRow x) (said (map labelRow) r)
       go x (ok xs k) = refl

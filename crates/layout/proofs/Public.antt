@@ -7,7 +7,7 @@ use native.Mathlib.Omega.{arith}
 use lib.ListN.{length, drop}
 use borrow.Author.Tests.{le-leb, lt-leb}
 use Rattle.codec.specs.Codec.{_then_, Res, ok, refuse, _>>=_, whole}
-use Rattle.codec.specs.Cases.{by-le}
+use Rattle.codec.specs.CaseLaws.{by-le}
 use Rattle.text.specs.Utf8.{utf8}
 use Rattle.numbers.specs.Numbers.{u16At}
 use Rattle.numbers.specs.NumberLaws.{num-is, u16-value}
@@ -18,7 +18,7 @@ use Rattle.numbers.specs.declared.Got.the-variants.{Value}
 use Rattle.numbers.specs.declared.Got.the-variants as Got'
 use Rattle.layout.specs.Layout
 use Rattle.layout.specs.Layout.{Layout, RecordL, StructL, LabelDef, toLayout}
-use Rattle.layout.specs.Given.{D, layoutOf}
+use Rattle.layout.specs.LayoutOf.{D, layoutOf}
 use Rattle.layout.specs.Rows.{rows, recordRows, structRows, labelDefRows}
 use Rattle.layout.specs.Reader.{groupsAt}
 use Rattle.layout.specs.Answers.{Answers, verdict}

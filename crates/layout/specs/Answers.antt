@@ -1,17 +1,17 @@
 -- What the public readers answer, and what they leave in the table.
 -- Assumes nothing.
+use mathlib.Core.Bool.{cond}
 use Prim.Native.Nat.{ℕ, _*_, _/_}
 use mathlib.Core.Path.{_≡_, ap, _∙_}
 use mathlib.Core.List.{List, _++_}
 use lib.ListN.{length, drop}
 use lib.Dec.{leb}
 use Rattle.codec.specs.Codec.{Res, ok, refuse}
-use Rattle.codec.specs.Cases.{by-bool}
-use Rattle.numbers.specs.Pick.{pick}
+use Rattle.codec.specs.CaseLaws.{by-bool}
 use Rattle.table.specs.Out.{flat}
 use Rattle.layout.specs.Layout.{Layout}
 use Rattle.layout.specs.Rows.{rows}
-use Rattle.layout.specs.Given.{layoutOf}
+use Rattle.layout.specs.LayoutOf.{layoutOf}
 use Rattle.layout.specs.declared.Verdict.{Verdict}
 use Rattle.layout.specs.declared.Verdict.the-variants.{Accepted}
 use Rattle.layout.specs.declared.Verdict.the-variants as Verdict'
@@ -25,7 +25,7 @@ verdict (refuse k) = Verdict'.Refused k
 
 -- a table of cap rows is long enough, or short
 abbrev pub judge : ℕ → Res Layout → Answer
-judge cap (ok l j) = pick (leb (length (rows l)) cap) (Read (l .version) (length (rows l))) (Short (l .version) (length (rows l)))
+judge cap (ok l j) = cond (leb (length (rows l)) cap) (Read (l .version) (length (rows l))) (Short (l .version) (length (rows l)))
 judge cap (refuse k) = Refused k
 
 -- an answer's verdict, whatever the table
@@ -36,7 +36,7 @@ verdictIn (Refused k) = Verdict'.Refused k
 
 -- the rows stand at the front of the table, and the rest of it is as it was
 abbrev pub leave : List ℕ → Res Layout → List ℕ
-leave t (ok l j) = pick (leb (length (rows l)) (length t / 9)) (flat (rows l) ++ drop (9 * length (rows l)) t) t
+leave t (ok l j) = cond (leb (length (rows l)) (length t / 9)) (flat (rows l) ++ drop (9 * length (rows l)) t) t
 leave t (refuse k) = t
 
 -- what reading the layout s into the table t answers and leaves

@@ -1,13 +1,14 @@
 -- The layout's laws, from those of its parts. Assumes nothing.
-use Prim.Native.Nat.{ℕ}
+use Prim.Native.Nat.{ℕ, _<_}
+use native.Mathlib.Omega.{arith}
 use native.Mathlib.Nat.{zero-add}
 use mathlib.Core.Path.{_≡_, sym, ap, _∙_, subst}
 use mathlib.Core.Bool.{Bool}
 use mathlib.Core.List.{List, []}
 use lib.ListN.{length, take, drop}
-use Rattle.codec.specs.Codec.{ok, Bytes, whole}
+use Rattle.codec.specs.Codec.{ok, Bytes, _then_, num, whole}
 use Rattle.codec.specs.Laws.{bind-ok, left-part, part-take, bytes-append, whole-reads, whole-back}
-use Rattle.layout.specs.Layout.{Layout, parts, toLayout, fromLayout, readLayout, printLayout, locateLayout, LegalLayout, bareLayout, FitsLayout, EachName}
+use Rattle.layout.specs.Layout.{Layout, Parts, parts, toLayout, fromLayout, readLayout, printLayout, locateLayout, LegalLayout, bareLayout, FitsLayout, EachName}
 
 module _ (utf8 : List ℕ → Bool) (D : ℕ) where
   -- (a): the bytes of a legal layout are read as that layout, with its places
@@ -62,3 +63,8 @@ module _ (utf8 : List ℕ → Bool) (D : ℕ) where
   unfolding LegalLayout bareLayout FitsLayout
   swap-legal b t t′ j bs e same f =
       (parts utf8 D .law .swap _ _ (print-parse b t j bs e .legal .0) (ap (λ v. fromLayout v .0) same) (f .0), f .1)
+
+  -- the version alone has two bytes
+  pub parts-some : (x : Parts) → parts utf8 D .codec .legal x → 0 < length (parts utf8 D .codec .print x)
+  unfolding parts _then_ num
+  parts-some x lg = omega arith

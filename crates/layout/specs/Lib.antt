@@ -1,5 +1,5 @@
 pub mod Layout
-pub mod Given
+pub mod LayoutOf
 pub mod Rows
 pub mod Answers
 pub mod Reader
@@ -8,7 +8,7 @@ pub mod LayoutLaws
 pub mod RowLaws
 pub mod TextLaws
 pub mod Examples
-pub mod Prints
+pub mod PrintLaws
 pub mod Single
 pub mod ReadLaws
-pub mod Standing
+pub mod PlaceLaws

@@ -10,7 +10,7 @@ use Rattle.table.specs.Out.{flat, allRows}
 use Rattle.table.specs.TableLaws.{Wide, wide-append, wide-map, wide-all, flat-length}
 use Rattle.layout.specs.Layout
 use Rattle.layout.specs.Layout.{Layout, Fields, toLayout}
-use Rattle.layout.specs.Given.{D, layoutOf}
+use Rattle.layout.specs.LayoutOf.{D, layoutOf}
 use Rattle.layout.specs.Rows.{rows, entryRow, nameRow, fieldRows, recordRows, structRows, labelRow, labelDefRows}
 
 -- a layout of a length that fits is read by its format

@@ -1,18 +1,18 @@
 -- What each part of the reader answers, from the formats: rows and the place after them, or the refusal.
 -- Places are counted from `base` before the section.
 -- Assumes nothing.
+use mathlib.Core.Bool.{cond}
 use Prim.Native.Nat.{ℕ, _+_}
 use mathlib.Core.List.{List, [], _∷_, _++_, map}
 use lib.Dec.{eqb}
 use Rattle.codec.specs.Codec.{timesParse, distinctParse}
 use Rattle.text.specs.Utf8.{utf8}
-use Rattle.numbers.specs.Pick.{pick}
-use Rattle.wire.specs.Wire.{name}
+use Rattle.wire.specs.Reader.{name}
 use Rattle.numbers.specs.Numbers.{u16At}
 use Rattle.table.specs.Out.{Out, said, onGot, allRows}
 use Rattle.layout.specs.Layout
 use Rattle.layout.specs.Layout.{toRecord, toStruct, toLabelDef}
-use Rattle.layout.specs.Given.{D, entry, fields, label, recordL, structL, labelDef}
+use Rattle.layout.specs.LayoutOf.{D, entry, fields, label, recordL, structL, labelDef}
 use Rattle.layout.specs.Rows.{entryRow, nameRow, fieldRows, recordRows, structRows, labelRow, labelDefRows}
 
 unfoldable pub entriesAt : ℕ → ℕ → List ℕ → ℕ → Out
@@ -39,13 +39,13 @@ unfoldable pub labelBody : ℕ → List ℕ → Out
 labelBody base s = said (λ z. labelDefRows (toLabelDef (z, []))) (Layout.labelBody utf8 .codec .parse base s 0)
 
 unfoldable pub bodyOf : ℕ → ℕ → List ℕ → Out
-bodyOf kind base s = pick (eqb kind 0) (recordBody base s) (pick (eqb kind 1) (structBody base s) (labelBody base s))
+bodyOf kind base s = cond (eqb kind 0) (recordBody base s) (cond (eqb kind 1) (structBody base s) (labelBody base s))
 
 -- n items, each in a section of its own, whose body is handed on as its own part of the layout
 unfoldable pub sectionsAt : ℕ → ℕ → List ℕ → ℕ → Out
 sectionsAt kind n s at =
-    pick (eqb kind 0) (said (allRows recordRows) (timesParse recordL n 0 s at))
-    (pick (eqb kind 1) (said (allRows structRows) (timesParse structL n 0 s at)) (said (allRows labelDefRows) (timesParse labelDef n 0 s at)))
+    cond (eqb kind 0) (said (allRows recordRows) (timesParse recordL n 0 s at))
+    (cond (eqb kind 1) (said (allRows structRows) (timesParse structL n 0 s at)) (said (allRows labelDefRows) (timesParse labelDef n 0 s at)))
 
 -- a count and as many items
 unfoldable pub groupAt : ℕ → List ℕ → ℕ → Out

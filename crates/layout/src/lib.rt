@@ -6,7 +6,7 @@ mod sections;
 
 use numbers::Got;
 ghost use mathlib.Core.Path.{_≡_};
-ghost use Rattle.layout.specs.Given.{layoutOf};
+ghost use Rattle.layout.specs.LayoutOf.{layoutOf};
 ghost use Rattle.layout.specs.Answers.{Answers, verdict};
 
 // The bytes of a field entry on the wire, FIELD_DEF_LEN; the first eleven are read.

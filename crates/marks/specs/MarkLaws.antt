@@ -12,7 +12,7 @@ use lib.Pow.{pow-pos, pow-lt, pow-add, shl-shr}
 use lib.Bits.{bitOr, or-shr, or-mod, or-zero-r}
 use borrow.Author.Tests.{eq-eqb, ne-eqb}
 use Rattle.codec.specs.Codec.{among}
-use Rattle.codec.specs.Cases.{by-eqb, by-order}
+use Rattle.codec.specs.CaseLaws.{by-eqb, by-order}
 use Rattle.marks.specs.Marks.{marked, withMark, wiped, Marks, Only}
 
 -- bit j of a power of two

@@ -1,4 +1,3 @@
-pub mod Pick
 pub mod Numbers
 pub mod NumberLaws
 pub mod Single

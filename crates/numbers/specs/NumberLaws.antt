@@ -8,8 +8,8 @@ use native.Mathlib.Omega.{arith}
 use lib.ListN.{length, getD, take, drop, length-take, length-drop}
 use lib.Seq.{take-all}
 use Rattle.codec.specs.Codec.{Res, ok, refuse, raw, value, num}
-use Rattle.codec.specs.Steps.{raw-got, raw-bad, num-got, num-bad}
-use Rattle.codec.specs.Cases.{by-le}
+use Rattle.codec.specs.StepLaws.{raw-got, raw-bad, num-got, num-bad}
+use Rattle.codec.specs.CaseLaws.{by-le}
 use Rattle.numbers.specs.Numbers.{gotOf, Past, past, refused, takeAt, numAt, u16At, part, le16, le32, le64}
 use Rattle.numbers.specs.declared.Got.{Got}
 use Rattle.numbers.specs.declared.Got.the-variants.{Value, Refused}

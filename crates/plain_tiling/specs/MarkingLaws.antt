@@ -9,7 +9,7 @@ use native.Mathlib.Nat.{le-refl, le-trans, le-of-lt}
 use lib.ListN.{length, getD, replicate, length-replicate}
 use lib.Dec.{eqb}
 use borrow.Author.Tests.{eq-eqb, ne-eqb}
-use Rattle.codec.specs.Cases.{by-bool, by-eqb}
+use Rattle.codec.specs.CaseLaws.{by-bool, by-eqb}
 use Rattle.plain_tiling.specs.Tile.{Span}
 use Rattle.plain_tiling.specs.Plain.{blank, taken, paint, overlap, marks, reach, furthest, byMarks, baseByMarks, extByMarks}
 use Rattle.plain_tiling.specs.Places.{Unowned, Enough}

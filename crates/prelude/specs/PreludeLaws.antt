@@ -11,7 +11,7 @@ use lib.Seq.{length-take-le, getD-take}
 use lib.Dec.{leb, eqb}
 use Rattle.codec.specs.Codec.{num, byte, named, checked, _then_}
 use Rattle.codec.specs.Laws.{Law, law-num, law-byte, law-then, law-named, law-checked}
-use Rattle.codec.specs.Steps.{num-got, byte-got}
+use Rattle.codec.specs.StepLaws.{num-got, byte-got}
 use Rattle.numbers.specs.Numbers.{le32}
 use Rattle.numbers.specs.NumberLaws.{u32-is}
 use Rattle.prelude.specs.Prelude.{magic, isVersion, prelude, said, preludeOf}

@@ -2,13 +2,12 @@
 use Prim.Native.Nat.{ℕ, suc, _+_, _-_, _*_, _≤_, _<_, min}
 use native.Mathlib.Omega.{arith}
 use mathlib.Core.Path.{_≡_, refl, sym, ap, _∙_}
-use mathlib.Core.Bool.{Bool, true, false}
+use mathlib.Core.Bool.{Bool, true, false, cond}
 use mathlib.Core.List.{List, _++_}
 use lib.ListN.{length, length-append}
 use lib.Dec.{eqb, leb}
 use borrow.Author.Tests.{leb-true, leb-false, le-leb, lt-leb, ne-eqb}
-use Rattle.numbers.specs.Pick.{pick}
-use Rattle.layout.specs.Given.{D}
+use Rattle.layout.specs.LayoutOf.{D}
 use Rattle.rows_check.specs.Tree.{cell, rowCount, after, countOf, namesFrom, nextSection, kinds, structsFrom, labelsFrom}
 use Rattle.rows_check.specs.Check.{both, every, passes, wellFormed, countsFit, printedSection, fitsAll, sectionsFit, size, risesAt, fault}
 use Rattle.rows_check.specs.Sections.{SectionRows, many, printedName, printedBody, printedGroup}
@@ -36,11 +35,11 @@ unfolding printedBody namelessSize countOf namesFrom
 body-length kind rows text q s = go (eqb kind 10) (eqb kind 13)
   where
     count : Bool → Bool → ℕ
-    count a b = pick a (cell rows q 6) (pick b (cell rows q 4) (cell rows q 3))
+    count a b = cond a (cell rows q 6) (cond b (cell rows q 4) (cell rows q 3))
 
-    go : (a b : Bool) → length (pick a (printedBody 10 rows text q) (pick b (printedBody 13 rows text q) (printedBody 14 rows text q)))
-        ≡ pick a (18 + D * count a b) (pick b (6 + D * count a b) (4 + 2 * count a b)) + cell rows q 2
-        + length (many after (printedName rows text) (pick a (q + 1 + cell rows q 6) (pick b (q + 1 + cell rows q 4) (q + 1))) (count a b))
+    go : (a b : Bool) → length (cond a (printedBody 10 rows text q) (cond b (printedBody 13 rows text q) (printedBody 14 rows text q)))
+        ≡ cond a (18 + D * count a b) (cond b (6 + D * count a b) (4 + 2 * count a b)) + cell rows q 2
+        + length (many after (printedName rows text) (cond a (q + 1 + cell rows q 6) (cond b (q + 1 + cell rows q 4) (q + 1))) (count a b))
     go true b = omega (arith, record-length rows text q (s .own))
     go false true = omega (arith, struct-length rows text q (s .own))
     go false false = omega (arith, label-def-length rows text q (s .own))

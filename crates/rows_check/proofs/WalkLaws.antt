@@ -2,12 +2,12 @@
 use Prim.Native.Nat.{ℕ, suc, _+_, _-_, _*_, _≤_, _<_}
 use native.Mathlib.Omega.{arith}
 use mathlib.Core.Path.{_≡_, refl, sym, ap, _∙_}
-use mathlib.Core.Bool.{Bool, true, false, _&&_}
+use mathlib.Core.Bool.{Bool, true, false, _&&_, cond}
 use mathlib.Core.List.{List}
 use lib.ListN.{length}
 use lib.Dec.{eqb}
-use Rattle.plain_text.specs.Plain.{plain, plain-utf8}
-use Rattle.numbers.specs.Pick.{pick}
+use Rattle.plain_text.specs.Plain.{plain}
+use Rattle.plain_text.specs.PlainLaws.{plain-utf8}
 use Rattle.wire.specs.NameLaws.{plain-nul}
 use Rattle.rows_check.specs.Tree.{cell, rowCount, nextSection, countKind}
 use Rattle.rows_check.specs.Check.{both, every, clean, sectionInPlace, walk}
@@ -43,7 +43,7 @@ module _ (f : ℕ → Bool) (j : ℕ) (x : Bool) where
 -- ---- counts and walks
 
 module _ (kind : ℕ) (rows : List ℕ) (q n : ℕ) where
-  pub kind-next : 0 < n → countKind kind rows q n ≡ pick (eqb (cell rows q 0) kind) 1 0 + countKind kind rows (q + 1) (n - 1)
+  pub kind-next : 0 < n → countKind kind rows q n ≡ cond (eqb (cell rows q 0) kind) 1 0 + countKind kind rows (q + 1) (n - 1)
   unfolding countKind
   kind-next h = let e : n ≡ suc (n - 1) = omega arith in ap (countKind kind rows q) e
 
@@ -52,7 +52,7 @@ module _ (kind : ℕ) (rows : List ℕ) (q n : ℕ) where
   kind-none h = let e : n ≡ 0 = omega arith in rw e
 
 module _ (kind : ℕ) (rows text : List ℕ) (q n : ℕ) where
-  walk-next : 0 < n → walk kind rows text q n ≡ pick (sectionInPlace kind rows text q) (walk kind rows text (nextSection kind rows q) (n - 1)) (rowCount rows + 1)
+  walk-next : 0 < n → walk kind rows text q n ≡ cond (sectionInPlace kind rows text q) (walk kind rows text (nextSection kind rows q) (n - 1)) (rowCount rows + 1)
   unfolding walk
   walk-next h = let e : n ≡ suc (n - 1) = omega arith in ap (walk kind rows text q) e
 

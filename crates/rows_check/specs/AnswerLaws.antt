@@ -1,7 +1,7 @@
 -- What the answers of the check's parts tell. Assumes nothing.
 use Prim.Native.Nat.{ℕ, zero, suc, _+_}
 use mathlib.Core.Path.{_≡_, refl, sym, _∙_}
-use mathlib.Core.Bool.{Bool, true, false}
+use mathlib.Core.Bool.{Bool, true, false, cond}
 use mathlib.Core.List.{List}
 use Rattle.rows_check.specs.Tree.{rowCount, kinds}
 use Rattle.rows_check.specs.Check.{both, every, rowTest, size, fault}
@@ -10,7 +10,6 @@ use Rattle.rows_check.specs.CheckLaws.{both-left, both-right}
 use native.Mathlib.Omega.{arith}
 use lib.Dec.{eqb}
 use borrow.Author.Tests.{eqb-true, eqb-false}
-use Rattle.numbers.specs.Pick.{pick}
 use Rattle.rows_check.specs.declared.Sized.the-variants.{Length, Refused}
 
 -- ---- rows that pass 90 to 93 in one walk
@@ -60,7 +59,7 @@ module _ (rows text : List ℕ) where
   unfolding sizedOf
   sized-length b r s l e = go (eqb 0 (fault rows text)) refl e
     where
-      go : (a : Bool) → eqb 0 (fault rows text) ≡ a → Length b r s l ≡ pick a (Length (size rows text) (kinds rows 10) (kinds rows 13) (kinds rows 14)) (Refused (fault rows text)) → Fitted rows text b r s l
+      go : (a : Bool) → eqb 0 (fault rows text) ≡ a → Length b r s l ≡ cond a (Length (size rows text) (kinds rows 10) (kinds rows 13) (kinds rows 14)) (Refused (fault rows text)) → Fitted rows text b r s l
       go true z e = record { none = sym (eqb-true 0 (fault rows text) z); bytes = cc; records = cc; structs = cc; labels = cc }
       go false z e = let o : _≡_ {A = ℕ} 0 1 = cc in absurd (omega arith)
 
@@ -68,7 +67,7 @@ module _ (rows text : List ℕ) where
   unfolding sizedOf
   sized-fault k e = go (eqb 0 (fault rows text)) refl e
     where
-      go : (a : Bool) → eqb 0 (fault rows text) ≡ a → Refused k ≡ pick a (Length (size rows text) (kinds rows 10) (kinds rows 13) (kinds rows 14)) (Refused (fault rows text)) → (k ≡ 0 → ⊥) × (fault rows text ≡ k)
+      go : (a : Bool) → eqb 0 (fault rows text) ≡ a → Refused k ≡ cond a (Length (size rows text) (kinds rows 10) (kinds rows 13) (kinds rows 14)) (Refused (fault rows text)) → (k ≡ 0 → ⊥) × (fault rows text ≡ k)
       go true z e = let o : _≡_ {A = ℕ} 0 1 = cc in absurd (omega arith)
       go false z e =
           let f : fault rows text ≡ k = cc in

@@ -1,13 +1,12 @@
 -- What the parts of the check answer. Assumes nothing.
 use Prim.Native.Nat.{ℕ, _+_, _*_, min}
 use mathlib.Core.Path.{_≡_}
-use mathlib.Core.Bool.{Bool, true}
+use mathlib.Core.Bool.{Bool, true, cond}
 use mathlib.Core.List.{List}
 use Rattle.rows_check.specs.Tree.{rowCount, byKind, kinds}
 use Rattle.rows_check.specs.Check.{both, rowFits, countFits, nameShort, nameClean, passes, size, fault}
 use lib.Dec.{eqb}
-use Rattle.numbers.specs.Pick.{pick}
-use Rattle.layout.specs.Given.{D}
+use Rattle.layout.specs.LayoutOf.{D}
 use Rattle.rows_check.specs.declared.Sized.{Sized}
 use Rattle.rows_check.specs.declared.Sized.the-variants.{Length, Refused}
 
@@ -29,9 +28,9 @@ clip n = min 4294967296 n
 
 -- a size: 2^32 where a section is too long or the sum is
 unfoldable pub sizeOf : Bool → ℕ → ℕ
-sizeOf b n = pick b (min 4294967296 n) 4294967296
+sizeOf b n = cond b (min 4294967296 n) 4294967296
 
 -- the length of the layout and the counts of its records, structs and label defs, or the number that refuses the rows
 unfoldable pub sizedOf : List ℕ → List ℕ → Sized
 sizedOf rows text =
-    pick (eqb 0 (fault rows text)) (Length (size rows text) (kinds rows 10) (kinds rows 13) (kinds rows 14)) (Refused (fault rows text))
+    cond (eqb 0 (fault rows text)) (Length (size rows text) (kinds rows 10) (kinds rows 13) (kinds rows 14)) (Refused (fault rows text))

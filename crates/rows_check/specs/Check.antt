@@ -1,13 +1,12 @@
 -- Numbers 90 to 95: which rows make a layout. Each is tried over all rows before the next.
 -- Assumes nothing.
 use Prim.Native.Nat.{ℕ, zero, suc, _+_, _-_, _*_, _%_}
-use mathlib.Core.Bool.{Bool, true, false}
+use mathlib.Core.Bool.{Bool, true, false, cond}
 use mathlib.Core.List.{List, [], _∷_}
 use lib.ListN.{length, take, drop, getD}
 use lib.Dec.{leb, ltb, eqb}
 use Rattle.text.specs.Utf8.{utf8}
-use Rattle.numbers.specs.Pick.{pick}
-use Rattle.layout.specs.Given.{D, recordL, structL, labelDef}
+use Rattle.layout.specs.LayoutOf.{D, recordL, structL, labelDef}
 use Rattle.wire.specs.Formats.{noNul}
 use Rattle.layout.specs.Layout.{printLayout}
 use Rattle.rows_check.specs.Tree.{cell, rowCount, byKind, recordOf, structOf, labelDefOf, countOf, namesFrom, nextSection, kinds, structsFrom, labelsFrom, treeOf}
@@ -47,18 +46,18 @@ unfoldable pub rowFits : List ℕ → List ℕ → ℕ → Bool
 rowFits rows text q =
     both (leb 10 (cell rows q 0)) (both (leb (cell rows q 0) 15)
     (both (every (numberFits rows q (cell rows q 0)) 1 8)
-    (pick (eqb (cell rows q 0) 11) true (spanFits rows text q))))
+    (cond (eqb (cell rows q 0) 11) true (spanFits rows text q))))
 
 -- ---- 91, 92, 93, of one row
 
 unfoldable pub countFits : List ℕ → ℕ → Bool
 countFits rows q =
-    pick (eqb (cell rows q 0) 10) (leb (cell rows q 6) 65535)
-    (pick (eqb (cell rows q 0) 13) (leb (cell rows q 4) 65535)
-    (pick (eqb (cell rows q 0) 14) (leb (cell rows q 3) 65535) true))
+    cond (eqb (cell rows q 0) 10) (leb (cell rows q 6) 65535)
+    (cond (eqb (cell rows q 0) 13) (leb (cell rows q 4) 65535)
+    (cond (eqb (cell rows q 0) 14) (leb (cell rows q 3) 65535) true))
 
 unfoldable pub nameShort : List ℕ → ℕ → Bool
-nameShort rows q = pick (eqb (cell rows q 0) 11) true (leb (cell rows q 2) 255)
+nameShort rows q = cond (eqb (cell rows q 0) 11) true (leb (cell rows q 2) 255)
 
 unfoldable pub clean : List ℕ → Bool
 clean t = both (noNul t) (utf8 t)
@@ -66,16 +65,16 @@ clean t = both (noNul t) (utf8 t)
 -- a span outside the text has been refused
 unfoldable pub nameClean : List ℕ → List ℕ → ℕ → Bool
 nameClean rows text q =
-    pick (eqb (cell rows q 0) 11) true
-    (pick (spanFits rows text q) (clean (take (cell rows q 2) (drop (cell rows q 1) text))) true)
+    cond (eqb (cell rows q 0) 11) true
+    (cond (spanFits rows text q) (clean (take (cell rows q 2) (drop (cell rows q 1) text))) true)
 
 -- the tests of a row by their numbers; any other number is the kind that the row must have
 unfoldable pub rowTest : ℕ → List ℕ → List ℕ → ℕ → Bool
 rowTest which rows text q =
-    pick (eqb which 90) (rowFits rows text q)
-    (pick (eqb which 91) (countFits rows q)
-    (pick (eqb which 92) (nameShort rows q)
-    (pick (eqb which 93) (nameClean rows text q)
+    cond (eqb which 90) (rowFits rows text q)
+    (cond (eqb which 91) (countFits rows q)
+    (cond (eqb which 92) (nameShort rows q)
+    (cond (eqb which 93) (nameClean rows text q)
     (eqb (cell rows q 0) which))))
 
 abbrev pub passes : ℕ → List ℕ → List ℕ → ℕ → ℕ → Bool
@@ -99,7 +98,7 @@ sectionInPlace kind rows text q =
 -- the row after n sections of that kind, or one past the end where one is not in place
 unfoldable pub walk : ℕ → List ℕ → List ℕ → ℕ → ℕ → ℕ
 walk kind rows text q zero = q
-walk kind rows text q (suc n) = pick (sectionInPlace kind rows text q) (walk kind rows text (nextSection kind rows q) n) (rowCount rows + 1)
+walk kind rows text q (suc n) = cond (sectionInPlace kind rows text q) (walk kind rows text (nextSection kind rows q) n) (rowCount rows + 1)
 
 unfoldable pub inOrder : List ℕ → List ℕ → Bool
 inOrder rows text =
@@ -144,7 +143,7 @@ size rows text = length (printed 0 rows text)
 
 unfoldable pub risesAt : List ℕ → ℕ → Bool
 risesAt rows q =
-    pick (eqb (cell rows q 0) 15) (pick (eqb (cell rows (q + 1) 0) 15) (ltb (cell rows q 3) (cell rows (q + 1) 3)) true) true
+    cond (eqb (cell rows q 0) 15) (cond (eqb (cell rows (q + 1) 0) 15) (ltb (cell rows q 3) (cell rows (q + 1) 3)) true) true
 
 abbrev pub labelsRise : List ℕ → Bool
 labelsRise rows = every (risesAt rows) 0 (rowCount rows - 1)
@@ -156,11 +155,11 @@ sizesFit rows text = both (sectionsFit rows text) (leb (size rows text) 42949672
 
 unfoldable pub fault : List ℕ → List ℕ → ℕ
 fault rows text =
-    pick (wellFormed rows text)
-    (pick (countsFit rows text)
-    (pick (passes 92 rows text 0 (rowCount rows))
-    (pick (passes 93 rows text 0 (rowCount rows))
-    (pick (sizesFit rows text) (pick (labelsRise rows) 0 95) 94)
+    cond (wellFormed rows text)
+    (cond (countsFit rows text)
+    (cond (passes 92 rows text 0 (rowCount rows))
+    (cond (passes 93 rows text 0 (rowCount rows))
+    (cond (sizesFit rows text) (cond (labelsRise rows) 0 95) 94)
     93)
     92)
     91)

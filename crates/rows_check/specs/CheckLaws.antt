@@ -3,13 +3,12 @@ use Prim.Native.Nat.{ℕ, zero, suc, _+_, _-_, _*_, _%_, _≤_, _<_}
 use native.Mathlib.Nat.{eq-or-lt-of-le}
 use native.Mathlib.Omega.{arith}
 use mathlib.Core.Path.{_≡_, refl, sym, ap, _∙_, subst}
-use mathlib.Core.Bool.{Bool, true, false}
+use mathlib.Core.Bool.{Bool, true, false, cond}
 use mathlib.Core.List.{List}
 use mathlib.Core.Logic.{_⊎_, inl, inr, ⊎-elim}
 use lib.ListN.{length}
 use lib.Dec.{eqb}
 use borrow.Author.Tests.{ne-eqb, eqb-true, leb-true}
-use Rattle.numbers.specs.Pick.{pick}
 use Rattle.rows_check.specs.Tree.{cell, rowCount, namesFrom, nextSection, skip, kinds, structsFrom, labelsFrom}
 use Rattle.rows_check.specs.Check.{both, every, limitOf, numberFits, spanFits, rowFits, rowTest, passes, nameKind, sectionInPlace, walk, inOrder, wellFormed}
 
@@ -66,7 +65,7 @@ module _ (rows text : List ℕ) (q : ℕ) (e : rowFits rows text q ≡ true) whe
   pub row-span : (cell rows q 0 ≡ 11 → ⊥) → cell rows q 1 + cell rows q 2 ≤ length text
   unfolding rowFits
   row-span h =
-      let r : pick (eqb (cell rows q 0) 11) true (spanFits rows text q) ≡ true = both-right _ _ (both-right _ _ (both-right _ _ e)) in
+      let r : cond (eqb (cell rows q 0) 11) true (spanFits rows text q) ≡ true = both-right _ _ (both-right _ _ (both-right _ _ e)) in
       leb-true _ _ (rw (ne-eqb (cell rows q 0) 11 h) at r)
 
 -- ---- the rows of a section
@@ -93,7 +92,7 @@ pub name-kind-is : (kind : ℕ) → (nameKind kind ≡ 12) ⊎ (nameKind kind �
 unfolding nameKind
 name-kind-is kind = go (eqb kind 10) (eqb kind 13)
   where
-    go : (a b : Bool) → (pick {A = ℕ} a 12 (pick b 12 15) ≡ 12) ⊎ (pick {A = ℕ} a 12 (pick b 12 15) ≡ 15)
+    go : (a b : Bool) → (cond {A = ℕ} a 12 (cond b 12 15) ≡ 12) ⊎ (cond {A = ℕ} a 12 (cond b 12 15) ≡ 15)
     go true b = inl refl
     go false true = inl refl
     go false false = inr refl
@@ -102,7 +101,7 @@ pub names-more : (kind : ℕ) (rows : List ℕ) (q : ℕ) → q + 1 ≤ namesFro
 unfolding namesFrom
 names-more kind rows q = go (eqb kind 10) (eqb kind 13)
   where
-    go : (a b : Bool) → q + 1 ≤ pick a (q + 1 + cell rows q 6) (pick b (q + 1 + cell rows q 4) (q + 1))
+    go : (a b : Bool) → q + 1 ≤ cond a (q + 1 + cell rows q 6) (cond b (q + 1 + cell rows q 4) (q + 1))
     go true b = omega arith
     go false true = omega arith
     go false false = omega arith

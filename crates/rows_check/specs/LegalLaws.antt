@@ -2,22 +2,22 @@
 use Prim.Native.Nat.{ℕ, zero, suc, _+_, _-_, _*_, _≤_, _<_}
 use native.Mathlib.Omega.{arith}
 use mathlib.Core.Path.{_≡_, refl, sym, _∙_}
-use mathlib.Core.Bool.{Bool, true, false}
+use mathlib.Core.Bool.{Bool, true, false, cond}
 use mathlib.Core.List.{List, [], _∷_}
 use lib.ListN.{length, take, drop, replicate, length-replicate}
 use lib.Seq.{getD-drop}
 use lib.Dec.{leb}
 use borrow.Author.Tests.{ne-eqb, leb-true, ltb-true, le-leb}
+use Rattle.codec.specs.Laws.{bytes-take}
 use Rattle.codec.specs.Codec.{Bytes, Codec, timesLegal}
 use Rattle.text.specs.Utf8.{utf8}
-use Rattle.numbers.specs.Pick.{pick}
 use Rattle.entry.specs.EntryLaws.{row-bytes-length, row-bytes-small}
-use Rattle.wire.specs.Wire.{name}
-use Rattle.layout.specs.Given.{D, entry, fields, label, recordL, structL, labelDef}
+use Rattle.wire.specs.Reader.{name}
+use Rattle.layout.specs.LayoutOf.{D, entry, fields, label, recordL, structL, labelDef}
 use Rattle.wire.specs.Formats.{noNul}
 use Rattle.layout.specs.Layout.{LegalLayout}
 use Rattle.wire.specs.FormatLaws.{name-legal}
-use Rattle.layout.specs.Prints.{label-legal, labelDef-legal, Rising, entry-legal, fields-legal, struct-legal, record-legal, layout-legal}
+use Rattle.layout.specs.PrintLaws.{label-legal, labelDef-legal, Rising, entry-legal, fields-legal, struct-legal, record-legal, layout-legal}
 use Rattle.rows_check.specs.Tree.{cell, rowCount, from, after, nameOf, entryOf, labelOf, fieldsOf, recordOf, structOf, labelDefOf, countOf, namesFrom, nextSection, kinds, structsFrom, labelsFrom, treeOf}
 use Rattle.rows_check.specs.Check.{both, every, limitOf, countFits, nameShort, clean, nameClean, rowTest, passes, nameKind, groupsFit, countsFit, printedSection, fitsAll, sectionsFit, size, risesAt, fault}
 use Rattle.rows_check.specs.CheckLaws.{both-left, both-right, every-at, number-le, row-span, InPlace, Places, Formed, formed}
@@ -25,11 +25,11 @@ use Rattle.rows_check.specs.TreeLaws.{length-from, name-len}
 
 -- ---- what is left when nothing refuses
 
-pick-zero : (b : Bool) (x k : ℕ) → 0 < k → pick b x k ≡ 0 → (b ≡ true) × (x ≡ 0)
+pick-zero : (b : Bool) (x k : ℕ) → 0 < k → cond b x k ≡ 0 → (b ≡ true) × (x ≡ 0)
 pick-zero true x k h e = (refl, e)
 pick-zero false x k h e = absurd (omega arith)
 
-pick-yes : (b : Bool) (k : ℕ) → 0 < k → pick b 0 k ≡ 0 → b ≡ true
+pick-yes : (b : Bool) (k : ℕ) → 0 < k → cond b 0 k ≡ 0 → b ≡ true
 pick-yes b k h e = pick-zero b 0 k h e .0
 
 pub record Sound (rows text : List ℕ) : Type 0 where
@@ -62,12 +62,6 @@ sound rows text e =
     }
 
 -- ---- one row
-
-bytes-take : (n : ℕ) (s : List ℕ) → Bytes s → Bytes (take n s)
-bytes-take zero s b k = omega arith
-bytes-take (suc n) [] b k = omega arith
-bytes-take (suc n) (x ∷ s) b zero = b 0
-bytes-take (suc n) (x ∷ s) b (suc k) = bytes-take n s (λ m. b (suc m)) k
 
 bytes-part : (l s : ℕ) (text : List ℕ) → Bytes text → Bytes (take l (drop s text))
 bytes-part l s text b = bytes-take l (drop s text) (λ k. rw getD-drop (b (s + k)))

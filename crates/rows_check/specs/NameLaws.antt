@@ -6,11 +6,11 @@ use mathlib.Core.List.{List}
 use lib.ListN.{length, take, drop, length-take, length-drop}
 use Rattle.codec.specs.Codec.{Codec, timesEach}
 use Rattle.text.specs.Utf8.{utf8}
-use Rattle.wire.specs.Wire.{name}
+use Rattle.wire.specs.Reader.{name}
 use Rattle.wire.specs.FormatLaws.{name-each}
-use Rattle.layout.specs.Given.{D, fields, label, recordL, structL, labelDef}
+use Rattle.layout.specs.LayoutOf.{D, fields, label, recordL, structL, labelDef}
 use Rattle.layout.specs.Layout.{EachName}
-use Rattle.layout.specs.Prints.{label-each, labelDef-each, fields-each, struct-each, record-each, layout-each}
+use Rattle.layout.specs.PrintLaws.{label-each, labelDef-each, fields-each, struct-each, record-each, layout-each}
 use Rattle.rows_check.specs.Tree.{cell, from, after, nameOf, labelOf, fieldsOf, recordOf, structOf, labelDefOf, countOf, namesFrom, nextSection, kinds, structsFrom, labelsFrom, treeOf}
 use Rattle.rows_check.specs.CheckLaws.{Formed}
 use Rattle.rows_check.specs.Sections.{Spans, SectionRows, Sections}

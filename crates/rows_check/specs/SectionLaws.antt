@@ -11,17 +11,16 @@ use Rattle.rows_check.specs.Tree.{cell, countOf, namesFrom, nextSection,
 use Rattle.rows_check.specs.Sections.{Spans, SectionRows, Sections, many, printedName, printedEntry, printedLabel, printedFields, printedHead, printedBody, printedGroup}
 use Rattle.rows_check.specs.CheckLaws.{row-span, InPlace, Places, Formed, next-more, name-kind-is}
 use native.Mathlib.Nat.{mul-suc}
-use mathlib.Core.Bool.{Bool, true, false}
+use mathlib.Core.Bool.{Bool, true, false, cond}
 use lib.Dec.{eqb}
 use Rattle.codec.specs.Codec.{Codec, little, timesPrint}
 use Rattle.text.specs.Utf8.{utf8}
-use Rattle.numbers.specs.Pick.{pick}
 use Rattle.entry.specs.EntryLaws.{row-bytes-length}
-use Rattle.wire.specs.Wire.{name}
-use Rattle.layout.specs.Given.{D, D-least, entry, label, recordL, structL, labelDef}
+use Rattle.wire.specs.Reader.{name}
+use Rattle.layout.specs.LayoutOf.{D, D-least, entry, label, recordL, structL, labelDef}
 use Rattle.wire.specs.FormatLaws.{name-print}
 use Rattle.layout.specs.Layout.{printLayout}
-use Rattle.layout.specs.Prints.{entry-print, fields-print, label-print, labelDef-print, labelBody-print, struct-print, structBody-print, record-print, recordBody-print, layout-print}
+use Rattle.layout.specs.PrintLaws.{entry-print, fields-print, label-print, labelDef-print, labelBody-print, struct-print, structBody-print, record-print, recordBody-print, layout-print}
 use Rattle.rows_check.specs.Check.{printedSection, printed}
 use Rattle.rows_check.specs.TreeLaws.{length-from}
 
@@ -133,7 +132,7 @@ section-is kind rows text q = go (eqb kind 10) (eqb kind 13)
     one : (b : List ℕ) → List ℕ
     one b = little 2 (2 + length b) ++ b
 
-    go : (a b : Bool) → pick a (recordL .print (recordOf rows text q)) (pick b (structL .print (structOf rows text q)) (labelDef .print (labelDefOf rows text q))) ≡ one (pick a (printedBody 10 rows text q) (pick b (printedBody 13 rows text q) (printedBody 14 rows text q)))
+    go : (a b : Bool) → cond a (recordL .print (recordOf rows text q)) (cond b (structL .print (structOf rows text q)) (labelDef .print (labelDefOf rows text q))) ≡ one (cond a (printedBody 10 rows text q) (cond b (printedBody 13 rows text q) (printedBody 14 rows text q)))
     go true b = record-print utf8 D (recordOf rows text q) refl
     go false true = struct-print utf8 D (structOf rows text q) refl
     go false false = labelDef-print utf8 (labelDefOf rows text q) refl

@@ -6,10 +6,10 @@ use lib.ListN.{length}
 use Rattle.rows_check.specs.Tree.{cell, countOf, namesFrom, nextSection, byKind, from, after, nameOf, entryOf, labelOf, fieldsOf, recordOf}
 use Rattle.codec.specs.Codec.{little}
 use Rattle.text.specs.Utf8.{utf8}
-use Rattle.wire.specs.Wire.{name}
-use Rattle.layout.specs.Given.{D, entry, fields, label}
+use Rattle.wire.specs.Reader.{name}
+use Rattle.layout.specs.LayoutOf.{D, entry, fields, label}
 use Rattle.layout.specs.Layout
-use Rattle.layout.specs.Prints.{recordParts}
+use Rattle.layout.specs.PrintLaws.{recordParts}
 use Rattle.rows_check.specs.Check.{printedSection}
 
 -- the texts of n rows from q lie in the text

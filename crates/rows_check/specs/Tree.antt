@@ -1,13 +1,13 @@
 -- The layout that rows of nine stand for: document 01's "Rows", read back. A name's text is a part of the text that is lent
 -- with the rows; skipped bytes are zeros, and nothing is left over.
 -- Assumes nothing.
+use mathlib.Core.Bool.{cond}
 use Prim.Native.Nat.{ℕ, zero, suc, _+_, _-_, _*_, _/_}
 use mathlib.Core.List.{List, [], _∷_}
 use lib.ListN.{length, take, drop, getD, replicate}
 use lib.Dec.{eqb}
-use Rattle.numbers.specs.Pick.{pick}
 use Rattle.entry.specs.Entry.{rowBytes}
-use Rattle.layout.specs.Given.{D}
+use Rattle.layout.specs.LayoutOf.{D}
 use Rattle.wire.specs.Formats.{Name}
 use Rattle.layout.specs.Layout.{Entry, Fields, RecordL, StructL, Label, LabelDef, Layout}
 
@@ -74,7 +74,7 @@ labelDefOf rows text q = record { name = nameOf rows text q; labels = from after
 
 -- by the kind of a section: 10 a record, 13 a struct, else a label def
 abbrev pub byKind : {A : Type 0} → ℕ → A → A → A → A
-byKind kind a b c = pick (eqb kind 10) a (pick (eqb kind 13) b c)
+byKind kind a b c = cond (eqb kind 10) a (cond (eqb kind 13) b c)
 
 -- how many fields or labels the section at row q has, and the row of the first name among them
 unfoldable pub countOf : ℕ → List ℕ → ℕ → ℕ
@@ -97,7 +97,7 @@ skip kind rows q (suc k) = skip kind rows (nextSection kind rows q) k
 -- how many of n rows from q are of that kind
 unfoldable pub countKind : ℕ → List ℕ → ℕ → ℕ → ℕ
 countKind kind rows q zero = 0
-countKind kind rows q (suc n) = pick (eqb (cell rows q 0) kind) 1 0 + countKind kind rows (q + 1) n
+countKind kind rows q (suc n) = cond (eqb (cell rows q 0) kind) 1 0 + countKind kind rows (q + 1) n
 
 abbrev pub kinds : List ℕ → ℕ → ℕ
 kinds rows kind = countKind kind rows 0 (rowCount rows)

@@ -6,7 +6,7 @@ ghost use mathlib.Core.Path.{_≡_};
 ghost use Prim.Native.Nat.{_+_, _-_, _*_, _/_, _≤_, _<_};
 ghost use lib.ListN.{length};
 ghost use lib.Dec.{eqb};
-ghost use Rattle.numbers.specs.Pick.{pick};
+ghost use mathlib.Core.Bool.{cond};
 ghost use Rattle.rows_check.specs.Tree.{rowCount, kinds};
 ghost use Rattle.rows_check.specs.Answers.{AllGood};
 ghost use Rattle.rows_check.specs.Check.{every, sectionInPlace, walk, inOrder, wellFormed, groupsFit, countsFit, risesAt};
@@ -116,7 +116,7 @@ pub(crate) fn kinds_of(rows: &[u32]) -> Kinds
 }
 
 fn one_if(a: usize, b: usize) -> usize
-    ensures { λ r. ⌜ (r ≡ pick (eqb a b) 1 0) × (r ≤ 1) ⌝ }
+    ensures { λ r. ⌜ (r ≡ cond (eqb a b) 1 0) × (r ≤ 1) ⌝ }
 {
     if a == b {
         return 1;

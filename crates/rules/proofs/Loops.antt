@@ -9,7 +9,7 @@ use lib.ListN.{length}
 use lib.Dec.{eqb, lit<}
 use borrow.Author.Tests.{eq-eqb, ne-eqb}
 use Rattle.codec.specs.Codec.{among}
-use Rattle.codec.specs.Cases.{by-bool}
+use Rattle.codec.specs.CaseLaws.{by-bool}
 use Rattle.marks.specs.Marks.{marked, withMark, Marks, Only, wiped}
 use Rattle.marks.specs.MarkLaws.{marks-more, only-next, only-end}
 use Rattle.fields.specs.Sheet.{idOf, offOf, endOf, isPadding, pastBase, memberAlign}

@@ -9,7 +9,7 @@ use native.Mathlib.Omega.{arith}
 use lib.ListN.{length}
 use lib.Dec.{leb, eqb, eqb·suc-suc, eqb·zero-suc}
 use borrow.Author.Tests.{eq-eqb, ne-eqb, leb-true, leb-false}
-use Rattle.codec.specs.Cases.{by-bool, by-eqb, by-order}
+use Rattle.codec.specs.CaseLaws.{by-bool, by-eqb, by-order}
 use Rattle.plain_tiling.specs.Tile.{Span, insert, sorted, walk}
 use Rattle.rules.specs.Search.{Has, here, there, None, Proper, Chase, stop, step, Reached, begun, on, find}
 

@@ -11,7 +11,7 @@ use lib.Seq.{take-suc-set, take-all}
 use lib.Dec.{eqb}
 use borrow.Author.Tests.{eq-eqb, ne-eqb, lt-ltb, le-ltb}
 use Rattle.codec.specs.Codec.{among}
-use Rattle.codec.specs.Cases.{by-bool}
+use Rattle.codec.specs.CaseLaws.{by-bool}
 use Rattle.marks.specs.Marks.{marked, withMark, Marks}
 use Rattle.marks.specs.MarkLaws.{marks-more}
 use Rattle.rules.specs.declared.Place.{Place}

@@ -5,7 +5,7 @@ use mathlib.Core.Bool.{true, false}
 use mathlib.Core.List.{List}
 use lib.Dec.{eqb}
 use borrow.Author.Tests.{eqb-true}
-use Rattle.codec.specs.Cases.{by-bool}
+use Rattle.codec.specs.CaseLaws.{by-bool}
 use Rattle.layout.specs.Answers.{verdict, verdictNumber}
 use Rattle.rules.specs.Rules.{ruledOf}
 use Rattle.rules.specs.RowRules.{rowsRules}

@@ -10,7 +10,7 @@ use lib.ListN.{length}
 use lib.Dec.{eqb, lit<}
 use borrow.Author.Tests.{eq-eqb, eqb-true, eqb-false}
 use Rattle.codec.specs.Codec.{among}
-use Rattle.codec.specs.Cases.{by-bool, by-eqb}
+use Rattle.codec.specs.CaseLaws.{by-bool, by-eqb}
 use Rattle.fields.specs.Sheet.{idOf, offOf, sizeOf, endOf, pastBase}
 use Rattle.fields.specs.Field.{fieldFault}
 use Rattle.fields.specs.FieldLaws.{fault-sized, fault-small, fault-within, past-from}

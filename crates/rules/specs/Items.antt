@@ -6,7 +6,7 @@ use mathlib.Core.Bool.{Bool, true, false, cond}
 use mathlib.Core.List.{List, [], _∷_}
 use lib.ListN.{length, getD, drop}
 use Rattle.numbers.specs.Numbers.{le16}
-use Rattle.layout.specs.Given.{D}
+use Rattle.layout.specs.LayoutOf.{D}
 use Rattle.rules.specs.declared.Place.{Place}
 use Rattle.rules.specs.declared.Task.{Task}
 use Rattle.rules.specs.declared.Item.{Item}
@@ -15,7 +15,7 @@ use Rattle.rules.specs.declared.Next.the-variants.{Found, End}
 use Rattle.rules.specs.Rules.{Seq, seqsFault}
 use Rattle.rules.specs.RowRules.{column, rowsOf, seqsIn}
 use Rattle.rules.specs.Entries.{entriesOf, InSlice}
-use Rattle.layout.specs.Standing.{countAt}
+use Rattle.layout.specs.PlaceLaws.{countAt}
 
 abbrev pub kindOf : Bool → ℕ
 kindOf isRecord = column isRecord 10 13

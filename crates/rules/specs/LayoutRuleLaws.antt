@@ -11,7 +11,7 @@ use borrow.Author.Tests.{eq-eqb, ne-eqb, lt-ltb, le-ltb}
 use Rattle.codec.specs.Codec.{Res, ok, refuse, _>>=_, need}
 use Rattle.numbers.specs.Numbers.{le16}
 use Rattle.layout.specs.Layout.{RecordL, StructL, Layout, fromLayout}
-use Rattle.layout.specs.Given.{D, layoutOf}
+use Rattle.layout.specs.LayoutOf.{D, layoutOf}
 use Rattle.layout.specs.Rows.{rows}
 use Rattle.layout.specs.Answers.{verdict}
 use Rattle.layout.specs.declared.Verdict.the-variants as Verdict'
@@ -19,7 +19,7 @@ use Rattle.rules.specs.declared.Place.{Place}
 use Rattle.rules.specs.Rules.{Seq, seqsFault, structSeq, recordSeq, rulesOf, ruledOf}
 use Rattle.rules.specs.RowRules.{rowsOf, kindRows, rowsRules}
 use Rattle.rules.specs.Entries.{entryAt, entriesAt, entriesOf}
-use Rattle.layout.specs.Standing.{headsAt, heads-none, heads-more, StructAt, RecordAt, AllAt, skipTo, structsAt, labelsAt, LayoutAt, layout-at}
+use Rattle.layout.specs.PlaceLaws.{headsAt, heads-none, heads-more, StructAt, RecordAt, AllAt, skipTo, structsAt, labelsAt, LayoutAt, layout-at}
 use Rattle.rules.specs.Items.{itemSeq, sectionItem, SectionInside, sectionSeqs, Stand, seqsFrom, Good, Ready}
 use Rattle.rules.specs.LayoutRules.{Accepted, Skips, rulesIn, isKind}
 use Rattle.rules.specs.RuleLaws.{seq-eq}

@@ -8,7 +8,7 @@ use lib.Dec.{eqb}
 use Rattle.codec.specs.Codec.{Res, ok, refuse}
 use Rattle.numbers.specs.Numbers.{le16}
 use Rattle.layout.specs.Layout.{Layout, fromLayout}
-use Rattle.layout.specs.Given.{layoutOf}
+use Rattle.layout.specs.LayoutOf.{layoutOf}
 use Rattle.layout.specs.declared.Verdict.the-variants as Verdict'
 use Rattle.rules.specs.Rules.{rulesOf}
 

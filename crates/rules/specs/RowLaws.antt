@@ -20,7 +20,7 @@ use Rattle.rules.specs.Rules.{Seq, seqOf, structSeq, recordSeq, rulesOf}
 use Rattle.rules.specs.RuleLaws.{seq-eq}
 use Rattle.rules.specs.RowFit.{AllOf, FitFields, FitRecord, FitStruct, FitParts}
 use Rattle.rules.specs.RowRules.{column, rowsOf, rowCount, rowSeq, seqsIn, kindRows, rowsRules}
-use Rattle.layout.specs.Standing.{bytes-11, rows-parts}
+use Rattle.layout.specs.PlaceLaws.{bytes-11, rows-parts}
 
 -- ---- rows of nine
 

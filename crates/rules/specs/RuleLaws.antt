@@ -6,8 +6,8 @@ use lib.Dec.{eqb}
 use Rattle.codec.specs.Codec.{ok, _>>=_, need}
 use Rattle.text.specs.Utf8.{utf8}
 use Rattle.layout.specs.Layout.{Parts, fromLayout, parts}
-use Rattle.layout.specs.Standing.{structs-bare, records-bare, labels-bare}
-use Rattle.layout.specs.Given.{D, layoutOf}
+use Rattle.layout.specs.PlaceLaws.{structs-bare, records-bare, labels-bare}
+use Rattle.layout.specs.LayoutOf.{D, layoutOf}
 use Rattle.rules.specs.Rules.{Seq, rulesOf, ruledOf}
 
 -- a layout with a fault is refused by its number

@@ -8,7 +8,7 @@ use lib.ListN.{length, getD}
 use lib.Dec.{ltb, eqb}
 use Rattle.codec.specs.Codec.{Res, ok, _>>=_, need, among}
 use Rattle.layout.specs.Layout.{Fields, RecordL, StructL, Layout, Parts, fromLayout}
-use Rattle.layout.specs.Given.{layoutOf}
+use Rattle.layout.specs.LayoutOf.{layoutOf}
 use Rattle.fields.specs.Sheet.{idOf, offOf, endOf, isPadding, pastBase, memberAlign}
 use Rattle.fields.specs.Field.{faultIf, differs, fieldFault}
 use Rattle.plain_tiling.specs.Tile.{Span, sorted, walk}

@@ -5,11 +5,11 @@ ghost use mathlib.Core.Path.{_≡_};
 ghost use Prim.Native.Nat.{_<_, _≤_, _/_};
 ghost use lib.ListN.{length};
 ghost use Rattle.layout.specs.Answers.{verdict};
-ghost use Rattle.layout.specs.Given.{layoutOf};
+ghost use Rattle.layout.specs.LayoutOf.{layoutOf};
 ghost use Rattle.rules.specs.Rules.{ruledOf};
 ghost use Rattle.rules.specs.Check.{asVerdict, ruling};
 ghost use Rattle.rules.specs.RowRules.{rowsOf, kindRows, rowsRules};
-ghost use Rattle.layout.specs.Standing.{skipTo};
+ghost use Rattle.layout.specs.PlaceLaws.{skipTo};
 ghost use Rattle.rules.specs.LayoutRules.{Accepted, Skips, rulesIn, isKind};
 
 mod by_marks;

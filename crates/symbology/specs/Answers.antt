@@ -2,12 +2,11 @@
 -- Assumes nothing.
 use Prim.Native.Nat.{ℕ, _*_, _/_}
 use mathlib.Core.Path.{_≡_}
-use mathlib.Core.Bool.{Bool, _&&_}
+use mathlib.Core.Bool.{Bool, _&&_, cond}
 use mathlib.Core.List.{List, _++_}
 use lib.ListN.{length, drop}
 use lib.Dec.{leb}
 use Rattle.codec.specs.Codec.{Res, ok, refuse}
-use Rattle.numbers.specs.Pick.{pick}
 use Rattle.table.specs.Out.{flat}
 use Rattle.symbology.specs.Symbology.{Symbology}
 use Rattle.symbology.specs.SymbologyRows.{symbologyRows}
@@ -23,12 +22,12 @@ found (refuse k) = Found'.Refused k
 
 -- the rows are written where `write` holds and a table of cap rows is long enough; else they are counted
 unfoldable pub sectionAnswer : Bool → ℕ → Res Symbology → SectionAnswer
-sectionAnswer write cap (ok t j) = pick (write && leb (length (symbologyRows t)) cap) (SectionAnswer'.Read (length (symbologyRows t)) j) (SectionAnswer'.Counted (length (symbologyRows t)))
+sectionAnswer write cap (ok t j) = cond (write && leb (length (symbologyRows t)) cap) (SectionAnswer'.Read (length (symbologyRows t)) j) (SectionAnswer'.Counted (length (symbologyRows t)))
 sectionAnswer write cap (refuse k) = SectionAnswer'.Refused k
 
 -- then the rows stand at the front of the table, and the rest of it is as it was
 unfoldable pub sectionTable : Bool → List ℕ → Res Symbology → List ℕ
-sectionTable write t (ok l j) = pick (write && leb (length (symbologyRows l)) (length t / 5)) (flat (symbologyRows l) ++ drop (5 * length (symbologyRows l)) t) t
+sectionTable write t (ok l j) = cond (write && leb (length (symbologyRows l)) (length t / 5)) (flat (symbologyRows l) ++ drop (5 * length (symbologyRows l)) t) t
 sectionTable write t (refuse k) = t
 
 -- what reading z into the table t answers and leaves, where the rows are to be written only if `write` holds

@@ -1,7 +1,7 @@
 -- What a caller may use of the symbology's definitions. Assumes nothing.
 use Prim.Native.Nat.{ℕ, _+_, _*_, _/_, _≤_}
 use mathlib.Core.Path.{_≡_, refl, sym, _∙_, subst}
-use mathlib.Core.Bool.{Bool, true, false, _&&_}
+use mathlib.Core.Bool.{Bool, true, false, _&&_, cond}
 use mathlib.Core.List.{List, _++_, map}
 use lib.ListN.{length, drop}
 use lib.Dec.{leb}
@@ -9,7 +9,6 @@ use borrow.Author.Tests.{le-leb}
 use Rattle.codec.specs.Codec.{Res, ok, refuse, _>>=_, need, isNil}
 use Rattle.text.specs.Utf8.{utf8}
 use Rattle.dates.specs.Date.{isDate}
-use Rattle.numbers.specs.Pick.{pick}
 use Rattle.table.specs.Out.{flat, allRows}
 use Rattle.table.specs.TableLaws.{Wide, wide-append, wide-map, wide-all, flat-length}
 use Rattle.symbology.specs.Symbology
@@ -57,7 +56,7 @@ pub record Was (written write : Bool) (z : Res Symbology) (t t′ : List ℕ) (n
   pub is : z ≡ ok tree next
   pub many : length (symbologyRows tree) ≡ n
   pub room : (write && leb (length (symbologyRows tree)) (length t / 5)) ≡ written
-  pub leaves : t′ ≡ pick written (flat (symbologyRows tree) ++ drop (5 * length (symbologyRows tree)) t) t
+  pub leaves : t′ ≡ cond written (flat (symbologyRows tree) ++ drop (5 * length (symbologyRows tree)) t) t
 
 data Says (write : Bool) (z : Res Symbology) (t t′ : List ℕ) : SectionAnswer → Type 0 where
   read : {n j : ℕ} → Was true write z t t′ n → Says write z t t′ (SectionAnswer'.Read n j)
@@ -69,8 +68,8 @@ module _ {write : Bool} {z : Res Symbology} {t t′ : List ℕ} {r r′ : Sectio
   unfolding sectionAnswer sectionTable
   says = subst (Says write z t t′) (sym (f .is) ∙ e) (go z (f .leaves))
     where
-      by : (x : Symbology) (j : ℕ) (b : Bool) → (write && leb (length (symbologyRows x)) (length t / 5)) ≡ b → t′ ≡ pick b (flat (symbologyRows x) ++ drop (5 * length (symbologyRows x)) t) t
-          → Says write (ok x j) t t′ (pick b (SectionAnswer'.Read (length (symbologyRows x)) j) (SectionAnswer'.Counted (length (symbologyRows x))))
+      by : (x : Symbology) (j : ℕ) (b : Bool) → (write && leb (length (symbologyRows x)) (length t / 5)) ≡ b → t′ ≡ cond b (flat (symbologyRows x) ++ drop (5 * length (symbologyRows x)) t) t
+          → Says write (ok x j) t t′ (cond b (SectionAnswer'.Read (length (symbologyRows x)) j) (SectionAnswer'.Counted (length (symbologyRows x))))
       by x j true q l = read {j = j} (record { tree = x; next = j; is = refl; many = refl; room = q; leaves = l })
       by x j false q l = short (record { tree = x; next = j; is = refl; many = refl; room = q; leaves = l })
 

@@ -2,13 +2,12 @@
 -- Assumes nothing.
 use Prim.Native.Nat.{ℕ, _+_, _*_, _/_, _≤_, _<_, _^_}
 use mathlib.Core.Path.{_≡_}
-use mathlib.Core.Bool.{Bool}
+use mathlib.Core.Bool.{Bool, cond}
 use mathlib.Core.List.{List, [], _∷_, _++_, map}
 use lib.ListN.{length}
 use lib.Seq.{sets}
 use lib.Dec.{ltb}
 use Rattle.codec.specs.Codec.{Res, ok, refuse, _>>=_}
-use Rattle.numbers.specs.Pick.{pick}
 use Rattle.numbers.specs.declared.Got.{Got}
 use Rattle.numbers.specs.declared.Got.the-variants.{Value, Refused}
 
@@ -43,7 +42,7 @@ onGot (Refused k) f = refuse k
 
 -- row n of a table of rows of w numbers, where the table has it
 unfoldable pub putRow : ℕ → List ℕ → ℕ → List ℕ → List ℕ
-putRow w t n r = pick (ltb n (length t / w)) (sets t (w * n) r) t
+putRow w t n r = cond (ltb n (length t / w)) (sets t (w * n) r) t
 
 -- the table after row n is stored
 pub record Put (w : ℕ) (t : List ℕ) (n : ℕ) (r t′ : List ℕ) : Type 0 where
@@ -80,7 +79,3 @@ pub record Ran (w base : ℕ) (s : List ℕ) (o : Out) (n : ℕ) (t t′ : List 
   pub answered : r ≡ answer n o
   pub filled : Fills w t n o t′
   pub within : Within base s r
-
--- a reader by a test
-unfoldable pub when : Bool → Out → Out → Out
-when b o o′ = pick b o o′

@@ -2,13 +2,13 @@
 use Prim.Native.Nat.{ℕ, suc, _+_, _/_, _≤_}
 use mathlib.Core.Path.{_≡_, refl, sym, ap, _∙_, subst, subst₂}
 use mathlib.Core.List.{List, [], _∷_, _++_}
-use mathlib.Core.Bool.{Bool, true, false}
+use mathlib.Core.Bool.{Bool, true, false, cond}
 use native.Mathlib.Nat.{add-zero, div-zero}
 use native.Mathlib.Omega.{arith}
 use lib.ListN.{length, length-append}
 use borrow.Author.Tests.{le-ltb}
 use Rattle.codec.specs.Codec.{ok, refuse, _>>=_}
-use Rattle.table.specs.Out.{Out, row, seq, when, onGot, putRow, Put, fill, Fills, answer, Room, Ran, Within, stopped, refused}
+use Rattle.table.specs.Out.{Out, row, seq, onGot, putRow, Put, fill, Fills, answer, Room, Ran, Within, stopped, refused}
 use Rattle.numbers.specs.declared.Got.{Got}
 use Rattle.numbers.specs.declared.Got.the-variants.{Value, Refused}
 
@@ -97,12 +97,10 @@ module _ {w base n : ℕ} {s t t₁ : List ℕ} {r : Got} where
   pub ran-is : {o o′ : Out} → o ≡ o′ → Ran w base s o′ n t t₁ r → Ran w base s o n t t₁ r
   ran-is e g = rw e g
 
-  pub ran-yes : (o o′ : Out) {b : Bool} → b ≡ true → Ran w base s o n t t₁ r → Ran w base s (when b o o′) n t t₁ r
-  unfolding when
+  pub ran-yes : (o o′ : Out) {b : Bool} → b ≡ true → Ran w base s o n t t₁ r → Ran w base s (cond b o o′) n t t₁ r
   ran-yes o o′ e g = rw e g
 
-  pub ran-else : (o o′ : Out) {b : Bool} → b ≡ false → Ran w base s o′ n t t₁ r → Ran w base s (when b o o′) n t t₁ r
-  unfolding when
+  pub ran-else : (o o′ : Out) {b : Bool} → b ≡ false → Ran w base s o′ n t t₁ r → Ran w base s (cond b o o′) n t t₁ r
   ran-else o o′ e g = rw e g
 
   pub ran-on : {d : Got} {v p : ℕ} (f : ℕ → ℕ → Out) → d ≡ Value v p → Ran w base s (f v p) n t t₁ r → Ran w base s (onGot d f) n t t₁ r

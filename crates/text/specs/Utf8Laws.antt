@@ -1,7 +1,7 @@
 -- Laws of `utf8`: of a text after another, and of a text with zeros at its end, at every width.
 -- Assumes nothing.
 use mathlib.Core.Path.{_≡_, _∙_, refl, sym, subst}
-use mathlib.Core.Bool.{Bool, true, false}
+use mathlib.Core.Bool.{Bool, true, false, cond}
 use mathlib.Core.List.{List, [], _∷_, _++_, append-assoc, append-nil}
 use mathlib.Core.Option.{none, some}
 use Prim.Native.Nat.{ℕ, zero, suc, _-_}
@@ -9,7 +9,7 @@ use native.Mathlib.Omega.{arith}
 use borrow.Author.Tests.{lt-leb}
 use lib.Dec.{T, leb, ltb}
 use lib.ListN.{length, take, replicate}
-use Rattle.text.specs.Utf8.{Range, _to_, Expect, table37, within, pick, starts, step, ended, goes, utf8}
+use Rattle.text.specs.Utf8.{Range, _to_, Expect, table37, within, starts, step, ended, goes, utf8}
 use Rattle.codec.specs.Every.{both}
 use Rattle.text.specs.Trim.{trimmedLen}
 use Rattle.text.specs.TrimLaws.{trimmed-split}
@@ -61,7 +61,7 @@ both-parts : (a b : Bool) → T (both a b) → T a × T b
 both-parts true b t = (tt, t)
 both-parts false b t = absurd t
 
-pick-high : (t : Bool) (a b : Expect) → High a → High b → High (pick t a b)
+pick-high : (t : Bool) (a b : Expect) → High a → High b → High (cond t a b)
 pick-high true a b p q = p
 pick-high false a b p q = q
 

@@ -1,7 +1,7 @@
 pub mod Formats
 pub mod FormatLaws
-pub mod Wire
+pub mod Reader
 pub mod NameLaws
 pub mod SectionLaws
-pub mod Steps
+pub mod StepLaws
 pub mod Single

@@ -9,15 +9,15 @@ use lib.ListN.{length, getD, take, drop, length-take, length-drop}
 use lib.Seq.{take-length}
 use borrow.Author.Tests.{ne-eqb}
 use Rattle.codec.specs.Codec.{Res, ok, refuse, raw, num, byte, _then_, named, checked, placed, sized, among}
-use Rattle.codec.specs.Steps.{raw-got, raw-bad, byte-got, byte-bad}
-use Rattle.codec.specs.Cases.{by-bool, by-le, by-eqb}
+use Rattle.codec.specs.StepLaws.{raw-got, raw-bad, byte-got, byte-bad}
+use Rattle.codec.specs.CaseLaws.{by-bool, by-le, by-eqb}
 use Rattle.text.specs.Utf8.{utf8}
 use Rattle.plain_text.specs.Plain.{plain}
 use Rattle.plain_text.specs.PlainLaws.{plain-utf8, plain-next}
 use Rattle.numbers.specs.Numbers.{part}
 use Rattle.wire.specs.Formats
 use Rattle.wire.specs.Formats.{Name, noNul, text, textOf}
-use Rattle.wire.specs.Wire.{name, nameAt, textFault}
+use Rattle.wire.specs.Reader.{name, nameAt, textFault}
 use Rattle.numbers.specs.declared.Got.{Got}
 use Rattle.numbers.specs.declared.Got.the-variants.{Value, Refused}
 

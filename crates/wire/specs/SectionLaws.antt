@@ -10,14 +10,14 @@ use borrow.Author.Tests.{le-leb, lt-leb}
 use Rattle.codec.specs.Codec.{Res, ok, refuse, _>>=_, raw, whole, boxed}
 use Rattle.codec.specs.Format as format
 use Rattle.codec.specs.Format.{Format}
-use Rattle.codec.specs.Steps.{raw-got, raw-bad}
-use Rattle.codec.specs.Cases.{by-le}
+use Rattle.codec.specs.StepLaws.{raw-got, raw-bad}
+use Rattle.codec.specs.CaseLaws.{by-le}
 use Rattle.numbers.specs.Numbers.{u16At, part}
 use Rattle.numbers.specs.NumberLaws.{numOf, num-is, u16-value}
 use Rattle.numbers.specs.declared.Got.{Got}
 use Rattle.numbers.specs.declared.Got.the-variants.{Value, Refused}
 use Rattle.wire.specs.Formats.{section}
-use Rattle.wire.specs.Wire.{sectionAt, Lies, lies, outside}
+use Rattle.wire.specs.Reader.{sectionAt, Lies, lies, outside}
 
 -- where a section lies
 pub lies-mk : {s : List ℕ} {at b e : ℕ} → at ≤ b → b ≤ e → e ≤ length s → Lies s at (Value b e)

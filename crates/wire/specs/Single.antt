@@ -5,7 +5,7 @@ use mathlib.Core.Bool.{Bool}
 use mathlib.Core.List.{List}
 use Rattle.codec.specs.Codec.{among}
 use Rattle.numbers.specs.Numbers.{Past}
-use Rattle.wire.specs.Wire.{nameAt, sectionAt, Lies}
+use Rattle.wire.specs.Reader.{nameAt, sectionAt, Lies}
 use Rattle.numbers.specs.declared.Got.{Got}
 
 module _ (s : List ℕ) (at : ℕ) (r r′ : Got) where

@@ -4,7 +4,7 @@ ghost use mathlib.Core.Path.{_≡_};
 ghost use Prim.Native.Nat.{_+_, _<_};
 ghost use Rattle.codec.specs.Codec.{among};
 ghost use Rattle.numbers.specs.Numbers.{Past};
-ghost use Rattle.wire.specs.Wire.{nameAt, textFault, sectionAt, Lies};
+ghost use Rattle.wire.specs.Reader.{nameAt, textFault, sectionAt, Lies};
 
 // The length of the name's text at `at`, which starts one byte later, and the place after its closing NUL.
 pub fn name_at(s: &[u8], at: usize) -> Got

@@ -3,8 +3,8 @@ use mathlib.Core.List.{List, [], _∷_}
 use Rattle.codec.specs.Codec.{Codec, timesLegal}
 use Rattle.text.specs.Utf8.{utf8}
 use Rattle.layout.specs.Layout.{Fields, Layout, LegalLayout, fromLayout}
-use Rattle.layout.specs.Given.{D, entry, fields, recordL, structL}
-use Rattle.layout.specs.Prints.{entry-told, fields-told, struct-told, record-told, layout-told}
+use Rattle.layout.specs.LayoutOf.{D, entry, fields, recordL, structL}
+use Rattle.layout.specs.PrintLaws.{entry-told, fields-told, struct-told, record-told, layout-told}
 use Rattle.rules.specs.RowFit.{AllOf, FitFields, FitRecord, FitStruct, FitParts}
 
 all-of : {A : Type 0} (c : Codec A) (P : A → Type 0) → ((x : A) → c .legal x → P x) → (xs : List A) → timesLegal c xs → AllOf P xs

@@ -3,21 +3,20 @@
 use Prim.Native.Nat.{ℕ, _≤_, _<_}
 use native.Mathlib.Omega.{arith}
 use mathlib.Core.Path.{_≡_, refl, sym, ap, _∙_}
-use mathlib.Core.Bool.{Bool, true, false}
+use mathlib.Core.Bool.{Bool, true, false, cond}
 use mathlib.Core.List.{List, _++_, map}
 use lib.ListN.{length, drop}
 use lib.Dec.{leb, eqb}
 use borrow.Author.Tests.{eqb-true, leb-true, le-leb}
 use Rattle.codec.specs.Codec.{ok, Bytes}
 use Rattle.text.specs.Utf8.{utf8}
-use Rattle.numbers.specs.Pick.{pick}
 use Rattle.layout.specs.Layout.{Layout, fromLayout, locateLayout, printLayout}
-use Rattle.layout.specs.Given.{D}
+use Rattle.layout.specs.LayoutOf.{D}
 use Rattle.table.specs.Out.{flat}
 use Rattle.layout.specs.Rows.{rows}
 use Rattle.layout.specs.RowLaws.{noStart}
 use Rattle.layout.specs.TextLaws.{rowText}
-use Rattle.layout.specs.Prints.{reads, parts-still}
+use Rattle.layout.specs.PrintLaws.{reads, parts-still}
 use Rattle.rules.specs.Rules.{rulesOf, ruledOf}
 use Rattle.rules.specs.RuleLaws.{rules-blind, ruled-is}
 use Rattle.rules.specs.RowRules.{rowsRules}
@@ -75,7 +74,7 @@ module _ (sheet : List ℕ) (width version : ℕ) (table text : List ℕ) (room 
   accepted n e = go (eqb 0 (fault table text)) refl (eqb 0 (rowsRules sheet width table)) refl (leb (length (printed version table text)) room) refl e
     where
       go : (a : Bool) → eqb 0 (fault table text) ≡ a → (b : Bool) → eqb 0 (rowsRules sheet width table) ≡ b → (c : Bool) → leb (length (printed version table text)) room ≡ c
-          → pick a (pick b (pick c (Length (length (printed version table text))) (Refused 96)) (Refused (rowsRules sheet width table))) (Refused (fault table text)) ≡ Length n
+          → cond a (cond b (cond c (Length (length (printed version table text))) (Refused 96)) (Refused (rowsRules sheet width table))) (Refused (fault table text)) ≡ Length n
           → Accepts sheet width version table text room n
       go true x true y true z e =
           let m : n ≡ length (printed version table text) = cc in

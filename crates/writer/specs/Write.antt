@@ -1,11 +1,11 @@
 -- What the writer answers and what it leaves of the output: 90 to 95, then the rules, then 96.
 -- Assumes nothing.
+use mathlib.Core.Bool.{cond}
 use Prim.Native.Nat.{ℕ}
 use mathlib.Core.Path.{_≡_}
 use mathlib.Core.List.{List, _++_}
 use lib.ListN.{length, drop}
 use lib.Dec.{leb, eqb}
-use Rattle.numbers.specs.Pick.{pick}
 use Rattle.rules.specs.RowRules.{rowsRules}
 use Rattle.rows_check.specs.Check.{fault, printed}
 use Rattle.rows_check.specs.Tree.{skip}
@@ -16,15 +16,15 @@ use Rattle.writer.specs.declared.Written.the-variants.{Length, Refused}
 
 -- 90 to 95, or x
 abbrev pub whole : List ℕ → List ℕ → Written → Written
-whole rows text x = pick (eqb 0 (fault rows text)) x (Refused (fault rows text))
+whole rows text x = cond (eqb 0 (fault rows text)) x (Refused (fault rows text))
 
 -- 60 to 83, or x
 abbrev pub ruled : List ℕ → ℕ → List ℕ → Written → Written
-ruled sheet width rows x = pick (eqb 0 (rowsRules sheet width rows)) x (Refused (rowsRules sheet width rows))
+ruled sheet width rows x = cond (eqb 0 (rowsRules sheet width rows)) x (Refused (rowsRules sheet width rows))
 
 -- 96, or x
 abbrev pub roomy : List ℕ → ℕ → Written → Written
-roomy bytes room x = pick (leb (length bytes) room) x (Refused 96)
+roomy bytes room x = cond (leb (length bytes) room) x (Refused 96)
 
 -- by the sheet, the symbol width, the layout version, the rows with their text, and how long the output is
 unfoldable pub writeLayout : List ℕ → ℕ → ℕ → List ℕ → List ℕ → ℕ → Written
@@ -48,7 +48,7 @@ pub record WroteSections (kind : ℕ) (rows : List ℕ) (at : ℕ) (bs o o′ : 
 
 -- the bytes of the part of a section that row q is, by its kind: 11 an entry, 12 a field's name, else a label
 unfoldable pub printedPart : ℕ → List ℕ → List ℕ → ℕ → List ℕ
-printedPart kind rows text q = pick (eqb kind 11) (printedEntry rows q) (pick (eqb kind 12) (printedName rows text q) (printedLabel rows text q))
+printedPart kind rows text q = cond (eqb kind 11) (printedEntry rows q) (cond (eqb kind 12) (printedName rows text q) (printedLabel rows text q))
 
 -- the texts of n rows of that kind lie in the text; a field row has none
 pub record TextsInside (kind : ℕ) (rows text : List ℕ) (q n : ℕ) : Type 0 where

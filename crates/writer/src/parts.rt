@@ -4,7 +4,7 @@ use super::put;
 use rows_check::kinds;
 ghost use Prim.Native.Nat.{_+_, _*_, _≤_};
 ghost use lib.ListN.{length};
-ghost use Rattle.layout.specs.Given.{entry};
+ghost use Rattle.layout.specs.LayoutOf.{entry};
 ghost use Rattle.rows_check.specs.Tree.{cell, after, entryWithZeros};
 ghost use Rattle.rows_check.specs.Sections.{many, printedName, printedLabel, printedFields, Spans};
 ghost use Rattle.writer.specs.Write.{TextsInside, printedPart};

@@ -2,7 +2,7 @@
 -- Assumes nothing.
 use mathlib.Core.Path.{sym, ap, _∙_}
 use borrow.Author.Needs.{needs}
-use Rattle.layout.specs.Given.{layoutOf}
+use Rattle.layout.specs.LayoutOf.{layoutOf}
 use Rattle.layout.specs.Answers.{verdictIn, answer-verdict}
 use Rattle.rules.proofs.layout_verdict.Statement.{statement}
 use Rattle.rules.proofs.layout_verdict.Tie as tie

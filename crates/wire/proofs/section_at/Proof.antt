@@ -3,7 +3,7 @@ use native.Mathlib.Omega.{arith}
 use mathlib.Core.Path.{sym, _∙_}
 use Rattle.numbers.specs.NumberLaws.{past-at}
 use Rattle.wire.specs.SectionLaws.{lies-mk, section-short, section-51, section-50, section-read}
-use Rattle.wire.specs.Wire.{outside}
+use Rattle.wire.specs.Reader.{outside}
 use borrow.Author.Needs.{needs}
 use Rattle.wire.proofs.section_at.Statement.{statement}
 use Rattle.wire.proofs.section_at.Tie as tie

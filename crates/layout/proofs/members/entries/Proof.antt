@@ -4,7 +4,7 @@ use native.Mathlib.Omega.{arith}
 use Prim.Native.Nat.{ℕ}
 use mathlib.Core.List.{List}
 use Rattle.layout.specs.Rows.{headRow}
-use Rattle.layout.specs.Given.{D-is}
+use Rattle.layout.specs.LayoutOf.{D-is}
 use mathlib.Core.Path.{sym, ap, _∙_}
 use Rattle.layout.specs.Reader.{entriesAt}
 use Rattle.numbers.specs.NumberLaws.{past-at}

@@ -1,10 +1,10 @@
 -- The invariant: each sum, and what is left to count, give the same.
 -- Assumes nothing.
+use mathlib.Core.Bool.{cond}
 use Prim.Native.Nat.{ℕ, _+_, _-_, _≤_}
 use native.Mathlib.Omega.{arith}
 use mathlib.Core.Path.{_≡_}
 use lib.Dec.{eqb}
-use Rattle.numbers.specs.Pick.{pick}
 use Rattle.rows_check.specs.Tree.{cell, rowCount, countKind, kinds}
 use Rattle.rows_check.proofs.WalkLaws.{kind-next, kind-none}
 use borrow.Author.Needs.{needs}
@@ -24,7 +24,7 @@ loop-again : tie.Need-loop-again Inv-loop μ-loop
 loop-again c =
     let at-loop = c .before .before .before .before .before in
     let rows = at-loop .before .before .args .rows .now in
-    let next : (kind : ℕ) → countKind kind rows (at-loop .loop .p) (at-loop .loop .todo) ≡ pick (eqb (cell rows (at-loop .loop .p) 0) kind) 1 0 + countKind kind rows (at-loop .loop .p + 1) (at-loop .loop .todo - 1) =
+    let next : (kind : ℕ) → countKind kind rows (at-loop .loop .p) (at-loop .loop .todo) ≡ cond (eqb (cell rows (at-loop .loop .p) 0) kind) 1 0 + countKind kind rows (at-loop .loop .p + 1) (at-loop .loop .todo - 1) =
     λ kind. kind-next kind rows (at-loop .loop .p) (at-loop .loop .todo) (c .before .before .before .before .loop-test .taken) in
     let here = c .before .before .before .cell-of .ensures .0 in
     let r = rw here at (c .before .before .one-if .ensures .0) in

@@ -2,7 +2,7 @@
 -- Assumes nothing.
 use native.Mathlib.Omega.{arith}
 use borrow.Author.Tests.{eq-eqb, ne-eqb}
-use Rattle.layout.specs.Given.{D-is}
+use Rattle.layout.specs.LayoutOf.{D-is}
 use Rattle.rows_check.specs.Answers.{namelessSize}
 use borrow.Author.Needs.{needs}
 use Rattle.rows_check.proofs.sizes.nameless_size.Statement.{statement}

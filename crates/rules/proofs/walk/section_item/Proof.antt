@@ -1,6 +1,6 @@
 -- Every number that is read of a section lies within it. Assumes nothing.
 use Rattle.rules.proofs.Walks.{section-bounds, section-item-is}
-use Rattle.layout.specs.Given.{D-is}
+use Rattle.layout.specs.LayoutOf.{D-is}
 use native.Mathlib.Omega.{arith}
 use mathlib.Core.Path.{sym}
 use borrow.Author.Needs.{needs}

@@ -6,8 +6,8 @@ use mathlib.Core.Path.{sym, ap, _∙_}
 use mathlib.Core.List.{_++_}
 use lib.ListN.{length, replicate, length-replicate, length-append}
 use Rattle.text.specs.Utf8.{utf8}
-use Rattle.layout.specs.Given.{D, D-is}
-use Rattle.layout.specs.Prints.{entry-print}
+use Rattle.layout.specs.LayoutOf.{D, D-is}
+use Rattle.layout.specs.PrintLaws.{entry-print}
 use Rattle.rows_check.specs.Tree.{entryWithZeros}
 use Rattle.writer.proofs.OutputLaws.{wrote-then, wrote-is}
 use borrow.Author.Needs.{needs}

@@ -5,7 +5,7 @@ use mathlib.Core.Path.{sym, ap}
 use lib.ListN.{length, length-append}
 use denote.Ref.{now}
 use Rattle.text.specs.Utf8.{utf8}
-use Rattle.layout.specs.Prints.{label-print}
+use Rattle.layout.specs.PrintLaws.{label-print}
 use Rattle.rows_check.specs.Tree.{labelOf}
 use Rattle.writer.proofs.OutputLaws.{wrote-then, wrote-is}
 use borrow.Author.Needs.{needs}

@@ -11,7 +11,7 @@ use Rattle.numbers.specs.Numbers.{part}
 use Rattle.table.specs.Out.{Out, allRows, said, seq, onGot}
 use Rattle.table.specs.StepLaws.{seq-ok, seq-no}
 use Rattle.wire.specs.Formats.{Name, section}
-use Rattle.wire.specs.Wire.{name, nameAt, sectionAt}
+use Rattle.wire.specs.Reader.{name, nameAt, sectionAt}
 use Rattle.wire.specs.NameLaws.{nameOf, name-is, name-place}
 use Rattle.wire.specs.SectionLaws.{section-got, section-bad}
 use Rattle.numbers.specs.declared.Got.{Got}

@@ -1,5 +1,6 @@
 -- The layout's formats with the text crate's UTF-8 and the entry length of the wire. Of D the proofs use 11 ≤ D only.
 -- Assumes nothing.
+use mathlib.Core.Bool.{cond}
 use Prim.Native.Nat.{ℕ, _≤_}
 use native.Mathlib.Omega.{arith}
 use mathlib.Core.Path.{_≡_, refl}
@@ -8,7 +9,6 @@ use lib.ListN.{length}
 use lib.Dec.{leb}
 use Rattle.codec.specs.Codec.{Res, refuse, Codec}
 use Rattle.text.specs.Utf8.{utf8}
-use Rattle.numbers.specs.Pick.{pick}
 use Rattle.layout.specs.Layout
 use Rattle.layout.specs.Layout.{Entry, Fields, RecordL, StructL, Label, LabelDef}
 
@@ -43,4 +43,4 @@ labelDef = Layout.labelDef utf8 .codec
 
 -- what a layout given whole is read as
 unfoldable pub layoutOf : List ℕ → Res Layout.Layout
-layoutOf s = pick (leb (length s) 4294967295) (Layout.readLayout utf8 D s) (refuse 13)
+layoutOf s = cond (leb (length s) 4294967295) (Layout.readLayout utf8 D s) (refuse 13)

@@ -15,7 +15,7 @@ use Rattle.layout.specs.LayoutLaws.{parse-print, layout-octets}
 use Rattle.layout.specs.Rows.{rows}
 use Rattle.layout.specs.RowLaws.{noStart, rows-bare}
 use Rattle.layout.specs.TextLaws.{rowText, texts, row-texts, texts-bare, texts-each}
-use Rattle.layout.specs.Given.{D, layoutOf}
+use Rattle.layout.specs.LayoutOf.{D, layoutOf}
 
 module _ (utf8 : List ℕ → Bool) where
   pub label-print : (l : Label) → label utf8 .codec .print l ≡ little 2 (l .code) ++ name utf8 .codec .print (l .name)

@@ -13,16 +13,15 @@ use borrow.Author.Tests.{le-leb, lt-leb}
 use native.Mathlib.Numerals.{add-one}
 use Rattle.codec.specs.Codec.{Res, ok, refuse, _>>=_, Codec, num, raw, padded, named, _then_, sized, times, timesParse, counted, whole, timesBare}
 use Rattle.codec.specs.Laws.{bind-ok, length-bare}
-use Rattle.codec.specs.Steps.{raw-got, raw-bad, times-length}
-use Rattle.codec.specs.Cases.{by-bool, by-le}
+use Rattle.codec.specs.StepLaws.{raw-got, raw-bad, times-length}
+use Rattle.codec.specs.CaseLaws.{by-bool, by-le}
 use Rattle.text.specs.Utf8.{utf8}
-use Rattle.numbers.specs.Pick.{pick}
 use Rattle.codec.specs.Format.{Format}
 use Rattle.wire.specs.Formats
 use Rattle.wire.specs.Formats.{Name, section}
 use Rattle.wire.specs.FormatLaws.{section-bare}
 use Rattle.numbers.specs.Numbers.{numAt, u16At, part, le16}
-use Rattle.wire.specs.Wire.{name, nameAt, sectionAt}
+use Rattle.wire.specs.Reader.{name, nameAt, sectionAt}
 use Rattle.numbers.specs.NumberLaws.{numOf, num-is, num-value, u16-value}
 use Rattle.wire.specs.NameLaws.{nameOf, name-is, name-place}
 use Rattle.wire.specs.SectionLaws.{section-got, section-bad, section-of}
@@ -30,7 +29,7 @@ use Rattle.numbers.specs.declared.Got.{Got}
 use Rattle.numbers.specs.declared.Got.the-variants.{Value, Refused}
 use Rattle.layout.specs.Layout
 use Rattle.layout.specs.Layout.{Entry, Fields, RecordL, StructL, LabelDef, Layout, Parts, toRecord, toStruct, toLayout}
-use Rattle.layout.specs.Given.{D, D-least, entry, fields, recordL, structL, labelDef, layoutOf}
+use Rattle.layout.specs.LayoutOf.{D, D-least, entry, fields, recordL, structL, labelDef, layoutOf}
 use Rattle.entry.specs.Entry.{entryBytes}
 use Rattle.layout.specs.Rows.{recordRows, structRows, labelDefRows, rows}
 use Rattle.table.specs.Out.{allRows}
