@@ -9,7 +9,6 @@ use Rattle.codec.specs.Codec.{Res, ok, refuse}
 use Rattle.numbers.specs.Numbers.{le16}
 use Rattle.layout.specs.Layout.{Layout, fromLayout}
 use Rattle.layout.specs.LayoutOf.{layoutOf}
-use Rattle.layout.specs.declared.Verdict.the-variants as Verdict'
 use Rattle.rules.specs.Rules.{rulesOf}
 
 -- the layout in s is accepted
@@ -28,5 +27,6 @@ abbrev pub rulesIn : List ℕ → ℕ → Res Layout → ℕ
 rulesIn sheet width (ok t j) = rulesOf sheet width (fromLayout t .0)
 rulesIn sheet width (refuse k) = 0
 
+-- 1 where a row is of the kind, else 0
 unfoldable pub isKind : ℕ → ℕ → ℕ
 isKind x kind = cond (eqb x kind) 1 0

@@ -16,10 +16,10 @@ pub ruled-is : (sheet : List ℕ) (width : ℕ) (s : List ℕ) → ruledOf sheet
 unfolding ruledOf
 ruled-is sheet width s = refl
 
--- the rules see no start and no skipped byte
 seq : ℕ → ℕ → ℕ → List (List ℕ) → Seq
 seq rtype base names es = record { rtype = rtype; base = base; names = names; entries = es }
 
+-- the rules see no start and no skipped byte
 pub rules-blind : (sheet : List ℕ) (w : ℕ) (x : Parts) → rulesOf sheet w (parts utf8 D .codec .bare x) ≡ rulesOf sheet w x
 unfolding rulesOf seq
 rules-blind sheet w x = rw (structs-bare seq x, records-bare seq x, labels-bare x)

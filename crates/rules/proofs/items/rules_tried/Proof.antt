@@ -1,4 +1,4 @@
--- Either try is told. Assumes nothing.
+-- Either try gives the number or gives up. Assumes nothing.
 use Rattle.rules.proofs.items.rules_tried.Statement.{statement}
 use Rattle.rules.proofs.items.rules_tried.Tie as tie
 
