@@ -10,32 +10,12 @@ pub(crate) fn byte(s: &[u8], at: usize) -> u8 {
 
 // Two bytes at a place.
 pub(crate) fn u16_at(s: &[u8], at: usize) -> u16 {
-    if s.len() < 2 {
-        return 0;
-    }
-    if s.len() - 2 < at {
-        return 0;
-    }
-    wide(s[at]) + 256 * wide(s[at + 1])
+    numbers::u16_of(s, at) as u16
 }
 
 // Four bytes at a place.
 pub(crate) fn u32_at(s: &[u8], at: usize) -> u32 {
-    if s.len() < 4 {
-        return 0;
-    }
-    if s.len() - 4 < at {
-        return 0;
-    }
-    let low = u16_at(s, at) as u32;
-    let high = u16_at(s, at + 2) as u32;
-    low + 65536 * high
-}
-
-fn wide(x: u8) -> u16
-    ensures { λ r. ⌜ r < 256 ⌝ }
-{
-    x as u16
+    numbers::u32_of(s, at) as u32
 }
 
 // The bytes from a place on.

@@ -16,14 +16,14 @@ fn find(text: &[u8], n: u64) -> usize
     if 99 < n {
         return text.len();
     }
-    let digits = 528 + n;
+    let digits = 528 + n as usize;
     let mut i = 0;
     while i < text.len() {
         if text[i] == b'\n' {
             if text.len() - i < 3 {
                 return text.len();
             }
-            if 10 * wide(text[i + 1]) + wide(text[i + 2]) == digits {
+            if 10 * numbers::wide(text[i + 1]) + numbers::wide(text[i + 2]) == digits {
                 return i + 3;
             }
         }
@@ -45,10 +45,4 @@ fn line_end(text: &[u8], from: usize) -> usize
         i += 1;
     }
     i
-}
-
-fn wide(x: u8) -> u64
-    ensures { λ r. ⌜ r ≤ 255 ⌝ }
-{
-    x as u64
 }
