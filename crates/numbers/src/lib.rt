@@ -52,7 +52,7 @@ pub fn u16_at(s: &[u8], at: usize, why: u32) -> Got
 {
     if 2 <= left(s, at) {
         Got::Value {
-            value: u16_of(s, at),
+            value: half(s, at),
             next: at + 2,
         }
     } else {
@@ -66,7 +66,7 @@ pub fn u32_at(s: &[u8], at: usize, why: u32) -> Got
 {
     if 4 <= left(s, at) {
         Got::Value {
-            value: u32_of(s, at),
+            value: half(s, at) + 65536 * half(s, at + 2),
             next: at + 4,
         }
     } else {

@@ -9,7 +9,7 @@ use Rattle.numbers.proofs.u16_at.Statement.{statement}
 use Rattle.numbers.proofs.u16_at.Tie as tie
 
 returns : tie.Need-returns
-returns c = (rw (c .u16-of .ensures .0) (u16-ok _ _ _ (omega arith)), past-mk (omega arith) (omega arith) (omega arith))
+returns c = (rw (c .half .ensures .0) (u16-ok _ _ _ (omega arith)), past-mk (omega arith) (omega arith) (omega arith))
 
 returns-2 : tie.Need-returns-2
 returns-2 c = (sym (num-no _ _ _ _ (omega arith)), refused)

@@ -9,10 +9,21 @@ use Rattle.numbers.proofs.u32_at.Statement.{statement}
 use Rattle.numbers.proofs.u32_at.Tie as tie
 
 returns : tie.Need-returns
-returns c = (rw (c .u32-of .ensures .0) (u32-ok _ _ _ (omega arith)), past-mk (omega arith) (omega arith) (omega arith))
+returns c = (rw (c .before .half .ensures .0, c .half2 .ensures .0) (u32-ok _ _ _ (omega arith)), past-mk (omega arith) (omega arith) (omega arith))
 
 returns-2 : tie.Need-returns-2
 returns-2 c = (sym (num-no _ _ _ _ (omega arith)), refused)
 
 pub u32-at-spec : {M : Type 1} → statement M
-u32-at-spec = tie.close (tie.spec (λ c κs. search needs) (λ c κs. search needs) (λ c. search needs) returns returns-2)
+u32-at-spec =
+    tie.close
+    (tie.spec
+    (λ c κs. search needs)
+    (λ c κs. search needs)
+    (λ c. search needs)
+    (λ c κs. search needs)
+    (λ c. search needs)
+    (λ c. search needs)
+    (λ c. search needs)
+    returns
+    returns-2)
