@@ -58,7 +58,7 @@ fn unmark(s: &[u8], at: usize, count: usize, marks: &mut [u64; 1024])
     let mut todo = count;
     let mut p = at;
     while 0 < todo {
-        let code = numbers::u16_of(s, p) as u16;
+        let code = rows::half(s, p) as u16;
         let len = numbers::wide(s[p + 2]);
         marks::wipe(marks, code);
         p = p + 4 + len;

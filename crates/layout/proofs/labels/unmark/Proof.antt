@@ -15,6 +15,9 @@ abbrev μ-loop : tie.MeasureT-loop
 loop-holds : tie.Need-loop-holds Inv-loop μ-loop
 loop-holds c = c .before .pre
 
+half-requires : tie.Need-half-requires Inv-loop μ-loop
+half-requires c κs = omega (arith, codes-room (c .before .loop .inv) (c .loop-test .taken))
+
 cast-code : tie.Need-cast-code Inv-loop μ-loop
 cast-code c = omega arith
 
@@ -37,7 +40,7 @@ loop-less : tie.Need-loop-less Inv-loop μ-loop
 loop-less c = omega arith
 
 loop-again : tie.Need-loop-again Inv-loop μ-loop
-loop-again c = rw (c .before .before .wide .ensures .0, c .wipe .ensures, c .before .before .before .before .u16-of .ensures .0) (codes-next (c .before .before .before .before .before .before .loop .inv) (c .before .before .before .before .before .loop-test .taken) (omega (arith, c .before .before .before .before .u16-of .ensures)))
+loop-again c = rw (c .before .before .wide .ensures .0, c .wipe .ensures, c .before .before .before .before .half .ensures .0) (codes-next (c .before .before .before .before .before .before .loop .inv) (c .before .before .before .before .before .loop-test .taken) (omega (arith, c .before .before .before .before .half .ensures)))
 
 returns : tie.Need-returns Inv-loop μ-loop
 returns c = codes-end (c .before .loop .inv) (c .loop-test .left)
@@ -49,7 +52,7 @@ unmark-spec =
     Inv-loop
     μ-loop
     loop-holds
-    (λ c κs. search needs)
+    half-requires
     cast-code
     add-wide
     shared-slice-read-wide

@@ -6,7 +6,7 @@ use Rattle.layout.proofs.rows.record_row.Statement.{statement}
 use Rattle.layout.proofs.rows.record_row.Tie as tie
 
 returns : tie.Need-returns
-returns c = nine10 (now (c .before .before .before .before .before .before .args .s)) (c .before .before .before .before .u16-of .ensures .0) (c .before .before .before .u16-of2 .ensures .0) (c .before .before .u16-of3 .ensures .0) (c .before .u32-of .ensures) (c .u32-of2 .ensures)
+returns c = nine10 (now (c .before .before .before .before .before .before .args .s)) (c .before .before .before .before .half .ensures .0) (c .before .before .before .half2 .ensures .0) (c .before .before .half3 .ensures .0) (c .before .word .ensures) (c .word2 .ensures)
 
 pub record-row-spec : {M : Type 1} → statement M
 record-row-spec =
@@ -15,14 +15,9 @@ record-row-spec =
     (λ c. search needs)
     (λ c. search needs)
     (λ c κs. search needs)
-    (λ c. search needs)
+    (λ c κs. search needs)
     (λ c κs. search needs)
     (λ c. search needs)
     (λ c κs. search needs)
-    (λ c. search needs)
-    (λ c. search needs)
     (λ c κs. search needs)
-    (λ c. search needs)
-    (λ c κs. search needs)
-    (λ c. search needs)
     returns)
