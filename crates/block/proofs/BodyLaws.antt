@@ -14,6 +14,7 @@ use Rattle.layout.specs.Rows.{rows}
 use Rattle.symbology.specs.Symbology.{Symbology}
 use Rattle.symbology.specs.SymbologyRows.{symbologyRows}
 use Rattle.layout.specs.Answers.{leave}
+use Rattle.layout.specs.AnswerLaws.{leave-ok, leave-anywhere}
 use Rattle.symbology.specs.ReadLaws.{Was, rows-read, rows-counted, rows-refused}
 use Rattle.symbology.specs.declared.SectionAnswer.{SectionAnswer}
 use Rattle.symbology.specs.declared.SectionAnswer.the-variants as SectionAnswer'
@@ -58,7 +59,7 @@ module _ (v : MetadataLengths) {z : Res (Block × List ℕ)} (s l : List ℕ) wh
     does-read : {s′ l′ : List ℕ} {f : Fields} → roomy (x .0) (length s) (length l) ≡ true → leb (length (nines (x .0))) (length l / 9) ≡ true
         → s′ ≡ over (fives (x .0)) 5 s → l′ ≡ leave l (ok (x .0 .layout) 0) → f ≡ fieldsOf v (x .0) → Does v z s l (Read f) s′ l′
     unfolding answerOf symbologyAfter layoutAfter
-    does-read q q9 es el ef = record { answer = rw (e, q, ef); symbology = es ∙ rw (e, q); layout = el ∙ rw (e, q, q9) }
+    does-read q q9 es el ef = record { answer = rw (e, q, ef); symbology = es ∙ rw (e, q); layout = el ∙ leave-ok l (x .0 .layout) 0 ∙ rw (e, q, q9) }
 
 -- ---- the whole from its parts
 
@@ -130,7 +131,7 @@ module _ (sheet : List ℕ) (v : MetadataLengths) (b : List ℕ) (w : ℕ) (s l 
           → OfHeader v b (λ h. F ≡ fieldsWith v h ver n5 n9) → Does v (whole (block sheet v .codec) 0 b) s l (Read F) s′ l′
       body-read q el ef =
           let W = rows-read (S .fives) q in
-          does-read v s l (is W) (room W) (sym (room9 W) ∙ first write _ (W .room)) (W .leaves) (el ∙ L .leaves l) (fields-is W ef)
+          does-read v s l (is W) (room W) (sym (room9 W) ∙ first write _ (W .room)) (W .leaves) (el ∙ L .leaves l ∙ leave-anywhere l _ _ 0) (fields-is W ef)
         where
           first : (x y : Bool) → (x && y) ≡ true → x ≡ true
           first true y e = refl

@@ -30,7 +30,8 @@ use Rattle.rules.specs.Rules.{rulesOf, ruledOf}
 use Rattle.rules.specs.RuleLaws.{ruled-is}
 use Rattle.block.specs.Block.{noItems, layoutPart, symbologyPart}
 use Rattle.block.specs.Parts.{spanOf, spanAt, Within, within, outside, sectionAt, layoutTable, LayoutReads, lays, lays-no, SymbologyReads}
-use Rattle.engines.specs.VerdictLaws.{verdict-ok, verdict-no, ruled-layout}
+use Rattle.layout.specs.AnswerLaws.{verdict-ok, verdict-no, leave-ok, leave-anywhere}
+use Rattle.engines.specs.VerdictLaws.{ruled-layout}
 use Rattle.block.specs.declared.Span.{Span}
 use Rattle.block.specs.declared.Span.the-variants.{Part}
 use Rattle.block.specs.declared.Span.the-variants as Span'
@@ -226,7 +227,7 @@ module _ (sheet : List ℕ) (width : ℕ) (b : List ℕ) where
       is = layout-empty sheet width b S (w .1) z;
       from = omega (arith, w .0);
       to = w .1;
-      leaves = λ l. rw (no-rows 0 [], le-leb 0 (length l / 9) zero-le);
+      leaves = λ l. sym (leave-ok l (noItems []) (p + n) ∙ rw (no-rows 0 [], le-leb 0 (length l / 9) zero-le));
       version = refl;
       many = ap length (no-rows 0 []);
     }))
@@ -242,7 +243,7 @@ module _ (sheet : List ℕ) (width : ℕ) (b : List ℕ) where
       leaves-is l i e x =
           let q : p ≡ 104 = start-is (omega (arith, w .0, w .1)) S in
           let z : p + n - 104 ≡ n = omega arith in
-          rw (z, ← q, e)
+          rw (z, ← q, e) (leave-anywhere x l i (p + n))
 
       is-ok : (l : Layout) (j : ℕ) → ruledOf sheet width (take n (drop p b)) ≡ ok l j → layoutPart true sheet width .codec .parse 0 b 100 ≡ ok l (p + n)
       is-ok l j el = ruled ∙ rw el

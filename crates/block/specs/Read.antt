@@ -8,7 +8,7 @@ use lib.Dec.{leb}
 use Rattle.codec.specs.Codec.{Res, ok, refuse}
 use Rattle.layout.specs.Rows.{rows}
 use Rattle.symbology.specs.SymbologyRows.{symbologyRows}
-use Rattle.table.specs.Out.{flat}
+use Rattle.table.specs.Table.{flat}
 use Rattle.block.specs.Block.{Block, lengths, blockOf}
 use Rattle.block.specs.Fields.{fieldsOf}
 use Rattle.block.specs.declared.MetadataLengths.{MetadataLengths}

@@ -8,7 +8,7 @@ use lib.ListN.{length, drop, length-append, length-drop}
 use lib.Seq.{drop-append-seam}
 use borrow.Author.Tests.{leb-true}
 use Rattle.codec.specs.Codec.{Res, ok, refuse}
-use Rattle.table.specs.Out.{flat}
+use Rattle.table.specs.Table.{flat}
 use Rattle.layout.specs.ReadLaws.{rows-flat}
 use Rattle.symbology.specs.ReadLaws.{symbology-flat}
 use Rattle.block.specs.Block.{Block, lengths, blockOf}

@@ -9,7 +9,7 @@ use lib.Dec.{eqb}
 use Rattle.codec.specs.Format.{Format, tail-one, raw-edits, num-edits}
 use Rattle.codec.specs.EditLaws.{edits-still, edits-padded, edits-then, edits-named, edits-checked, edits-placed, edits-sized, times-moves, edits-times, edits-distinct, edits-boxed}
 use Rattle.wire.specs.Formats.{section, Name, textOf, text, name}
-use Rattle.table.specs.Out.{flat}
+use Rattle.table.specs.Table.{flat}
 use Rattle.layout.specs.Layout.{Entry, Fields, RecordL, StructL, Label, LabelDef, Parts, toLayout, entry, fields, recordL, structL, label, labelDef, parts, groups}
 use Rattle.layout.specs.Rows.{headRow, row12, entryRow, nameRow, fieldRows, recordRows, structRows, labelRow, labelDefRows, rows}
 

@@ -11,7 +11,7 @@ use lib.Dec.{eqb}
 use Rattle.codec.specs.Codec.{Codec, raw, num, named, checked, placed, asks, limited, timesLocate, timesEach, _then_}
 use Rattle.text.specs.Trim.{trimmedLen}
 use Rattle.text.specs.TrimLaws.{trimmed-le}
-use Rattle.table.specs.Out.{flat}
+use Rattle.table.specs.Table.{flat}
 use Rattle.layout.specs.TextLaws.{rowText}
 use Rattle.symbology.specs.Symbology.{Symbol, Interval, Mapping, Symbology, symbol, date, list, interval, mapping, symbology}
 use Rattle.symbology.specs.SymbologyRows.{symbolRow, intervalRow, mappingRows, listRow, symbologyRows}

@@ -8,7 +8,7 @@ use lib.ListN.{length, take}
 use lib.Seq.{paste, take-all, take-paste}
 use Rattle.codec.specs.Codec.{_then_, named, checked, byte, num, raw}
 use Rattle.prelude.specs.Prelude.{magic, prelude, preludeOf}
-use Rattle.feed.specs.Feeding.{bounded, stageOf, needOf, poured, takenOf, answerAt, Feeding}
+use Rattle.feed.specs.Feeding.{bounded, stageOf, needOf, poured, takenOf, answerAt, Feeding, blockSays, symbologyAt, layoutAt}
 use Rattle.feed.specs.StageLaws.{stage-prelude, stage-eight, paste-length}
 use Rattle.feed.specs.declared.Answer.{Answer}
 use Rattle.feed.specs.declared.Answer.the-variants.{Needs, Refused}
@@ -47,12 +47,14 @@ module _ (st p : List ℕ) (room : 8 ≤ length st) (short : length p ≤ 8) whe
       ∙ ap (λ n. bounded (length st) n (preludeOf p)) h
 
 few : (p : List ℕ) → length p < 8 → Gives 8 p (Needs (8 - length p))
+unfolding blockSays answerAt symbologyAt layoutAt
 few p h = record {
   gives = λ st t s l x st1 s1 l1 room f. f .verdict .answer ∙ ap (λ z. answerAt z (paste st 0 p (takenOf 0 st p)) t s l) (fed-few st p room (omega arith) h);
   takes = λ st t s l x st1 s1 l1 room f. f .taken ∙ takes-all st p room (omega arith);
 }
 
 refused : (p : List ℕ) (e : ℕ) → length p ≡ 8 → preludeOf p ≡ Stage.Refused e → Gives 8 p (Refused e)
+unfolding blockSays answerAt symbologyAt layoutAt
 refused p e h q = record {
   gives = λ st t s l x st1 s1 l1 room f.
       f .verdict .answer ∙ ap (λ z. answerAt z (paste st 0 p (takenOf 0 st p)) t s l) (fed-eight st p room (omega arith) h ∙ ap (bounded (length st) 8) q);
@@ -81,6 +83,7 @@ unfolding preludeOf prelude magic _then_ named checked byte num raw
 three-needs n h = simp (le-ltb n 108 h)
 
 pub p3 : Gives 108 (68 ∷ 66 ∷ 78 ∷ 2 ∷ 100 ∷ 0 ∷ 0 ∷ 0 ∷ []) (Needs 100)
+unfolding blockSays answerAt symbologyAt layoutAt
 p3 = record {
   gives = λ st t s l x st1 s1 l1 room f.
       f .verdict .answer

@@ -42,25 +42,25 @@ abbrev pub blockIn : List ℕ → ℕ → List ℕ
 blockIn st n = take n (drop 8 st)
 
 -- the block's answer is the answer
-abbrev pub blockSays : BlockAnswer → Answer
+unfoldable pub blockSays : BlockAnswer → Answer
 blockSays (Read f) = Done f
 blockSays (BlockAnswer.Refused e) = Answer.Refused e
 blockSays (BlockAnswer.Short s l) = Answer.Short s l
 
 -- the answer by stage: t is the sheet, s and l are the tables lent now
-abbrev pub answerAt : Stage → List ℕ → List ℕ → List ℕ → List ℕ → Answer
+unfoldable pub answerAt : Stage → List ℕ → List ℕ → List ℕ → List ℕ → Answer
 answerAt (Stage.Needs n) st t s l = Answer.Needs n
 answerAt (Stage.Refused e) st t s l = Answer.Refused e
 answerAt (Whole v n) st t s l = blockSays (blockAnswer v (blockIn st n) t s l)
 
 -- the symbology table by stage: only a whole block may change it
-abbrev pub symbologyAt : Stage → List ℕ → List ℕ → List ℕ → List ℕ → List ℕ
+unfoldable pub symbologyAt : Stage → List ℕ → List ℕ → List ℕ → List ℕ → List ℕ
 symbologyAt (Stage.Needs n) st t s l = s
 symbologyAt (Stage.Refused e) st t s l = s
 symbologyAt (Whole v n) st t s l = blockSymbology v (blockIn st n) t s l
 
 -- the layout table by stage
-abbrev pub layoutAt : Stage → List ℕ → List ℕ → List ℕ → List ℕ → List ℕ
+unfoldable pub layoutAt : Stage → List ℕ → List ℕ → List ℕ → List ℕ → List ℕ
 layoutAt (Stage.Needs n) st t s l = l
 layoutAt (Stage.Refused e) st t s l = l
 layoutAt (Whole v n) st t s l = blockLayout v (blockIn st n) t s l

@@ -27,6 +27,7 @@ module _ (k : ℕ) (st st2 t s l : List ℕ) (same : length st ≡ length st2) (
   Alike z = (answerAt z st t s l ≡ answerAt z st2 t s l) × (symbologyAt z st t s l ≡ symbologyAt z st2 t s l) × (layoutAt z st t s l ≡ layoutAt z st2 t s l)
 
   alike : (z : Stage) → stageOf k st ≡ z → Alike z
+  unfolding blockSays answerAt symbologyAt layoutAt
   alike (Needs n) e = (refl, refl, refl)
   alike (Refused n) e = (refl, refl, refl)
   alike (Whole v n) e =

@@ -8,7 +8,7 @@ use lib.Seq.{paste}
 use Rattle.block.specs.Read.{blockAnswer}
 use Rattle.block.specs.declared.BlockAnswer.{BlockAnswer}
 use Rattle.block.specs.declared.BlockAnswer.the-variants.{Read}
-use Rattle.feed.specs.Feeding.{stageOf, needOf, poured, takenOf, blockSays, blockIn, answerAt, Feeding}
+use Rattle.feed.specs.Feeding.{stageOf, needOf, poured, takenOf, blockSays, blockIn, answerAt, Feeding, symbologyAt, layoutAt}
 use Rattle.feed.specs.NeededLaws.{needs-rest, needs-eight, needs-whole}
 use Rattle.feed.specs.declared.Answer.{Answer}
 use Rattle.feed.specs.declared.Fed.{Fed}
@@ -16,12 +16,14 @@ use Rattle.prelude.specs.declared.Stage.{Stage}
 use Rattle.prelude.specs.declared.Stage.the-variants.{Needs, Refused, Whole}
 
 block-never : (a : BlockAnswer) (n : ℕ) → blockSays a ≡ Answer.Needs n → ⊥
+unfolding blockSays answerAt symbologyAt layoutAt
 block-never (Read f) n e = let z : _≡_ {A = ℕ} 0 1 = cc in omega arith
 block-never (BlockAnswer.Refused m) n e = let z : _≡_ {A = ℕ} 0 1 = cc in omega arith
 block-never (BlockAnswer.Short a b) n e = let z : _≡_ {A = ℕ} 0 1 = cc in omega arith
 
 -- only a stage says that bytes are needed
 says-needs : (z : Stage) (st t s l : List ℕ) (n : ℕ) → answerAt z st t s l ≡ Answer.Needs n → z ≡ Needs n
+unfolding blockSays answerAt symbologyAt layoutAt
 says-needs (Needs m) st t s l n e = let q : m ≡ n = cc in ap Needs q
 says-needs (Refused m) st t s l n e = absurd (let z : _≡_ {A = ℕ} 0 1 = cc in omega arith)
 says-needs (Whole v m) st t s l n e = absurd (block-never (blockAnswer v (blockIn st m) t s l) n e)
@@ -36,6 +38,7 @@ module _ (k : ℕ) (st : List ℕ) (n : ℕ) (e : stageOf k st ≡ Needs n) (q t
   fewer-taken h = omega (arith, ap needOf e)
 
   fewer-of : length q < n → (y .taken ≡ length q) × (y .answer ≡ Answer.Needs (n - length q))
+  unfolding blockSays answerAt symbologyAt layoutAt
   fewer-of h =
       let a = fewer-taken h in (
         g .taken ∙ a,
@@ -60,6 +63,7 @@ module _ (k : ℕ) (st : List ℕ) (n : ℕ) (e : stageOf k st ≡ Needs n) (q t
       omega arith
 
   block-of : n ≤ length q → 8 ≤ k → (y .taken ≡ n) × ((m : ℕ) → y .answer ≡ Answer.Needs m → ⊥)
+  unfolding blockSays answerAt symbologyAt layoutAt
   block-of h many =
       let (v, len, w) = needs-whole k st n e many q h in
       let a = block-taken h many in (

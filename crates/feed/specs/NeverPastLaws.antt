@@ -9,7 +9,7 @@ use mathlib.Core.List.{List, [], _∷_, _++_}
 use lib.ListN.{take, drop, set}
 use lib.Seq.{take-set-le, paste, paste-zero}
 use Rattle.prelude.specs.Prelude.{preludeOf}
-use Rattle.feed.specs.Feeding.{stageOf, needOf, takenOf, answerAt, Judgement, Feeding}
+use Rattle.feed.specs.Feeding.{stageOf, needOf, takenOf, answerAt, Judgement, Feeding, blockSays, symbologyAt, layoutAt}
 use Rattle.feed.specs.StageLaws.{needing}
 use Rattle.feed.specs.NeededLaws.{needs-room}
 use Rattle.feed.specs.BytewiseLaws.{eat, eats, after-eats}
@@ -59,6 +59,7 @@ never-past k st p t s l x st1 s1 l1 f =
     ⊎-elim (λ e. inl (f .taken ∙ e)) (λ i. inr (subst₂ Inside (sym (f .held)) (sym (f .store)) i)) (taken-inside k st p)
 
 need-or : (z : Stage) (st t s l : List ℕ) → ((n : ℕ) → answerAt z st t s l ≡ Answer.Needs n → ⊥) → needOf z ≡ 0
+unfolding blockSays answerAt symbologyAt layoutAt
 need-or (Needs n) st t s l h = absurd (h n refl)
 need-or (Refused e) st t s l h = refl
 need-or (Whole v n) st t s l h = refl

@@ -92,6 +92,7 @@ again-at : (r : Stage) (st t s l : List ℕ)
     → (answerAt r st t (symbologyAt r st t s l) (layoutAt r st t s l) ≡ answerAt r st t s l)
     × (symbologyAt r st t (symbologyAt r st t s l) (layoutAt r st t s l) ≡ symbologyAt r st t s l)
     × (layoutAt r st t (symbologyAt r st t s l) (layoutAt r st t s l) ≡ layoutAt r st t s l)
+unfolding blockSays answerAt symbologyAt layoutAt
 again-at (Needs n) st t s l = (refl, refl, refl)
 again-at (Refused e) st t s l = (refl, refl, refl)
 again-at (Whole v n) st t s l = let h = again v (blockIn st n) t s l in (ap blockSays (h .answer), h .symbology, h .layout)
@@ -110,6 +111,7 @@ judged-again k st t s l s1 l1 x r s2 l2 f g =
 handed-of : (k : ℕ) (st q t s l s1 l1 : List ℕ) (x r : Answer) (s2 l2 : List ℕ) (z : Stage) → stageOf k st ≡ z
     → Judgement k st t s l x s1 l1 → Judgement (k + takenOf k st q) (paste st k q (takenOf k st q)) t s1 l1 r s2 l2
     → Judgement (k + takenOf k st q) (paste st k q (takenOf k st q)) t s l r s2 l2
+unfolding blockSays answerAt symbologyAt layoutAt
 handed-of k st q t s l s1 l1 x r s2 l2 (Needs n) e f g =
     subst₂ (λ m i. Judgement (k + takenOf k st q) (paste st k q (takenOf k st q)) t m i r s2 l2) (f .symbology ∙ simp e) (f .layout ∙ simp e) g
 handed-of k st q t s l s1 l1 x r s2 l2 (Refused n) e f g =

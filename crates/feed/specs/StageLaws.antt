@@ -12,7 +12,7 @@ use lib.Seq.{take-all, take-take, length-take-le, take-add, drop-drop, paste, pa
 use lib.Dec.{ltb}
 use Rattle.prelude.specs.Prelude.{preludeOf}
 use Rattle.prelude.specs.PreludeLaws.{prelude-few, prelude-first, prelude-never}
-use Rattle.feed.specs.Feeding.{bounded, stageOf, needOf, poured, takenOf, blockSays, Judgement, Feeding}
+use Rattle.feed.specs.Feeding.{bounded, stageOf, needOf, poured, takenOf, blockSays, Judgement, Feeding, answerAt, symbologyAt, layoutAt}
 use Rattle.block.specs.Read.{Promise}
 use Rattle.block.specs.declared.BlockAnswer.{BlockAnswer}
 use Rattle.feed.specs.declared.Answer.{Answer}
@@ -190,6 +190,7 @@ paste-paste d at s a b h g = ⊎-elim (λ x. outside (omega arith)) inside (belo
 -- the verdict where the whole block is held: what the block's reader promises of that part of the store
 pub judged-whole : (k : ℕ) (st t s l : List ℕ) (v len : ℕ) (a : BlockAnswer) (r : Answer) (s′ l′ : List ℕ)
     → stageOf k st ≡ Whole v len → Promise v (take (8 + len - 8) (drop 8 st)) t s l a s′ l′ → r ≡ blockSays a → Judgement k st t s l r s′ l′
+unfolding blockSays answerAt symbologyAt layoutAt
 judged-whole k st t s l v len a r s′ l′ e p q =
     let n : 8 + len - 8 ≡ len = omega arith in
     record {

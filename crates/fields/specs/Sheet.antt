@@ -7,26 +7,24 @@ use mathlib.Core.Bool.{Bool, not, _&&_, cond}
 use mathlib.Core.List.{List}
 use lib.ListN.{getD}
 use lib.Dec.{leb, eqb}
+use Rattle.numbers.specs.Numbers.{le16}
 
 -- ---- the parts of an entry
 
-abbrev pub u16 : List ℕ → ℕ → ℕ
-u16 e i = getD e i 0 + 256 * getD e (i + 1) 0
-
 unfoldable pub idOf : List ℕ → ℕ
-idOf e = u16 e 0
+idOf e = le16 e 0
 
 unfoldable pub offOf : List ℕ → ℕ
-offOf e = u16 e 2
+offOf e = le16 e 2
 
 unfoldable pub sizeOf : List ℕ → ℕ
-sizeOf e = u16 e 4
+sizeOf e = le16 e 4
 
 unfoldable pub typeOf : List ℕ → ℕ
 typeOf e = getD e 6 0
 
 unfoldable pub defOf : List ℕ → ℕ
-defOf e = u16 e 8
+defOf e = le16 e 8
 
 -- one past the last byte of the field
 abbrev pub endOf : List ℕ → ℕ

@@ -11,12 +11,13 @@ use Rattle.layout.specs.declared.Verdict.the-variants as Verdict'
 use Rattle.layout.specs.declared.Answer.{Answer}
 use Rattle.layout.specs.declared.Answer.the-variants as Answer'
 use Rattle.rules.specs.Rules.{ruledOf}
-use Rattle.engines.specs.VerdictLaws.{verdict-ok, verdict-no, ruled-layout}
+use Rattle.layout.specs.AnswerLaws.{verdict-ok, verdict-no, judge-no, judge-anywhere, leave-anywhere, leave-no}
+use Rattle.engines.specs.VerdictLaws.{ruled-layout}
 use Rattle.given_layout.specs.Ruled.{Ruled}
 
 module _ {sheet : List ℕ} {w : ℕ} {s t : List ℕ} where
   both-read : {t′ : List ℕ} {r : Answer} (l : Layout) (i j : ℕ) → layoutOf s ≡ ok l i → ruledOf sheet w s ≡ ok l j → Answers s t t′ r → Ruled s w sheet t t′ r
-  both-read l i j e f a = record { is = a .is ∙ ap (judge (length t / 9)) e ∙ sym (ap (judge (length t / 9)) f); leaves = a .leaves ∙ ap (leave t) e ∙ sym (ap (leave t) f) }
+  both-read l i j e f a = record { is = a .is ∙ ap (judge (length t / 9)) e ∙ judge-anywhere _ l i j ∙ sym (ap (judge (length t / 9)) f); leaves = a .leaves ∙ ap (leave t) e ∙ leave-anywhere t l i j ∙ sym (ap (leave t) f) }
 
   pub ruled-read : {v n : ℕ} {t′ : List ℕ} {r : Answer} → Verdict'.Accepted v n ≡ verdict (ruledOf sheet w s) → Answers s t t′ r → Ruled s w sheet t t′ r
   ruled-read q a =
@@ -27,4 +28,4 @@ module _ {sheet : List ℕ} {w : ℕ} {s t : List ℕ} where
   pub ruled-no : {k : ℕ} → Verdict'.Refused k ≡ verdict (ruledOf sheet w s) → Ruled s w sheet t t (Answer'.Refused k)
   ruled-no {k} q =
       let e = verdict-no (ruledOf sheet w s) q in
-      record { is = sym (ap (judge (length t / 9)) e); leaves = sym (ap (leave t) e) }
+      record { is = sym (ap (judge (length t / 9)) e ∙ judge-no _ k); leaves = sym (ap (leave t) e ∙ leave-no t k) }

@@ -13,7 +13,7 @@ use Rattle.numbers.specs.Numbers.{le16, u16At}
 use Rattle.wire.specs.Reader.{nameAt}
 use Rattle.numbers.specs.NumberLaws.{u16-value}
 use Rattle.wire.specs.NameLaws.{name-place}
-use Rattle.table.specs.OutLaws.{Going}
+use Rattle.table.specs.ReadingLaws.{Going}
 use Rattle.numbers.specs.declared.Got.{Got}
 use Rattle.numbers.specs.declared.Got.the-variants.{Value, Refused}
 use Rattle.layout.specs.Reader.{labelsAt}

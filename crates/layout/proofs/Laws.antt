@@ -20,7 +20,7 @@ use Rattle.wire.specs.Reader.{name, nameAt, sectionAt}
 use Rattle.numbers.specs.Numbers.{takeAt, u16At, part, le16, le32, le64}
 use Rattle.numbers.specs.NumberLaws.{take-ok, take-no, take-value, take-refused, num-is, u16-is, u64-is}
 use Rattle.wire.specs.NameLaws.{name-ok, name-no}
-use Rattle.table.specs.Out.{Out, said, row, seq, onGot, allRows}
+use Rattle.table.specs.Table.{Out, said, row, seq, onGot, allRows}
 use Rattle.table.specs.StepLaws.{items-end, items-row, items-no, both, both-seq, said-named, count-row, said-num, seq-same}
 use Rattle.wire.specs.StepLaws.{said-name, parts-end, parts-run, parts-no}
 use Rattle.numbers.specs.declared.Got.{Got}

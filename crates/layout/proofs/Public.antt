@@ -11,7 +11,7 @@ use Rattle.codec.specs.CaseLaws.{by-le}
 use Rattle.text.specs.Utf8.{utf8}
 use Rattle.numbers.specs.Numbers.{u16At}
 use Rattle.numbers.specs.NumberLaws.{num-is, u16-value}
-use Rattle.table.specs.Out.{said, answer, fill, Fills, Ran, allRows}
+use Rattle.table.specs.Table.{said, answer, fill, Fills, Ran, allRows}
 use Rattle.table.specs.TableLaws.{fill-rows}
 use Rattle.numbers.specs.declared.Got.{Got}
 use Rattle.numbers.specs.declared.Got.the-variants.{Value}
@@ -21,7 +21,7 @@ use Rattle.layout.specs.Layout.{Layout, RecordL, StructL, LabelDef, toLa
 use Rattle.layout.specs.LayoutOf.{D, layoutOf}
 use Rattle.layout.specs.Rows.{rows, recordRows, structRows, labelDefRows}
 use Rattle.layout.specs.Reader.{groupsAt}
-use Rattle.layout.specs.Answers.{Answers, verdict}
+use Rattle.layout.specs.Answers.{Answers, verdict, judge, leave}
 use Rattle.layout.specs.ReadLaws.{rows-nine}
 use Rattle.layout.specs.declared.Verdict.the-variants.{Accepted}
 use Rattle.layout.specs.declared.Verdict.the-variants as Verdict'
@@ -62,12 +62,13 @@ module _ (l : List ℕ) (h : length l ≤ 4294967295) where
 -- ---- the verdict
 
 pub ver-no : (l : List ℕ) {k : ℕ} → layoutOf l ≡ refuse k → Verdict'.Refused k ≡ verdict (layoutOf l)
+unfolding verdict
 ver-no l e = rw e
 
 -- the rows' reader ran on the groups, with any table
 module _ (l : List ℕ) {v p n q base : ℕ} {s t t′ : List ℕ} {r : Got} (h : length l ≤ 4294967295) (e : u16At l 0 ≡ Value v p) (g : Ran 9 base s (groupsAt l p) 0 t t′ r) where
   pub ver-ok : r ≡ Value n q → Accepted v n ≡ verdict (layoutOf l)
-  unfolding groupsAt
+  unfolding groupsAt verdict
   ver-ok f = rw (layout-ok l h e) (go (Layout.groups utf8 D .codec .parse 0 l p) (sym (g .answered) ∙ f))
     where
       go : (r : Res Groups) → answer 0 (said groupRows r) ≡ Value n q → Accepted v n ≡ verdict (layoutFrom l v r)
@@ -76,7 +77,7 @@ module _ (l : List ℕ) {v p n q base : ℕ} {s t t′ : List ℕ} {r : Got} (h 
 
 module _ (l : List ℕ) {v p k base : ℕ} {s t t′ : List ℕ} {r : Got} (h : length l ≤ 4294967295) (e : u16At l 0 ≡ Value v p) (g : Ran 9 base s (groupsAt l p) 0 t t′ r) where
   pub ver-bad : r ≡ Got'.Refused k → Verdict'.Refused k ≡ verdict (layoutOf l)
-  unfolding groupsAt
+  unfolding groupsAt verdict
   ver-bad f = rw (layout-ok l h e) (go (Layout.groups utf8 D .codec .parse 0 l p) (sym (g .answered) ∙ f))
     where
       go : (r : Res Groups) → answer 0 (said groupRows r) ≡ Got'.Refused k → Verdict'.Refused k ≡ verdict (layoutFrom l v r)
@@ -96,6 +97,7 @@ pub record Accepts (l : List ℕ) (v n : ℕ) : Type 0 where
   pub many : length (rows (toLayout ((v, z), drop k l))) ≡ n
 
 pub accepts : (l : List ℕ) {v n : ℕ} → Accepted v n ≡ verdict (layoutOf l) → Accepts l v n
+unfolding verdict
 accepts l {v} {n} e =
     by-le (length l) 4294967295
     (λ h. number h (u16At l 0) refl)
@@ -131,7 +133,7 @@ accepts l {v} {n} e =
 
 module _ {l : List ℕ} {v n : ℕ} (a : Accepts l v n) where
   pub ans-read : {base : ℕ} {s t t′ : List ℕ} {r : Got} → n ≤ length t / 9 → Ran 9 base s (groupsAt l 2) 0 t t′ r → Answers l t t′ (Read v n)
-  unfolding groupsAt
+  unfolding groupsAt judge leave
   ans-read {t = t} {t′} h g =
       let T : Layout.Layout = toLayout ((v, a .z), drop (a .k) l) in
       let e = a .many in
@@ -145,6 +147,7 @@ module _ {l : List ℕ} {v n : ℕ} (a : Accepts l v n) where
       }
 
   pub ans-short : {t : List ℕ} → length t / 9 < n → Answers l t t (Short v n)
+  unfolding judge leave
   ans-short {t} h =
       let T : Layout.Layout = toLayout ((v, a .z), drop (a .k) l) in
       let e = a .many in
@@ -152,6 +155,7 @@ module _ {l : List ℕ} {v n : ℕ} (a : Accepts l v n) where
       record { is = rw (a .is, lt-leb (length (rows T)) (length t / 9) h1, e); leaves = rw (a .is, lt-leb (length (rows T)) (length t / 9) h1) }
 
 pub ans-no : (l t : List ℕ) {k : ℕ} → Verdict'.Refused k ≡ verdict (layoutOf l) → Answers l t t (Refused k)
+unfolding verdict judge leave
 ans-no l t {k} e = go (layoutOf l) refl e
   where
     go : (r : Res Layout.Layout) → layoutOf l ≡ r → Verdict'.Refused k ≡ verdict r → Answers l t t (Refused k)

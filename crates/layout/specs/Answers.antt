@@ -2,13 +2,12 @@
 -- Assumes nothing.
 use mathlib.Core.Bool.{cond}
 use Prim.Native.Nat.{ℕ, _*_, _/_}
-use mathlib.Core.Path.{_≡_, ap, _∙_}
+use mathlib.Core.Path.{_≡_}
 use mathlib.Core.List.{List, _++_}
 use lib.ListN.{length, drop}
 use lib.Dec.{leb}
 use Rattle.codec.specs.Codec.{Res, ok, refuse}
-use Rattle.codec.specs.CaseLaws.{by-bool}
-use Rattle.table.specs.Out.{flat}
+use Rattle.table.specs.Table.{flat}
 use Rattle.layout.specs.Layout.{Layout}
 use Rattle.layout.specs.Rows.{rows}
 use Rattle.layout.specs.LayoutOf.{layoutOf}
@@ -19,23 +18,17 @@ use Rattle.layout.specs.declared.Answer.{Answer}
 use Rattle.layout.specs.declared.Answer.the-variants.{Read, Short, Refused}
 
 -- without a table
-abbrev pub verdict : Res Layout → Verdict
+unfoldable pub verdict : Res Layout → Verdict
 verdict (ok l j) = Accepted (l .version) (length (rows l))
 verdict (refuse k) = Verdict'.Refused k
 
 -- a table of cap rows is long enough, or short
-abbrev pub judge : ℕ → Res Layout → Answer
+unfoldable pub judge : ℕ → Res Layout → Answer
 judge cap (ok l j) = cond (leb (length (rows l)) cap) (Read (l .version) (length (rows l))) (Short (l .version) (length (rows l)))
 judge cap (refuse k) = Refused k
 
--- an answer's verdict, whatever the table
-abbrev pub verdictIn : Answer → Verdict
-verdictIn (Read v n) = Accepted v n
-verdictIn (Short v n) = Accepted v n
-verdictIn (Refused k) = Verdict'.Refused k
-
 -- the rows stand at the front of the table, and the rest of it is as it was
-abbrev pub leave : List ℕ → Res Layout → List ℕ
+unfoldable pub leave : List ℕ → Res Layout → List ℕ
 leave t (ok l j) = cond (leb (length (rows l)) (length t / 9)) (flat (rows l) ++ drop (9 * length (rows l)) t) t
 leave t (refuse k) = t
 
@@ -43,11 +36,6 @@ leave t (refuse k) = t
 pub record Answers (s t t′ : List ℕ) (r : Answer) : Type 0 where
   pub is : r ≡ judge (length t / 9) (layoutOf s)
   pub leaves : t′ ≡ leave t (layoutOf s)
-
--- reading into any table gives the verdict
-pub answer-verdict : (cap : ℕ) (r : Res Layout) {a : Answer} → a ≡ judge cap r → verdictIn a ≡ verdict r
-answer-verdict cap (ok l j) e = by-bool (leb (length (rows l)) cap) (λ q. ap verdictIn e ∙ rw q) (λ q. ap verdictIn e ∙ rw q)
-answer-verdict cap (refuse k) e = ap verdictIn e
 
 -- ---- the numbers of document 01
 

@@ -2,6 +2,7 @@ pub mod Layout
 pub mod LayoutOf
 pub mod Rows
 pub mod Answers
+pub mod AnswerLaws
 pub mod Reader
 pub mod Labels
 pub mod LayoutLaws

@@ -32,7 +32,7 @@ use Rattle.layout.specs.Layout.{Entry, Fields, RecordL, StructL, LabelDe
 use Rattle.layout.specs.LayoutOf.{D, D-least, entry, fields, recordL, structL, labelDef, layoutOf}
 use Rattle.entry.specs.Entry.{entryBytes}
 use Rattle.layout.specs.Rows.{recordRows, structRows, labelDefRows, rows}
-use Rattle.table.specs.Out.{allRows}
+use Rattle.table.specs.Table.{allRows}
 
 -- the first eleven bytes of n entries from a on
 unfoldable pub headsAt : List ℕ → ℕ → ℕ → List (List ℕ)

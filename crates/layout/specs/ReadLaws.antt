@@ -6,7 +6,7 @@ use lib.ListN.{length}
 use borrow.Author.Tests.{le-leb}
 use Rattle.codec.specs.Codec.{ok, _>>=_, whole}
 use Rattle.text.specs.Utf8.{utf8}
-use Rattle.table.specs.Out.{flat, allRows}
+use Rattle.table.specs.Table.{flat, allRows}
 use Rattle.table.specs.TableLaws.{Wide, wide-append, wide-map, wide-all, flat-length}
 use Rattle.layout.specs.Layout
 use Rattle.layout.specs.Layout.{Layout, Fields, toLayout}

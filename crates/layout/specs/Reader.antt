@@ -9,7 +9,7 @@ use Rattle.codec.specs.Codec.{timesParse, distinctParse}
 use Rattle.text.specs.Utf8.{utf8}
 use Rattle.wire.specs.Reader.{name}
 use Rattle.numbers.specs.Numbers.{u16At}
-use Rattle.table.specs.Out.{Out, said, onGot, allRows}
+use Rattle.table.specs.Table.{Out, said, onGot, allRows}
 use Rattle.layout.specs.Layout
 use Rattle.layout.specs.Layout.{toRecord, toStruct, toLabelDef}
 use Rattle.layout.specs.LayoutOf.{D, entry, fields, label, recordL, structL, labelDef}

@@ -10,7 +10,7 @@ use Rattle.codec.specs.Laws.{length-bare}
 use Rattle.wire.specs.Formats.{name}
 use Rattle.wire.specs.FormatLaws.{section-bare, name-bare}
 use Rattle.layout.specs.Layout.{Fields, RecordL, StructL, LabelDef, Layout, entry, fields, recordL, structL, label, labelDef, parts, groups, readLayout, locateLayout, bareLayout, FitsLayout}
-use Rattle.table.specs.Out.{flat}
+use Rattle.table.specs.Table.{flat}
 use Rattle.layout.specs.LayoutLaws.{skipped-free}
 use Rattle.layout.specs.Rows.{entryRow, nameRow, fieldRows, recordRows, structRows, labelRow, labelDefRows, rows}
 

@@ -3,7 +3,7 @@ use Prim.Native.Nat.{ℕ, _/_, _%_}
 use mathlib.Core.List.{List, [], _∷_, _++_, map}
 use lib.ListN.{length, getD}
 use Rattle.numbers.specs.Numbers.{le16}
-use Rattle.table.specs.Out.{allRows}
+use Rattle.table.specs.Table.{allRows}
 use Rattle.wire.specs.Formats.{Name}
 use Rattle.layout.specs.Layout.{Entry, Fields, RecordL, StructL, Label, LabelDef, Layout}
 

@@ -11,7 +11,7 @@ use Rattle.wire.specs.FormatLaws.{section-bare, section-each, name-bare, name-s
 use Rattle.layout.specs.Layout.{Fields, RecordL, StructL, LabelDef, Layout, entry, fields, recordL, structL, label, labelDef, parts, groups, readLayout, printLayout, locateLayout, bareLayout, FitsLayout, EachName}
 use Rattle.layout.specs.LayoutLaws.{spots, skipped-free, layout-octets, swap-legal}
 use Rattle.layout.specs.Rows.{entryRow, nameRow, fieldRows, recordRows, structRows, labelRow, labelDefRows, rows}
-use Rattle.table.specs.Out.{flat}
+use Rattle.table.specs.Table.{flat}
 
 abbrev textIf : Bool → List ℕ → List ℕ
 textIf true t = []

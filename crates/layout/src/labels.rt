@@ -5,7 +5,7 @@ ghost use mathlib.Core.Path.{_≡_};
 ghost use mathlib.Core.List.{[]};
 ghost use Prim.Native.Nat.{_<_};
 ghost use Rattle.marks.specs.Marks.{Marks};
-ghost use Rattle.table.specs.Out.{Room, Ran};
+ghost use Rattle.table.specs.Table.{Room, Ran};
 ghost use Rattle.layout.specs.Reader.{labelsAt};
 ghost use Rattle.layout.specs.Labels.{Cleared, Codes};
 

@@ -2,7 +2,7 @@
 use super::rows;
 use numbers::Got;
 ghost use mathlib.Core.Path.{_≡_};
-ghost use Rattle.table.specs.Out.{Room, Ran};
+ghost use Rattle.table.specs.Table.{Room, Ran};
 ghost use Rattle.layout.specs.Reader.{entriesAt, namesAt, fieldsAt};
 
 pub(crate) fn fields(s: &[u8], at: usize, base: usize, table: &mut [u32], n: usize) -> Got

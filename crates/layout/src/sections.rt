@@ -6,7 +6,7 @@ use numbers::Got;
 ghost use mathlib.Core.Path.{_≡_};
 ghost use mathlib.Core.List.{[]};
 ghost use Rattle.marks.specs.Marks.{Marks};
-ghost use Rattle.table.specs.Out.{Room, Ran};
+ghost use Rattle.table.specs.Table.{Room, Ran};
 ghost use Rattle.layout.specs.Reader.{recordBody, structBody, labelBody, bodyOf, sectionsAt, groupAt, groupsAt};
 ghost use Rattle.layout.specs.Labels.{Cleared};
 

@@ -11,7 +11,7 @@ use Rattle.entry.specs.EntryLaws.{row-numbers}
 use Rattle.layout.specs.Rows.{entryRow, nameRow, fieldRows, recordRows, structRows, labelRow, labelDefRows, rows}
 use Rattle.layout.specs.Layout.{fromLayout, toLayout}
 use Rattle.layout.specs.PlaceLaws.{rows-parts}
-use Rattle.table.specs.Out.{flat, allRows}
+use Rattle.table.specs.Table.{flat, allRows}
 use Rattle.rows_check.specs.Tree.{cell, rowCount, from, after, cells, rowsIn, nameOf, entryOf, labelOf, fieldsOf, recordOf, structOf, labelDefOf, countOf, namesFrom, nextSection, skip, kinds, structsFrom, labelsFrom, treeOf}
 use Rattle.rows_check.specs.Check.{rowFits, limitOf, nameKind}
 use Rattle.rows_check.specs.CheckLaws.{number-le, row-span, InPlace, Places, Formed, next-more}

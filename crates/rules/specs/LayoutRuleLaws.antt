@@ -14,6 +14,7 @@ use Rattle.layout.specs.Layout.{RecordL, StructL, Layout, fromLayout}
 use Rattle.layout.specs.LayoutOf.{D, layoutOf}
 use Rattle.layout.specs.Rows.{rows}
 use Rattle.layout.specs.Answers.{verdict}
+use Rattle.layout.specs.AnswerLaws.{verdict-accepted, verdict-refused, verdict-ok}
 use Rattle.layout.specs.declared.Verdict.the-variants as Verdict'
 use Rattle.rules.specs.declared.Place.{Place}
 use Rattle.rules.specs.Rules.{Seq, seqsFault, structSeq, recordSeq, rulesOf, ruledOf}
@@ -105,12 +106,8 @@ module _ (s t : List ℕ) where
 -- ---- the verdict
 
 module _ (s : List ℕ) where
-  accepted-of : (r : Res Layout) {v n : ℕ} → layoutOf s ≡ r → verdict r ≡ Verdict'.Accepted v n → Accepted s
-  accepted-of (ok t j) e q = record { tree = t; next = j; is = e }
-  accepted-of (refuse k) e q = absurd (let z : _≡_ {A = ℕ} 0 1 = cc in omega arith)
-
   pub accepted : {v n : ℕ} → verdict (layoutOf s) ≡ Verdict'.Accepted v n → Accepted s
-  accepted q = accepted-of (layoutOf s) refl q
+  accepted q = let (t, j, e, _, _) = verdict-ok (layoutOf s) (sym q) in record { tree = t; next = j; is = e }
 
 module _ (sheet : List ℕ) (width : ℕ) (s : List ℕ) where
   after : Res Layout → Res Layout
@@ -119,16 +116,16 @@ module _ (sheet : List ℕ) (width : ℕ) (s : List ℕ) where
   fine : (r : Res Layout) {v n k : ℕ} → verdict r ≡ Verdict'.Accepted v n → k ≡ rulesIn sheet width r → k ≡ 0 → Verdict'.Accepted v n ≡ verdict (after r)
   unfolding after
   fine (ok t j) q e z = sym q ∙ rw (sym (e) ∙ z)
-  fine (refuse k) q e z = absurd (let y : _≡_ {A = ℕ} 0 1 = cc in omega arith)
+  fine (refuse k) q e z = absurd (let w = sym (verdict-refused k) ∙ q in let y : _≡_ {A = ℕ} 0 1 = cc in omega arith)
 
   broken : (r : Res Layout) {v n k : ℕ} → verdict r ≡ Verdict'.Accepted v n → k ≡ rulesIn sheet width r → (k ≡ 0 → ⊥) → Verdict'.Refused k ≡ verdict (after r)
   unfolding after
-  broken (ok t j) {k = k} q e z = rw (← e, ne-eqb 0 k (λ x. z (sym x)))
-  broken (refuse m) q e z = absurd (let y : _≡_ {A = ℕ} 0 1 = cc in omega arith)
+  broken (ok t j) {k = k} q e z = rw (← e, ne-eqb 0 k (λ x. z (sym x))) (sym (verdict-refused k))
+  broken (refuse m) q e z = absurd (let w = sym (verdict-refused m) ∙ q in let y : _≡_ {A = ℕ} 0 1 = cc in omega arith)
 
   unread : (r : Res Layout) {k : ℕ} → verdict r ≡ Verdict'.Refused k → Verdict'.Refused k ≡ verdict (after r)
   unfolding after
-  unread (ok t j) q = absurd (let y : _≡_ {A = ℕ} 0 1 = cc in omega arith)
+  unread (ok t j) q = absurd (let w = sym (verdict-accepted t j) ∙ q in let y : _≡_ {A = ℕ} 0 1 = cc in omega arith)
   unread (refuse m) q = sym q
 
   pub ruled-fine : {v n k : ℕ} → verdict (layoutOf s) ≡ Verdict'.Accepted v n → k ≡ rulesIn sheet width (layoutOf s) → k ≡ 0 → Verdict'.Accepted v n ≡ verdict (ruledOf sheet width s)

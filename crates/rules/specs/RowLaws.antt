@@ -10,7 +10,7 @@ use lib.Seq.{take-at, drop-at, take-all}
 use lib.Dec.{eqb}
 use borrow.Author.Tests.{eq-eqb, ne-eqb, le-ltb}
 use Rattle.codec.specs.Codec.{Bytes}
-use Rattle.table.specs.Out.{flat, allRows}
+use Rattle.table.specs.Table.{flat, allRows}
 use Rattle.table.specs.TableLaws.{Wide, wide-append, wide-map, wide-all}
 use Rattle.layout.specs.Layout.{Entry, Fields, RecordL, StructL, LabelDef, Parts, toLayout}
 use Rattle.layout.specs.Rows.{headRow, entryRow, nameRow, fieldRows, recordRows, structRows, labelRow, labelDefRows, rows}

@@ -9,7 +9,7 @@ use borrow.Author.Tests.{le-leb}
 use Rattle.codec.specs.Codec.{Res, ok, refuse, _>>=_, need, isNil}
 use Rattle.text.specs.Utf8.{utf8}
 use Rattle.dates.specs.Date.{isDate}
-use Rattle.table.specs.Out.{flat, allRows}
+use Rattle.table.specs.Table.{flat, allRows}
 use Rattle.table.specs.TableLaws.{Wide, wide-append, wide-map, wide-all, flat-length}
 use Rattle.symbology.specs.Symbology
 use Rattle.symbology.specs.Symbology.{Symbology, unspanned}

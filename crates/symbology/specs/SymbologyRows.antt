@@ -2,7 +2,7 @@
 use Prim.Native.Nat.{ℕ}
 use mathlib.Core.List.{List, [], _∷_, _++_, map}
 use lib.ListN.{length}
-use Rattle.table.specs.Out.{flat}
+use Rattle.table.specs.Table.{flat}
 use Rattle.text.specs.Trim.{trimmedLen}
 use Rattle.symbology.specs.Symbology.{Symbol, Interval, Mapping, Symbology}
 

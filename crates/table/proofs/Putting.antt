@@ -8,7 +8,7 @@ use native.Mathlib.Omega.{arith}
 use lib.ListN.{length, getD, take, set, length-set}
 use lib.Seq.{sets, take-suc, take-all, length-take-le}
 use borrow.Author.Tests.{lt-ltb}
-use Rattle.table.specs.Out.{putRow}
+use Rattle.table.specs.Table.{putRow}
 
 sets-snoc : (l : List ℕ) (i : ℕ) (vs : List ℕ) (v : ℕ) → sets l i (vs ++ (v ∷ [])) ≡ set (sets l i vs) (i + length vs) v
 sets-snoc l i [] v = rw add-zero

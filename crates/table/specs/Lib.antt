@@ -1,5 +1,5 @@
-pub mod Out
-pub mod OutLaws
+pub mod Table
+pub mod ReadingLaws
 pub mod TableLaws
 pub mod MoveLaws
 pub mod PartLaws

@@ -5,7 +5,7 @@ use mathlib.Core.Path.{_≡_, refl, sym, ap, ap₂, _∙_}
 use mathlib.Core.List.{List, [], _∷_, _++_, map, map-append}
 use lib.ListN.{length}
 use Rattle.codec.specs.Codec.{Codec, timesLocate}
-use Rattle.table.specs.Out.{allRows}
+use Rattle.table.specs.Table.{allRows}
 
 -- n further on; `move` is what that does to a row
 module _ {A : Type 0} (c : Codec A) (n : ℕ) (move : List ℕ → List ℕ) where

@@ -4,7 +4,7 @@ use mathlib.Core.List.{List}
 use native.Mathlib.Omega.{arith}
 use lib.ListN.{length}
 use Rattle.numbers.specs.Numbers.{part}
-use Rattle.table.specs.Out.{Room}
+use Rattle.table.specs.Table.{Room}
 use Rattle.numbers.specs.NumberLaws.{part-length}
 
 pub part-room : (s : List ℕ) (b e : ℕ) {k : ℕ} → 0 + length s < 2 ^ 32 → k ≤ b → b ≤ e → e ≤ length s → Room b (part s b e) 0 k

@@ -7,7 +7,7 @@ use mathlib.Core.List.{List, [], _∷_, _++_, map}
 use Rattle.codec.specs.Codec.{Res, ok, refuse, _>>=_, Codec, num, timesParse}
 use Rattle.numbers.specs.Numbers.{numAt}
 use Rattle.numbers.specs.NumberLaws.{numOf, num-is}
-use Rattle.table.specs.Out.{Out, allRows, said, row, seq, onGot}
+use Rattle.table.specs.Table.{Out, allRows, said, row, seq, onGot}
 use Rattle.numbers.specs.declared.Got.{Got}
 use Rattle.numbers.specs.declared.Got.the-variants.{Value, Refused}
 

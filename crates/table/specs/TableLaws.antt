@@ -8,7 +8,7 @@ use native.Mathlib.Omega.{arith}
 use lib.ListN.{length, drop, length-append, length-drop}
 use lib.Seq.{sets-eq, take-at, drop-append-add, drop-drop}
 use borrow.Author.Tests.{lt-ltb}
-use Rattle.table.specs.Out.{flat, allRows, putRow, fill}
+use Rattle.table.specs.Table.{flat, allRows, putRow, fill}
 
 -- every row has w numbers
 abbrev pub Wide : ℕ → List (List ℕ) → Type 0

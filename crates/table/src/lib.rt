@@ -1,7 +1,7 @@
 // Rows of any width in a lent table.
 ghost use Prim.Native.Nat.{_+_, _*_, _<_};
 ghost use lib.ListN.{length};
-ghost use Rattle.table.specs.Out.{Put};
+ghost use Rattle.table.specs.Table.{Put};
 
 // Stores row n of a table whose rows are as wide as this one, where the table has it.
 pub fn put_row(table: &mut [u32], n: usize, row: &[u32])

@@ -8,7 +8,7 @@ use lib.ListN.{length, take, drop}
 use Rattle.codec.specs.Codec.{Res, ok, refuse, _>>=_, Codec, named, timesParse}
 use Rattle.codec.specs.Format.{Format}
 use Rattle.numbers.specs.Numbers.{part}
-use Rattle.table.specs.Out.{Out, allRows, said, seq, onGot}
+use Rattle.table.specs.Table.{Out, allRows, said, seq, onGot}
 use Rattle.table.specs.StepLaws.{seq-ok, seq-no}
 use Rattle.wire.specs.Formats.{Name, section}
 use Rattle.wire.specs.Reader.{name, nameAt, sectionAt}

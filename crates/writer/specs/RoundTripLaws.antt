@@ -12,7 +12,7 @@ use Rattle.codec.specs.Codec.{ok, Bytes}
 use Rattle.text.specs.Utf8.{utf8}
 use Rattle.layout.specs.Layout.{Layout, fromLayout, locateLayout, printLayout}
 use Rattle.layout.specs.LayoutOf.{D}
-use Rattle.table.specs.Out.{flat}
+use Rattle.table.specs.Table.{flat}
 use Rattle.layout.specs.Rows.{rows}
 use Rattle.layout.specs.RowLaws.{noStart}
 use Rattle.layout.specs.TextLaws.{rowText}

@@ -3,7 +3,7 @@
 use borrow.Author.Needs.{needs}
 use native.Mathlib.Omega.{arith}
 use mathlib.Core.Path.{sym, ap, _∙_}
-use Rattle.feed.specs.Feeding.{blockSays}
+use Rattle.feed.specs.Feeding.{blockSays, answerAt, symbologyAt, layoutAt}
 use Rattle.feed.specs.StageLaws.{is-whole, judged-whole}
 use Rattle.feed.proofs.judge.Statement.{statement}
 use Rattle.feed.proofs.judge.Tie as tie
@@ -19,28 +19,33 @@ part-read-block-end c =
     omega (arith, w)
 
 returns : tie.Need-returns
+unfolding blockSays answerAt symbologyAt layoutAt
 returns c =
     let e = sym (c .before .before .before .stage-of .ensures) ∙ c .before .n .given .1 in
     record { answer = simp e; symbology = simp e; layout = simp e }
 
 returns-2 : tie.Need-returns-2
+unfolding blockSays answerAt symbologyAt layoutAt
 returns-2 c =
     let e = sym (c .before .before .before .stage-of .ensures) ∙ c .before .e .given .1 in
     record { answer = simp e; symbology = simp e; layout = simp e }
 
 returns-3 : tie.Need-returns-3
+unfolding blockSays answerAt symbologyAt layoutAt
 returns-3 c =
     let a = c .before .before .before .before .before .before .before .before .before .before .before .before .before .before .before .before .before .before .args in
     judged-whole (a .held) (a .store .now) (a .sheet .now) (a .symbology .now) (a .layout .now) _ _ _ _ _ _
     (sym (c .before .before .before .before .before .before .before .before .before .before .before .before .before .before .stage-of .ensures) ∙ c .before .before .before .before .before .before .before .before .before .before .before .before .version .given .1) (c .before .before .before .before .before .before .before .read-block .ensures) (sym (ap blockSays (c .before .f .given .1)))
 
 returns-4 : tie.Need-returns-4
+unfolding blockSays answerAt symbologyAt layoutAt
 returns-4 c =
     let a = c .before .before .before .before .before .before .before .before .before .before .before .before .before .before .before .before .before .before .args in
     judged-whole (a .held) (a .store .now) (a .sheet .now) (a .symbology .now) (a .layout .now) _ _ _ _ _ _
     (sym (c .before .before .before .before .before .before .before .before .before .before .before .before .before .before .stage-of .ensures) ∙ c .before .before .before .before .before .before .before .before .before .before .before .before .version .given .1) (c .before .before .before .before .before .before .before .read-block .ensures) (sym (ap blockSays (c .before .e2 .given .1)))
 
 returns-5 : tie.Need-returns-5
+unfolding blockSays answerAt symbologyAt layoutAt
 returns-5 c =
     let a = c .before .before .before .before .before .before .before .before .before .before .before .before .before .before .before .before .before .before .args in
     judged-whole (a .held) (a .store .now) (a .sheet .now) (a .symbology .now) (a .layout .now) _ _ _ _ _ _

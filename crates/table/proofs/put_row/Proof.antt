@@ -2,7 +2,7 @@
 use Prim.Native.Nat.{_-_}
 use native.Mathlib.Omega.{arith}
 use mathlib.Core.Path.{refl}
-use Rattle.table.specs.OutLaws.{put-not, put-none}
+use Rattle.table.specs.ReadingLaws.{put-not, put-none}
 use Rattle.table.specs.TableLaws.{row-fits}
 use Rattle.table.proofs.Putting.{Putting, put-next, put-done}
 use Rattle.table.proofs.put_row.Statement.{statement}

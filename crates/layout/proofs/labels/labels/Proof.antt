@@ -5,7 +5,7 @@ use mathlib.Core.Path.{sym, _∙_}
 use mathlib.Core.List.{[]}
 use Rattle.numbers.specs.NumberLaws.{past-at}
 use Rattle.layout.proofs.Laws.{labels-row, labels-no, labels-no2, labels-55, labels-end}
-use Rattle.table.specs.OutLaws.{put-as, going, going-row, going-no, going-end}
+use Rattle.table.specs.ReadingLaws.{put-as, going, going-row, going-no, going-end}
 use Rattle.marks.specs.MarkLaws.{marks-more}
 use Rattle.layout.proofs.Labelling.{Labelling, label-place, trail, trail-next, trail-end}
 use Rattle.layout.proofs.labels.labels.Statement.{statement}

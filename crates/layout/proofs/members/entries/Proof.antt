@@ -9,7 +9,7 @@ use mathlib.Core.Path.{sym, ap, _∙_}
 use Rattle.layout.specs.Reader.{entriesAt}
 use Rattle.numbers.specs.NumberLaws.{past-at}
 use Rattle.layout.proofs.Laws.{entries-row, entries-no, entries-end}
-use Rattle.table.specs.OutLaws.{put-as, Going, going, going-row, going-no, going-end}
+use Rattle.table.specs.ReadingLaws.{put-as, Going, going, going-row, going-no, going-end}
 use Rattle.layout.proofs.members.entries.Statement.{statement}
 use Rattle.layout.proofs.members.entries.Tie as tie
 

@@ -3,7 +3,7 @@ use native.Mathlib.Omega.{arith}
 use mathlib.Core.Path.{sym, _∙_}
 use Rattle.numbers.specs.NumberLaws.{past-at}
 use Rattle.layout.proofs.Laws.{fields-ok, fields-no}
-use Rattle.table.specs.OutLaws.{ran-seq, ran-stop, ran-is, ran-no, ran-at}
+use Rattle.table.specs.ReadingLaws.{ran-seq, ran-stop, ran-is, ran-no, ran-at}
 use borrow.Author.Needs.{needs}
 use Rattle.layout.proofs.members.fields.Statement.{statement}
 use Rattle.layout.proofs.members.fields.Tie as tie

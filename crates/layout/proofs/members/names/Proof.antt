@@ -5,7 +5,7 @@ use mathlib.Core.Path.{sym, _∙_}
 use Rattle.layout.specs.Reader.{namesAt}
 use Rattle.numbers.specs.NumberLaws.{past-at}
 use Rattle.layout.proofs.Laws.{names-row, names-no, names-end}
-use Rattle.table.specs.OutLaws.{put-as, Going, going, going-row, going-no, going-end}
+use Rattle.table.specs.ReadingLaws.{put-as, Going, going, going-row, going-no, going-end}
 use Rattle.layout.proofs.members.names.Statement.{statement}
 use Rattle.layout.proofs.members.names.Tie as tie
 

@@ -1,5 +1,5 @@
 -- By the kind of the section. Assumes nothing.
-use Rattle.table.specs.OutLaws.{ran-is}
+use Rattle.table.specs.ReadingLaws.{ran-is}
 use Rattle.layout.proofs.Laws.{kind-0, kind-1, kind-2}
 use Rattle.layout.proofs.Labelling.{cleared-any}
 use borrow.Author.Needs.{needs}

@@ -1,7 +1,7 @@
 -- A count, then that many sections. Assumes nothing.
 use native.Mathlib.Omega.{arith}
 use mathlib.Core.Path.{sym, _∙_}
-use Rattle.table.specs.OutLaws.{ran-on, ran-on-no}
+use Rattle.table.specs.ReadingLaws.{ran-on, ran-on-no}
 use Rattle.numbers.specs.NumberLaws.{past-at}
 use Rattle.layout.specs.Reader.{groupAt}
 use borrow.Author.Needs.{needs}

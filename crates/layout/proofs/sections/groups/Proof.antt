@@ -1,5 +1,5 @@
 -- Records, structs, label defs. Assumes nothing.
-use Rattle.table.specs.OutLaws.{ran-is, ran-at, ran-seq, ran-stop}
+use Rattle.table.specs.ReadingLaws.{ran-is, ran-at, ran-seq, ran-stop}
 use Rattle.layout.proofs.Laws.{groups-is}
 use Rattle.marks.specs.MarkLaws.{marks-none}
 use Rattle.layout.proofs.Labelling.{cleared-at}

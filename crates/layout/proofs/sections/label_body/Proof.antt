@@ -1,7 +1,7 @@
 -- A name, a count, then the labels. Assumes nothing.
 use native.Mathlib.Omega.{arith}
 use mathlib.Core.Path.{sym, _∙_}
-use Rattle.table.specs.OutLaws.{ran-is, ran-on, ran-on-no, ran-row, put-as}
+use Rattle.table.specs.ReadingLaws.{ran-is, ran-on, ran-on-no, ran-row, put-as}
 use Rattle.numbers.specs.NumberLaws.{past-at}
 use Rattle.layout.proofs.Laws.{label-is}
 use borrow.Author.Needs.{needs}

@@ -2,7 +2,7 @@
 use native.Mathlib.Omega.{arith}
 use borrow.Author.Needs.{needs}
 use mathlib.Core.Path.{sym, _∙_}
-use Rattle.table.specs.OutLaws.{ran-is, ran-on, ran-on-no, ran-row, put-as}
+use Rattle.table.specs.ReadingLaws.{ran-is, ran-on, ran-on-no, ran-row, put-as}
 use Rattle.numbers.specs.NumberLaws.{past-at}
 use Rattle.layout.proofs.Laws.{record-is}
 use Rattle.layout.proofs.sections.record_body.Statement.{statement}

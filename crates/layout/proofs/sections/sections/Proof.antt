@@ -6,7 +6,7 @@ use mathlib.Core.List.{[]}
 use Rattle.wire.specs.SectionLaws.{lies-at}
 use Rattle.table.specs.PartLaws.{part-room, part-few}
 use Rattle.layout.proofs.Laws.{sections-run, sections-no, sections-end}
-use Rattle.table.specs.OutLaws.{Going, going, going-run, going-halt, going-no, going-end, ran-at}
+use Rattle.table.specs.ReadingLaws.{Going, going, going-run, going-halt, going-no, going-end, ran-at}
 use Rattle.layout.proofs.Labelling.{cleared-at}
 use Rattle.layout.specs.Reader.{sectionsAt}
 use Rattle.marks.specs.Marks.{Marks}

@@ -3,7 +3,7 @@ use native.Mathlib.Omega.{arith}
 use mathlib.Core.Path.{sym, _∙_}
 use Rattle.numbers.specs.NumberLaws.{past-at}
 use Rattle.layout.proofs.Laws.{struct-is}
-use Rattle.table.specs.OutLaws.{ran-is, ran-on, ran-on-no, ran-row, put-as}
+use Rattle.table.specs.ReadingLaws.{ran-is, ran-on, ran-on-no, ran-row, put-as}
 use borrow.Author.Needs.{needs}
 use Rattle.layout.proofs.sections.struct_body.Statement.{statement}
 use Rattle.layout.proofs.sections.struct_body.Tie as tie

@@ -3,7 +3,7 @@ use native.Mathlib.Omega.{arith}
 use mathlib.Core.Path.{_∙_, ap}
 use borrow.Author.Needs.{needs}
 use Rattle.text.specs.TrimLaws.{trimmed-le}
-use Rattle.table.specs.OutLaws.{put-as, put-not}
+use Rattle.table.specs.ReadingLaws.{put-as, put-not}
 use Rattle.symbology.specs.SymbologyRows.{row5}
 use Rattle.symbology.proofs.lists.put_symbol.Statement.{statement}
 use Rattle.symbology.proofs.lists.put_symbol.Tie as tie

@@ -8,7 +8,7 @@ use native.Mathlib.Omega.{arith}
 use lib.ListN.{length, length-append}
 use borrow.Author.Tests.{le-ltb}
 use Rattle.codec.specs.Codec.{ok, refuse, _>>=_}
-use Rattle.table.specs.Out.{Out, row, seq, onGot, putRow, Put, fill, Fills, answer, Room, Ran, Within, stopped, refused}
+use Rattle.table.specs.Table.{Out, row, seq, onGot, putRow, Put, fill, Fills, answer, Room, Ran, Within, stopped, refused}
 use Rattle.numbers.specs.declared.Got.{Got}
 use Rattle.numbers.specs.declared.Got.the-variants.{Value, Refused}
 
