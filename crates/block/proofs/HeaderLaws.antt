@@ -1,12 +1,12 @@
 -- The header of a block that has its 100 bytes: what it holds, and which of 20 to 23 comes first. Assumes nothing.
-use Prim.Native.Nat.{ℕ, zero, suc, _+_, _-_, _≤_, _<_}
+use Prim.Native.Nat.{ℕ, _+_, _-_, _≤_}
 use native.Mathlib.Nat.{zero-add}
 use native.Mathlib.Omega.{arith}
 use mathlib.Core.Path.{_≡_, refl, sym, ap, _∙_, subst}
 use mathlib.Core.Bool.{Bool, true, false}
 use mathlib.Core.List.{List}
 use lib.ListN.{length, getD, take, drop}
-use Rattle.codec.specs.Codec.{Res, ok, refuse, _>>=_, need, Codec, raw, skip, num, value, _then_, named, checked, faultOf}
+use Rattle.codec.specs.Codec.{Res, ok, _>>=_, need, raw, skip, num, value, _then_, named, checked, faultOf}
 use Rattle.codec.specs.CaseLaws.{by-bool}
 use Rattle.codec.specs.StepLaws.{raw-got, num-got, byte-got}
 use Rattle.text.specs.Utf8.{utf8}
@@ -15,7 +15,6 @@ use Rattle.block.specs.Block.{Header, header, isSchema, isStype, isStype
 use Rattle.block.specs.Parts.{Fixed, OfHeader}
 use Rattle.block.specs.Fields.{fieldsWith, schemaOf, endOf, limitOf, stypeInOf, tsOutOf}
 use Rattle.block.specs.declared.MetadataLengths.{MetadataLengths}
-use Rattle.block.specs.declared.Fields.{Fields}
 use Rattle.block.specs.declared.Optional.{Optional}
 
 -- a test of a number by another name

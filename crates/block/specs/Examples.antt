@@ -1,15 +1,14 @@
 -- Document 01's P10 and P11, computed: version 2, width 3, all else before the lists zero, a block of 123 bytes. Assumes nothing.
-use Prim.Native.Nat.{ℕ, zero, suc, _+_}
+use Prim.Native.Nat.{ℕ}
 use mathlib.Core.Path.{_≡_, refl}
-use mathlib.Core.Bool.{Bool, true, false}
 use mathlib.Core.List.{List, [], _∷_, _++_}
-use lib.ListN.{replicate, length}
-use Rattle.codec.specs.Codec.{Res, ok, refuse, _>>=_, Codec, raw, skip, num, _then_, _on_, named, checked, placed, sized, limited, asks, whole, remainder}
+use lib.ListN.{replicate}
+use Rattle.codec.specs.Codec.{Res, ok, _>>=_, raw, skip, num, _then_, _on_, named, checked, placed, sized, limited, asks, whole, remainder}
 use Rattle.text.specs.Utf8.{utf8}
 use Rattle.symbology.specs.Symbology.{symbol, date, list, interval, mapping, symbology}
 use Rattle.symbology.specs.SymbologyRows.{symbologyRows}
 use Rattle.layout.specs.Rows.{rows}
-use Rattle.block.specs.Block.{Block, lengths, header, layoutPart, symbologyPart, block, blockOf}
+use Rattle.block.specs.Block.{lengths, header, layoutPart, symbologyPart, block, blockOf}
 use Rattle.block.specs.Read.{fives, blockSymbology, symbologyAfter}
 
 abbrev pub listed : List ℕ → List ℕ

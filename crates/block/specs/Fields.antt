@@ -1,13 +1,10 @@
 -- What an accepted block gives besides its rows. Assumes nothing.
 use Prim.Native.Nat.{ℕ}
 use mathlib.Core.Bool.{Bool, true, false, not, _||_}
-use mathlib.Core.List.{List}
 use lib.ListN.{length}
 use lib.Dec.{eqb}
 use Rattle.text.specs.Trim.{trimmedLen}
-use Rattle.layout.specs.Layout.{Layout}
 use Rattle.layout.specs.Rows.{rows}
-use Rattle.symbology.specs.Symbology.{Symbology}
 use Rattle.symbology.specs.SymbologyRows.{symbologyRows}
 use Rattle.block.specs.Block.{Header, Block, widthOf}
 use Rattle.block.specs.declared.MetadataLengths.{MetadataLengths}

@@ -2,7 +2,6 @@ pub mod Block
 pub mod Fields
 pub mod Read
 pub mod ReadLaws
-pub mod BlockLaws
 pub mod Parts
 pub mod Single
 pub mod Examples

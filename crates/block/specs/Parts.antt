@@ -15,7 +15,6 @@ use Rattle.layout.specs.Answers.{leave}
 use Rattle.block.specs.Block.{Header, Block, header, widthOf, layoutPart, symbologyPart}
 use Rattle.block.specs.Read.{answerOf, symbologyAfter, layoutAfter}
 use Rattle.block.specs.declared.MetadataLengths.{MetadataLengths}
-use Rattle.block.specs.declared.Fields.{Fields}
 use Rattle.block.specs.declared.Span.{Span}
 use Rattle.block.specs.declared.Span.the-variants.{Part}
 use Rattle.block.specs.declared.Span.the-variants as Span'

@@ -1,6 +1,5 @@
 -- What a reader owns, for the walks of its steps: its slice is copied out for a callee, and another place is put in. And what every step does: the borrow of a reader is opened, and closed at another place, and `place_after` is called.
 -- Assumes nothing.
-use mathlib.Core.Bool.{cond}
 use mathlib.Core.Path.{_≡_, refl}
 use Prim.Native.Nat.{ℕ, _<_, _^_}
 use mathlib.Core.List.{List, [], _∷_}
@@ -18,7 +17,7 @@ use prog.Routine.{Routine}
 use prog.Wp.{Heap, Env, Calls, Loops}
 use ghost.Atoms.{Atoms, sem}
 use contract.Monad.{Fun, fact}
-use types.Kit.{Given, Item, Goal, Post, Soaks, Seq, Step, step, runs, lands, ‵, raw, _⊛_, given, some, later, _$_, _∵_, !, qed, by, move, drop, use0, use1, split, join, learn, cond, fjoin, frame, await, done}
+use types.Kit.{Given, Item, Goal, Post, Soaks, Seq, Step, step, runs, lands, ‵, raw, _⊛_, given, some, later, _$_, _∵_, !, qed, by, move, drop, use0, use1, split, join, learn, pick, fjoin, frame, await, done}
 use types.Run.{Opds}
 use types.SemTy.{Body}
 use sound.WpLaws.{FmC}
@@ -162,6 +161,6 @@ module _ {M : Type 1} {𝓤 : URA M} {H : Heap 𝓤} {A : Atoms 𝓤} {K : Type 
   calls-place t mem run fm known r u n fits is os k =
       use0 W (raw (Place 𝓤 H A mem run .pre (to-place 𝓤 H A mem run r n u))) (goes-place 𝓤 H A mem run r n W fits u is) $
       calls-at t fm (Place 𝓤 H A mem run) known (to-place 𝓤 H A mem run r n u) os (λ w.
-      use1 W (later (some (λ (p : ℕ). (‵ ftrue ⊛ ‵ (usize .own p (w ∷ []))) ⊛ raw (ensured 𝓤 H A place.ended (place.clauses 𝓤 H A mem run) tt (r, (n, tt)) tt p)))) (id⊢ 𝓤 _) $ await t tt $ cond t (λ p.
+      use1 W (later (some (λ (p : ℕ). (‵ ftrue ⊛ ‵ (usize .own p (w ∷ []))) ⊛ raw (ensured 𝓤 H A place.ended (place.clauses 𝓤 H A mem run) tt (r, (n, tt)) tt p)))) (id⊢ 𝓤 _) $ await t tt $ pick t (λ p.
       split t $ move t (1 ∷ []) $ use1 W (raw (fact 𝓤 (p ≡ after r n))) (place-said 𝓤 H A mem run r n p) $ heard t (p ≡ after r n) (λ f. split t $ drop t $
       peeks t usize (Is usize) (shows 𝓤 H A usize) p (w ∷ []) (λ isp. k w p f isp))))

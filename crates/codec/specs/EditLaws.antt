@@ -1,14 +1,14 @@
 -- What edits do to the values of each way to build a format. Assumes nothing.
-use Prim.Native.Nat.{ℕ, zero, suc, _+_, _-_, _/_, _^_, _≤_, _<_}
+use Prim.Native.Nat.{ℕ, suc, _+_, _-_, _/_, _^_, _≤_, _<_}
 use native.Mathlib.Nat.{add-zero}
 use native.Mathlib.Omega.{arith}
 use mathlib.Core.Path.{_≡_, refl, sym, ap, ap₂, _∙_, subst, subst₂, pathJ}
-use mathlib.Core.Bool.{Bool, true, false, not, cond}
+use mathlib.Core.Bool.{Bool}
 use mathlib.Core.List.{List, [], _∷_, _++_}
 use lib.ListN.{length, length-append}
-use lib.Dec.{leb, eqb}
+use lib.Dec.{eqb}
 use borrow.Author.Tests.{le-leb, lt-leb}
-use Rattle.codec.specs.Codec.{Bytes, Codec, skip, padded, little, _then_, _on_, named, checked, judged, asks, placed, sized, times, timesPrint, timesLegal, timesBare, timesLocate, distinct, limited, boxed}
+use Rattle.codec.specs.Codec.{Codec, skip, padded, little, _then_, _on_, named, checked, judged, asks, placed, sized, times, timesPrint, timesLegal, timesBare, timesLocate, distinct, limited, boxed}
 use Rattle.codec.specs.Laws.{Law, length-little, length-bare, distinct-kept, distinct-all, room-back}
 use Rattle.codec.specs.Edits.{Marked, kept, free, _and_, box, bytesOf, Edit, put, Edited, Keeps, Shifts, Edits}
 

@@ -63,11 +63,15 @@ _then_ {e = e} F G = record {
   edits = edits-then _ _ (F .edits) (G .edits) (tail-one e) (λ y lg. omega arith);
 }
 
--- the byte b after it (k where it is missing, k′ where another stands there), so that no place stands at the very end
+-- the byte b; k where it is missing, k′ where another stands there
 unfoldable pub byte-edits : (k k′ b j : ℕ) → Edits (plain.byte k k′ b) j
 unfolding plain.byte
 byte-edits k k′ b j = edits-still _ j (λ x. refl) (λ p x. refl)
 
+abbrev pub byte : {e : Bool} → ℕ → ℕ → ℕ → Format (Unit {0}) e
+byte {e} k k′ b = record { codec = plain.byte k k′ b; law = law-byte k k′ b; edits = byte-edits k k′ b (tail e) }
+
+-- the byte b after it, so that no place stands at the very end
 pub byte-one : (k k′ b : ℕ) (x : Unit {0}) → plain.byte k k′ b .legal x → 1 ≤ length (plain.byte k k′ b .print x) + 0
 unfolding plain.byte
 byte-one k k′ b x lg = omega arith

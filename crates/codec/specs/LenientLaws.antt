@@ -2,12 +2,12 @@
 -- leave out tests of their own.
 -- Assumes nothing.
 use Prim.Native.Nat.{ℕ, zero, suc, _+_, _-_, _/_}
-use mathlib.Core.Path.{_≡_, refl}
-use mathlib.Core.Bool.{Bool, true, false, not, _||_}
+use mathlib.Core.Path.{_≡_}
+use mathlib.Core.Bool.{Bool, true, false, not}
 use mathlib.Core.List.{List, _∷_}
 use lib.ListN.{length, drop}
-use lib.Dec.{leb, ltb, eqb}
-use Rattle.codec.specs.Codec.{Res, ok, _>>=_, need, Codec, raw, little, num, byte, _then_, _on_, named, checked, judged, asks, placed, sized, times, timesParse, among, distinct, distinctParse, limited, counted, whole, boxed, isNil, full, remainder}
+use lib.Dec.{leb, eqb}
+use Rattle.codec.specs.Codec.{ok, Codec, raw, num, byte, _then_, _on_, named, checked, judged, asks, placed, sized, times, timesParse, among, distinct, distinctParse, limited, counted, whole, boxed, isNil, full, remainder}
 use Rattle.codec.specs.Laws.{bind-ok, need-ok}
 use Rattle.codec.specs.Lenient.{Lenient, lax, anyByte}
 

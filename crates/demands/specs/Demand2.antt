@@ -1,7 +1,7 @@
 -- Demand 2, over the public promises: however a stream is cut, the outcome is one; and what the writer accepts reads back.
 -- Assumes nothing.
-use Prim.Native.Nat.{ℕ, _≤_, _<_}
-use mathlib.Core.Path.{_≡_, refl, sym, ap, _∙_, subst}
+use Prim.Native.Nat.{ℕ, _<_}
+use mathlib.Core.Path.{_≡_, sym, ap, _∙_, subst}
 use mathlib.Core.List.{List, _++_, map}
 use lib.ListN.{length, take, drop}
 use lib.Seq.{take-at}
@@ -13,8 +13,8 @@ use Rattle.layout.specs.TextLaws.{rowText}
 use Rattle.rules.specs.Rules.{ruledOf}
 use Rattle.rows_check.specs.Tree.{rowsIn}
 use Rattle.rows_check.specs.Check.{printed}
-use Rattle.writer.specs.Write.{writeLayout, outAfter, Writes}
-use Rattle.writer.specs.RoundTripLaws.{ReadsBack, accepted, reads-back, out-written}
+use Rattle.writer.specs.Write.{outAfter, Writes}
+use Rattle.writer.specs.RoundTripLaws.{accepted, reads-back, out-written}
 use Rattle.writer.specs.declared.Written.the-variants.{Length}
 use Rattle.feed.specs.Feeding.{Feeding}
 use Rattle.feed.specs.PieceLaws.{Lent, Handed, any-cutting, any-cutting-handed}

@@ -3,7 +3,7 @@ use Prim.Native.Nat.{ℕ}
 use mathlib.Core.Path.{_≡_, refl}
 use mathlib.Core.Bool.{Bool, true}
 use mathlib.Core.List.{List, [], _∷_}
-use Rattle.codec.specs.Codec.{_then_, Res, ok, refuse, _>>=_, raw, padded, num, byte, named, checked, placed, sized, times, distinct, counted, whole, boxed}
+use Rattle.codec.specs.Codec.{_then_, Res, ok, refuse, _>>=_, raw, padded, num, byte, named, checked, placed, sized, times, distinct, whole, boxed}
 use Rattle.wire.specs.Formats.{section, text, name}
 use Rattle.layout.specs.Layout.{entry, fields, recordL, structL, label, labelDef, parts, groups, readLayout}
 use Rattle.layout.specs.Rows.{rows}

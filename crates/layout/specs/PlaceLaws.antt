@@ -1,20 +1,18 @@
 -- Where the parts of an accepted layout stand in its bytes, and what is left of them without places and skipped bytes.
 -- Assumes nothing.
 use Prim.Native.Nat.{ℕ, zero, suc, _+_, _-_, _*_, _≤_, _<_}
-use native.Mathlib.Nat.{mul-zero, mul-suc, add-zero, add-assoc}
+use native.Mathlib.Nat.{mul-zero, mul-suc, add-zero}
 use native.Mathlib.Omega.{arith}
 use mathlib.Core.Path.{_≡_, refl, sym, ap, ap₂, _∙_, subst}
-use mathlib.Core.Bool.{Bool, true, false}
+use mathlib.Core.Bool.{false}
 use mathlib.Core.List.{List, [], _∷_, _++_, map, append-assoc}
 use lib.ListN.{length, getD, take, drop, length-take, length-drop}
 use lib.Seq.{take-take, drop-cons, getD-take, getD-drop}
-use lib.Dec.{leb}
 use borrow.Author.Tests.{le-leb, lt-leb}
-use native.Mathlib.Numerals.{add-one}
-use Rattle.codec.specs.Codec.{Res, ok, refuse, _>>=_, Codec, num, raw, padded, named, _then_, sized, times, timesParse, counted, whole, timesBare}
+use Rattle.codec.specs.Codec.{Res, ok, refuse, _>>=_, Codec, num, padded, named, _then_, sized, times, timesParse, counted, whole, timesBare}
 use Rattle.codec.specs.Laws.{bind-ok, length-bare}
 use Rattle.codec.specs.StepLaws.{raw-got, raw-bad, times-length}
-use Rattle.codec.specs.CaseLaws.{by-bool, by-le}
+use Rattle.codec.specs.CaseLaws.{by-le}
 use Rattle.text.specs.Utf8.{utf8}
 use Rattle.codec.specs.Format.{Format}
 use Rattle.wire.specs.Formats
@@ -28,7 +26,7 @@ use Rattle.wire.specs.SectionLaws.{section-got, section-bad, section-of}
 use Rattle.numbers.specs.declared.Got.{Got}
 use Rattle.numbers.specs.declared.Got.the-variants.{Value, Refused}
 use Rattle.layout.specs.Layout
-use Rattle.layout.specs.Layout.{Entry, Fields, RecordL, StructL, LabelDef, Layout, Parts, toRecord, toStruct, toLayout}
+use Rattle.layout.specs.Layout.{Entry, Fields, RecordL, StructL, Layout, Parts, toLayout}
 use Rattle.layout.specs.LayoutOf.{D, D-least, entry, fields, recordL, structL, labelDef, layoutOf}
 use Rattle.entry.specs.Entry.{entryBytes}
 use Rattle.layout.specs.Rows.{recordRows, structRows, labelDefRows, rows}

@@ -1,12 +1,12 @@
 -- The bytes of each part of a layout, which parts have bytes, and that what is printed reads back. Assumes nothing.
-use Prim.Native.Nat.{ℕ, zero, suc, _+_, _-_, _≤_, _<_}
+use Prim.Native.Nat.{ℕ, suc, _+_, _-_, _≤_, _<_}
 use native.Mathlib.Omega.{arith}
 use mathlib.Core.Path.{_≡_, refl, sym, ap, _∙_}
-use mathlib.Core.Bool.{Bool, true, false}
+use mathlib.Core.Bool.{Bool, false}
 use mathlib.Core.List.{List, [], _∷_, _++_, map, append-nil}
 use lib.ListN.{length, take, drop}
 use borrow.Author.Tests.{ne-eqb, le-leb}
-use Rattle.codec.specs.Codec.{_then_, ok, Bytes, Codec, padded, little, num, named, sized, times, timesPrint, timesLegal, timesEach, among, distinct, distinctLegal}
+use Rattle.codec.specs.Codec.{_then_, ok, Bytes, padded, little, num, named, sized, times, timesPrint, timesLegal, timesEach, among, distinct, distinctLegal}
 use Rattle.text.specs.Utf8.{utf8}
 use Rattle.wire.specs.Formats.{Name, name}
 use Rattle.wire.specs.FormatLaws.{section-print, section-legal, section-holds, section-told}

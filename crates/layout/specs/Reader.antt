@@ -2,8 +2,8 @@
 -- Places are counted from `base` before the section.
 -- Assumes nothing.
 use mathlib.Core.Bool.{cond}
-use Prim.Native.Nat.{ℕ, _+_}
-use mathlib.Core.List.{List, [], _∷_, _++_, map}
+use Prim.Native.Nat.{ℕ}
+use mathlib.Core.List.{List, [], _++_, map}
 use lib.Dec.{eqb}
 use Rattle.codec.specs.Codec.{timesParse, distinctParse}
 use Rattle.text.specs.Utf8.{utf8}

@@ -132,10 +132,6 @@ past-at {b} {m} {at} {v} {p} {s} {r} h e = go (rw e at h)
 pub past-mk : {b m at v p : ℕ} {s : List ℕ} → at + m ≤ p → p ≤ length s → v < b → Past b m s at (Value v p)
 past-mk x y z = past x y z
 
-pub past-back : {b m m′ at at′ : ℕ} {s : List ℕ} {r : Got} → Past b m s at r → at′ + m′ ≤ at + m → Past b m′ s at′ r
-past-back (past x y z) h = past-mk (omega arith) y z
-past-back refused h = refused
-
 -- the part of a slice that a section's body is
 pub part-length : (s : List ℕ) (b e : ℕ) → e ≤ length s → length (part s b e) ≡ e - b
 part-length s b e h = simp (length-take, length-drop) (omega arith)

@@ -1,11 +1,13 @@
 -- The prelude, as document 01's "Bytes on the wire" has it, and the verdict on it.
 -- Assumes nothing.
 use Prim.Native.Nat.{ℕ, _-_}
-use mathlib.Core.Bool.{Bool, _&&_, cond}
+use mathlib.Core.Path.{refl}
+use mathlib.Core.Bool.{Bool, false, _&&_, cond}
 use mathlib.Core.List.{List}
 use lib.ListN.{length}
 use lib.Dec.{leb, ltb}
-use Rattle.codec.specs.Codec.{Res, ok, refuse, Codec, num, byte, _then_, named, checked}
+use Rattle.codec.specs.Codec.{Res, ok, refuse}
+use Rattle.codec.specs.Format.{Format, byte, numTest, _then_, named}
 use Rattle.prelude.specs.declared.Stage.{Stage}
 use Rattle.prelude.specs.declared.Stage.the-variants.{Needs, Refused, Whole}
 
@@ -15,7 +17,7 @@ pub record Prelude : Type 0 where
   pub len : ℕ
 
 -- 44 42 4E; another byte is 10
-unfoldable pub magic : Codec (Unit {0} × (Unit {0} × Unit {0}))
+unfoldable pub magic : Format (Unit {0} × (Unit {0} × Unit {0})) false
 magic = byte 10 10 68 then byte 10 10 66 then byte 10 10 78
 
 -- versions 1 to 4
@@ -23,11 +25,12 @@ abbrev pub isVersion : ℕ → Bool
 isVersion v = leb 1 v && leb v 4
 
 -- magic, version, u32 block length; a length below 100 is 12
-unfoldable pub prelude : Codec Prelude
+unfoldable pub prelude : Format Prelude false
 prelude = named
     (λ z. record { version = z .1 .0; len = z .1 .1 })
     (λ p. ((tt, (tt, tt)), (p .version, p .len)))
-    (magic then checked isVersion 11 (num 11 1) then checked (leb 100) 12 (num 12 4))
+    (λ x. refl)
+    (magic then numTest isVersion 11 11 1 then numTest (leb 100) 12 12 4)
 
 -- what was read of it, as a stage
 abbrev pub said : Res Prelude → Stage
@@ -36,7 +39,7 @@ said (refuse k) = Refused k
 
 -- THE VERDICT on a prelude: what is missing of its eight bytes; with eight held 10, 11, 12, or the version and the length
 unfoldable pub preludeOf : List ℕ → Stage
-preludeOf s = cond (ltb (length s) 8) (Needs (8 - length s)) (said (prelude .parse 0 s 0))
+preludeOf s = cond (ltb (length s) 8) (Needs (8 - length s)) (said (prelude .codec .parse 0 s 0))
 
 -- a stage's refusal number; 0 where it is none
 abbrev pub stageNumber : Stage → ℕ

@@ -1,4 +1,4 @@
--- The prelude keeps the laws of a format, and its verdict step by step as the code meets it.
+-- The verdict on a prelude step by step, as the code meets it.
 -- Assumes nothing.
 use Prim.Native.Nat.{ℕ, _-_, _≤_, _<_}
 use native.Mathlib.Omega.{arith}
@@ -10,25 +10,12 @@ use lib.ListN.{length, take, getD}
 use lib.Seq.{length-take-le, getD-take}
 use lib.Dec.{leb, eqb}
 use Rattle.codec.specs.Codec.{num, byte, named, checked, _then_}
-use Rattle.codec.specs.Laws.{Law, law-num, law-byte, law-then, law-named, law-checked}
 use Rattle.codec.specs.StepLaws.{num-got, byte-got}
 use Rattle.numbers.specs.Numbers.{le32}
 use Rattle.numbers.specs.NumberLaws.{u32-is}
 use Rattle.prelude.specs.Prelude.{magic, isVersion, prelude, said, preludeOf}
 use Rattle.prelude.specs.declared.Stage.{Stage}
 use Rattle.prelude.specs.declared.Stage.the-variants.{Needs, Refused, Whole}
-
-law-magic : Law magic
-unfolding magic
-law-magic = law-then _ _ (law-byte 10 10 68) (law-then _ _ (law-byte 10 10 66) (law-byte 10 10 78))
-
--- what a prelude prints is read as that prelude, and what is read prints to the bytes read
-pub law-prelude : Law prelude
-unfolding prelude num
-law-prelude =
-    law-named _
-    (law-then _ _ law-magic (law-then _ _ (law-checked _ (law-num 11 1) isVersion 11 (λ x. refl)) (law-checked _ (law-num 12 4) (leb 100) 12 (λ x. refl))))
-    _ _ (λ x. refl)
 
 -- the block length that a prelude states, at places 4 to 7
 abbrev pub lengthOf : List ℕ → ℕ
@@ -47,7 +34,7 @@ prelude-few s h = simp (lt-ltb _ _ h)
 module _ (s : List ℕ) (h : 8 ≤ length s) where
   read-is : (a b c d e : Bool)
       → eqb 68 (getD s 0 0) ≡ a → eqb 66 (getD s 1 0) ≡ b → eqb 78 (getD s 2 0) ≡ c → isVersion (getD s 3 0) ≡ d → leb 100 (lengthOf s) ≡ e
-      → said (prelude .parse 0 s 0) ≡ tests a b c d e (getD s 3 0) (lengthOf s)
+      → said (prelude .codec .parse 0 s 0) ≡ tests a b c d e (getD s 3 0) (lengthOf s)
   unfolding prelude magic named _then_ checked byte
   read-is false b c d e qa qb qc qd qe = simp (byte-got 10 0 s 0 (omega arith), qa)
   read-is true false c d e qa qb qc qd qe = simp (byte-got 10 0 s 0 (omega arith), qa, byte-got 10 0 s 1 (omega arith), qb)

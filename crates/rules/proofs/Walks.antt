@@ -11,7 +11,7 @@ use lib.Dec.{lit<, lit≤}
 use borrow.Author.Tests.{eq-eqb, ne-eqb}
 use Rattle.numbers.specs.Numbers.{le16}
 use Rattle.layout.specs.LayoutOf.{D, D-least}
-use Rattle.entry.specs.Entry.{entryBytes, rowBytes}
+use Rattle.entry.specs.Entry.{rowBytes}
 use Rattle.entry.specs.EntryLaws.{row-bytes-alone}
 use Rattle.rules.specs.declared.Place.{Place}
 use Rattle.rules.specs.declared.Item.{Item}

@@ -1,7 +1,6 @@
 pub mod Table
 pub mod ReadingLaws
 pub mod TableLaws
-pub mod MoveLaws
 pub mod PartLaws
 pub mod StepLaws
 pub mod Single

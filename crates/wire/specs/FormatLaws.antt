@@ -1,10 +1,10 @@
 -- The laws of names and sections: their places, their bytes, and which of them have bytes. Assumes nothing.
-use Prim.Native.Nat.{ℕ, _+_, _%_, _<_}
+use Prim.Native.Nat.{ℕ, _+_, _<_}
 use native.Mathlib.Omega.{arith}
 use mathlib.Core.Path.{_≡_, refl}
 use mathlib.Core.Bool.{Bool, true, false}
 use mathlib.Core.List.{List, [], _∷_, _++_, append-nil}
-use lib.ListN.{length, length-append}
+use lib.ListN.{length}
 use Rattle.codec.specs.Codec.{Bytes, little, raw, byte, named, checked, placed, sized, boxed, _then_}
 use Rattle.codec.specs.Format.{Format}
 use Rattle.wire.specs.Formats.{Name, section, noNul, textOf, text, name}

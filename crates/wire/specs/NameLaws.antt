@@ -3,7 +3,7 @@ use Prim.Native.Nat.{ℕ, _+_, _-_, _≤_, _<_}
 use native.Mathlib.Nat.{zero-add}
 use native.Mathlib.Omega.{arith}
 use mathlib.Core.Path.{_≡_, refl, sym, ap, _∙_}
-use mathlib.Core.Bool.{Bool, true, false}
+use mathlib.Core.Bool.{true, false}
 use mathlib.Core.List.{List, [], _∷_}
 use lib.ListN.{length, getD, take, drop, length-take, length-drop}
 use lib.Seq.{take-length}
@@ -16,7 +16,7 @@ use Rattle.plain_text.specs.Plain.{plain}
 use Rattle.plain_text.specs.PlainLaws.{plain-utf8, plain-next}
 use Rattle.numbers.specs.Numbers.{part}
 use Rattle.wire.specs.Formats
-use Rattle.wire.specs.Formats.{Name, noNul, text, textOf}
+use Rattle.wire.specs.Formats.{Name, text, textOf}
 use Rattle.wire.specs.Reader.{name, nameAt, textFault}
 use Rattle.numbers.specs.declared.Got.{Got}
 use Rattle.numbers.specs.declared.Got.the-variants.{Value, Refused}

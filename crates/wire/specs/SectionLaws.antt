@@ -13,11 +13,11 @@ use Rattle.codec.specs.Format.{Format}
 use Rattle.codec.specs.StepLaws.{raw-got, raw-bad}
 use Rattle.codec.specs.CaseLaws.{by-le}
 use Rattle.numbers.specs.Numbers.{u16At, part}
-use Rattle.numbers.specs.NumberLaws.{numOf, num-is, u16-value}
+use Rattle.numbers.specs.NumberLaws.{num-is, u16-value}
 use Rattle.numbers.specs.declared.Got.{Got}
 use Rattle.numbers.specs.declared.Got.the-variants.{Value, Refused}
 use Rattle.wire.specs.Formats.{section}
-use Rattle.wire.specs.Reader.{sectionAt, Lies, lies, outside}
+use Rattle.wire.specs.Reader.{sectionAt, Lies, lies}
 
 -- where a section lies
 pub lies-mk : {s : List ℕ} {at b e : ℕ} → at ≤ b → b ≤ e → e ≤ length s → Lies s at (Value b e)

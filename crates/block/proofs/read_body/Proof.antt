@@ -12,22 +12,33 @@ symbology-part-requires : tie.Need-symbology-part-requires
 symbology-part-requires c κs = ((lays-at (c .before .before .before .before .layout-part .ensures) (c .before .before .version .given .1)) .to, c .before .before .before .before .before .before .before .before .pre .fixed .small)
 
 put-layout-requires : tie.Need-put-layout-requires
-put-layout-requires c κs = ((lays-at (c .before .before .before .before .before .before .before .before .before .before .before .layout-part .ensures) (c .before .before .before .before .before .before .before .before .before .version .given .1)) .from, (lays-at (c .before .before .before .before .before .before .before .before .before .before .before .layout-part .ensures) (c .before .before .before .before .before .before .before .before .before .version .given .1)) .to)
+put-layout-requires c κs =
+    let layout-part = c .before .before .before .before .before .before .before .before .before .before .before .layout-part .ensures in
+    let version = c .before .before .before .before .before .before .before .before .before .version .given in
+    ((lays-at layout-part (version .1)) .from, (lays-at layout-part (version .1)) .to)
 
 fields-of-requires : tie.Need-fields-of-requires
 fields-of-requires c κs = c .before .before .before .before .before .before .before .before .before .before .before .before .before .before .before .before .before .before .pre .fixed
 
 returns : tie.Need-returns
-returns c = body-read (c .before .before .before .before .before .before .before .before .before .before .before .before .before .before .before .before .before .before .before .args .sheet .now) (c .before .before .before .before .before .before .before .before .before .before .before .before .before .before .before .before .before .before .before .args .v) (c .before .before .before .before .before .before .before .before .before .before .before .before .before .before .before .before .before .before .before .args .block .now) _ (c .before .before .before .before .before .before .before .before .before .before .before .before .before .before .before .before .before .before .before .args .symbology .now) (c .before .before .before .before .before .before .before .before .before .before .before .before .before .before .before .before .before .before .before .args .layout .now) (c .before .before .before .before .before .before .before .before .before .before .before .before .before .before .before .before .before .before .before .pre) (lays-at (c .before .before .before .before .before .before .before .before .before .before .before .before .before .before .before .layout-part .ensures) (c .before .before .before .before .before .before .before .before .before .before .before .before .before .version .given .1)) (c .before .before .before .before .before .before .before .before .before .before .symbology-part .ensures) refl (c .before .before .before .before .before .before .fives .given .1) (c .before .before .before .put-layout .ensures) (c .fields-of .ensures)
+returns c =
+    let start = c .before .before .before .before .before .before .before .before .before .before .before .before .before .before .before .before .before .before .before in
+    body-read (start .args .sheet .now) (start .args .v) (start .args .block .now) _ (start .args .symbology .now) (start .args .layout .now) (start .pre) (lays-at (c .before .before .before .before .before .before .before .before .before .before .before .before .before .before .before .layout-part .ensures) (c .before .before .before .before .before .before .before .before .before .before .before .before .before .version .given .1)) (c .before .before .before .before .before .before .before .before .before .before .symbology-part .ensures) refl (c .before .before .before .before .before .before .fives .given .1) (c .before .before .before .put-layout .ensures) (c .fields-of .ensures)
 
 returns-2 : tie.Need-returns-2
-returns-2 c = body-short (c .before .before .before .before .before .before .before .before .before .before .before .before .before .before .args .sheet .now) (c .before .before .before .before .before .before .before .before .before .before .before .before .before .before .args .v) (c .before .before .before .before .before .before .before .before .before .before .before .before .before .before .args .block .now) _ (c .before .before .before .before .before .before .before .before .before .before .before .before .before .before .args .symbology .now) (c .before .before .before .before .before .before .before .before .before .before .before .before .before .before .args .layout .now) (c .before .before .before .before .before .before .before .before .before .before .before .before .before .before .pre) (lays-at (c .before .before .before .before .before .before .before .before .before .before .layout-part .ensures) (c .before .before .before .before .before .before .before .before .version .given .1)) (c .before .before .before .before .before .symbology-part .ensures) refl (c .before .fives2 .given .1)
+returns-2 c =
+    let start = c .before .before .before .before .before .before .before .before .before .before .before .before .before .before in
+    body-short (start .args .sheet .now) (start .args .v) (start .args .block .now) _ (start .args .symbology .now) (start .args .layout .now) (start .pre) (lays-at (c .before .before .before .before .before .before .before .before .before .before .layout-part .ensures) (c .before .before .before .before .before .before .before .before .version .given .1)) (c .before .before .before .before .before .symbology-part .ensures) refl (c .before .fives2 .given .1)
 
 returns-3 : tie.Need-returns-3
-returns-3 c = body-bad (c .before .before .before .before .before .before .before .before .before .before .before .before .before .before .args .sheet .now) (c .before .before .before .before .before .before .before .before .before .before .before .before .before .before .args .v) (c .before .before .before .before .before .before .before .before .before .before .before .before .before .before .args .block .now) _ (c .before .before .before .before .before .before .before .before .before .before .before .before .before .before .args .symbology .now) (c .before .before .before .before .before .before .before .before .before .before .before .before .before .before .args .layout .now) (c .before .before .before .before .before .before .before .before .before .before .before .before .before .before .pre) (lays-at (c .before .before .before .before .before .before .before .before .before .before .layout-part .ensures) (c .before .before .before .before .before .before .before .before .version .given .1)) (c .before .before .before .before .before .symbology-part .ensures) (c .before .why .given .1)
+returns-3 c =
+    let start = c .before .before .before .before .before .before .before .before .before .before .before .before .before .before in
+    body-bad (start .args .sheet .now) (start .args .v) (start .args .block .now) _ (start .args .symbology .now) (start .args .layout .now) (start .pre) (lays-at (c .before .before .before .before .before .before .before .before .before .before .layout-part .ensures) (c .before .before .before .before .before .before .before .before .version .given .1)) (c .before .before .before .before .before .symbology-part .ensures) (c .before .why .given .1)
 
 returns-4 : tie.Need-returns-4
-returns-4 c = body-no (c .before .before .before .before .before .before .before .args .sheet .now) (c .before .before .before .before .before .before .before .args .v) (c .before .before .before .before .before .before .before .args .block .now) _ (c .before .before .before .before .before .before .before .args .symbology .now) (c .before .before .before .before .before .before .before .args .layout .now) (c .before .before .before .before .before .before .before .pre) (lays-bad (c .before .before .before .layout-part .ensures) (c .before .why2 .given .1))
+returns-4 c =
+    let start = c .before .before .before .before .before .before .before in
+    body-no (start .args .sheet .now) (start .args .v) (start .args .block .now) _ (start .args .symbology .now) (start .args .layout .now) (start .pre) (lays-bad (c .before .before .before .layout-part .ensures) (c .before .why2 .given .1))
 
 pub read-body-spec : {M : Type 1} → statement M
 read-body-spec =

@@ -1,7 +1,6 @@
 -- `label_in` meets its contract: a walk of its MIR, by hand. A reader is made in a local of the slice and the place, and lent to `ByteReader::u16`; the slice and the code go to `label_after`. All that the proof knows of the callees is that each meets its contract.
 -- A `&[u8]` is Copy, so what it owns is had as often as it is asked for: inside the reader, by `label_after`, and for s at exit.
 -- Assumes nothing.
-use mathlib.Core.Bool.{cond}
 use mathlib.Core.Path.{refl, sym, ap, _∙_, subst}
 use Prim.Native.Nat.{ℕ, _<_, _^_}
 use mathlib.Core.List.{List, [], _∷_}
@@ -17,7 +16,7 @@ use prog.Wp.{Heap, Calls, Loops, WpFn, Tables}
 use ghost.Atoms.{Atoms, sem}
 use contract.Monad.{Fun, fact}
 use contract.Running.{givenOf, tables, tablesOf}
-use types.Kit.{Given, ‵, raw, _⊛_, ⋆, some, later, _$_, _∵_, !, qed, by, move, keep, use1, use2, split, join, cond, fsplit, fjoin, suffices, frame, await, done}
+use types.Kit.{Given, ‵, raw, _⊛_, ⋆, some, later, _$_, _∵_, !, qed, by, move, keep, use1, use2, split, join, pick, fsplit, fjoin, suffices, frame, await, done}
 use types.Part.{agg}
 use types.Run.{look, init, forget, stop, from, load, lit, addr, and-then, no-more, assigns, land, returns, enter, alloc1, alloc0, params1, pass1, pass0, free1, free0}
 use sound.WpLaws.{FmC, fmOf, WpFn-mono}
@@ -135,8 +134,8 @@ module _ {M : Type 1} (𝓤 : URA M) (H : Heap 𝓤) (A : Atoms 𝓤) (W : Given
         move ! (7 ∷ 0 ∷ 15 ∷ []) $ lends-reader ! tt κ q l₃ d (λ ν γ.
         use2 W (raw (U16 𝓤 H A mem run .pre (to-u16 𝓤 H A W mem run κ q l₃ ν γ d 50))) (goes-u16 𝓤 H A W mem run κ q l₃ ν γ d 50 (lit< tt)) $
         calls-at ! fm (U16 𝓤 H A mem run) known-u16 (to-u16 𝓤 H A W mem run κ q l₃ ν γ d 50) (and-then ! (load ! (from ! (stop !)) (look ! 4 refl)) (and-then ! (lit ! tt) (no-more !))) (λ u.
-        use1 W (later (some (λ (r : Got). (Toks 𝓤 H A W κ q l₃ ν ⊛ ‵ (S.the-row .own r (u ∷ []))) ⊛ raw (ensured 𝓤 H A u16.ended (u16.clauses 𝓤 H A mem run) (ν ∷ κ, (κ, tt)) (ref 𝓤 H A W κ q l₃ γ d, (50, tt)) tt r)))) (id⊢ 𝓤 _) $ await ! tt $ cond ! (λ r.
-        split ! $ move ! (1 ∷ []) $ use1 W (some (λ (zs : ByteReader × (Unit {0} × Unit {0})). ‵ (lasts u16.ended (ν ∷ κ, (κ, tt)) (ref 𝓤 H A W κ q l₃ γ d, (50, tt)) zs) ⊛ raw (fact 𝓤 (Coded d (zs .0) r)))) (id⊢ 𝓤 _) $ cond ! (λ zs.
+        use1 W (later (some (λ (r : Got). (Toks 𝓤 H A W κ q l₃ ν ⊛ ‵ (S.the-row .own r (u ∷ []))) ⊛ raw (ensured 𝓤 H A u16.ended (u16.clauses 𝓤 H A mem run) (ν ∷ κ, (κ, tt)) (ref 𝓤 H A W κ q l₃ γ d, (50, tt)) tt r)))) (id⊢ 𝓤 _) $ await ! tt $ pick ! (λ r.
+        split ! $ move ! (1 ∷ []) $ use1 W (some (λ (zs : ByteReader × (Unit {0} × Unit {0})). ‵ (lasts u16.ended (ν ∷ κ, (κ, tt)) (ref 𝓤 H A W κ q l₃ γ d, (50, tt)) zs) ⊛ raw (fact 𝓤 (Coded d (zs .0) r)))) (id⊢ 𝓤 _) $ pick ! (λ zs.
         split ! $ move ! (1 ∷ []) $ heard ! (Coded d (zs .0) r) (λ e. fsplit ! $
         move ! (2 ∷ []) $ split ! $ move ! (0 ∷ 4 ∷ 2 ∷ []) $ takes-back ! tt κ q l₃ ν γ (zs .0) $
         -- [the reader's local; what it owns; the token; the code; true; what s owns; what at owns; _5; …; _4; …; the rest of the reader's local; _2; …]
@@ -146,7 +145,7 @@ module _ {M : Type 1} (𝓤 : URA M) (H : Heap 𝓤) (A : Atoms 𝓤) (W : Given
         move ! (5 ∷ []) $ use1 W (‵ Lent ⊛ ‵ Lent) (shr-slice-copy 𝓤 H A W (named 0) κ u8 .twice s (slice d ∷ [])) $ split ! $
         move ! (0 ∷ 5 ∷ []) $ use2 W (raw (After 𝓤 H A mem run .pre (to-after r u))) (goes-after r u is) $
         calls-at ! fm (After 𝓤 H A mem run) known-after (to-after r u) (and-then ! (load ! (from ! (stop !)) (look ! 14 refl)) (and-then ! (load ! (from ! (stop !)) (look ! 9 refl)) (no-more !))) (λ z.
-        use1 W (later (some (λ (t : Label). ((‵ (flft κ q) ⊛ ‵ ftrue) ⊛ ‵ (LT.the-row .own t (z ∷ []))) ⊛ raw (ensured 𝓤 H A after.ended (after.clauses 𝓤 H A mem run) (κ, tt) (s, (r, tt)) tt t)))) (id⊢ 𝓤 _) $ await ! tt $ cond ! (λ t.
+        use1 W (later (some (λ (t : Label). ((‵ (flft κ q) ⊛ ‵ ftrue) ⊛ ‵ (LT.the-row .own t (z ∷ []))) ⊛ raw (ensured 𝓤 H A after.ended (after.clauses 𝓤 H A mem run) (κ, tt) (s, (r, tt)) tt t)))) (id⊢ 𝓤 _) $ await ! tt $ pick ! (λ t.
         split ! $ move ! (1 ∷ []) $ use1 W (raw (fact 𝓤 (LabelAfter (now s) r t))) (after-said r t) $ heard ! (LabelAfter (now s) r t) (λ g. split ! $ move ! (1 ∷ []) $
         -- [the label; the token; what s owns; the code; the reader's local; what it owns; true; what at owns; _5; …]
         peeks ! LT.the-row (Is LT.the-row) (shows 𝓤 H A LT.the-row) t (z ∷ []) (λ ist.

@@ -7,9 +7,10 @@ use Rattle.c_start.proofs.dbn_feed.Tie as tie
 
 returns : tie.Need-returns
 returns c =
+    let feed = c .before .before .before .before .before .before .before .before .before .feed in
     let a = c .before .before .before .before .before .before .before .before .before .before .before .before .before .before .before .before .before .args in
     fed-c (a .held) (a .store .now) (a .piece .now) (a .sheet .now) (a .symbology .now) (a .layout .now) (a .out .now)
-    (c .before .before .before .before .before .before .before .before .before .feed .result) _ _ _ _ _ (c .before .before .before .before .before .before .before .before .before .feed .ensures) (c .put-answer .ensures .0) (c .put-answer .ensures .1)
+    (feed .result) _ _ _ _ _ (feed .ensures) (c .put-answer .ensures .0) (c .put-answer .ensures .1)
 
 pub dbn-feed-spec : {M : Type 1} → statement M
 dbn-feed-spec =

@@ -8,7 +8,9 @@ use Rattle.capture.proofs.feed_inside.Statement.{statement}
 use Rattle.capture.proofs.feed_inside.Tie as tie
 
 slice-aggregate-feed-pieces : tie.Need-slice-aggregate-feed-pieces
-slice-aggregate-feed-pieces c = sym (length-take-le (c .before .before .before .before .before .before .before .before .before .before .before .before .between .result) (c .before .before .before .before .before .before .before .before .before .before .before .before .before .before .before .before .before .before .before .before .args .all .now) (omega (arith, c .before .before .before .before .before .before .before .before .before .before .before .before .between .ensures)))
+slice-aggregate-feed-pieces c =
+    let between = c .before .before .before .before .before .before .before .before .before .before .before .before .between in
+    sym (length-take-le (between .result) (c .before .before .before .before .before .before .before .before .before .before .before .before .before .before .before .before .before .before .before .before .args .all .now) (omega (arith, between .ensures)))
 
 pub feed-inside-spec : {M : Type 1} → statement M
 feed-inside-spec =

@@ -8,7 +8,9 @@ use Rattle.capture.proofs.same_cut.Statement.{statement}
 use Rattle.capture.proofs.same_cut.Tie as tie
 
 slice-aggregate-feed-one : tie.Need-slice-aggregate-feed-one
-slice-aggregate-feed-one c = sym (length-take-le (c .before .before .before .before .before .before .before .before .before .args .cut) (c .before .before .before .before .before .before .before .before .before .args .all .now) (omega arith))
+slice-aggregate-feed-one c =
+    let args = c .before .before .before .before .before .before .before .before .before .args in
+    sym (length-take-le (args .cut) (args .all .now) (omega arith))
 
 pub same-cut-spec : {M : Type 1} → statement M
 same-cut-spec =

@@ -9,8 +9,9 @@ use Rattle.entry.proofs.entry_bytes.Tie as tie
 
 returns-2 : tie.Need-returns-2
 returns-2 c =
+    let args = c .before .before .before .before .before .before .before .before .before .before .before .before .before .before .args in
     rw (
-      c .before .before .before .before .before .before .before .before .before .before .byte .ensures ∙ ap (λ n. getD (c .before .before .before .before .before .before .before .before .before .before .before .before .before .before .args .s .now) n 0) (add-zero (c .before .before .before .before .before .before .before .before .before .before .before .before .before .before .args .at)),
+      c .before .before .before .before .before .before .before .before .before .before .byte .ensures ∙ ap (λ n. getD (args .s .now) n 0) (add-zero (args .at)),
       c .before .before .before .before .before .before .before .before .before .byte2 .ensures,
       c .before .before .before .before .before .before .before .before .byte3 .ensures,
       c .before .before .before .before .before .before .before .byte4 .ensures,

@@ -42,21 +42,25 @@ part-pour-start c =
 
 add-second : tie.Need-add-second
 add-second c =
+    let pour = c .before .before .before .before .before .before .before .pour .ensures in
     let a = c .before .before .before .before .before .before .before .before .before .before .before .before .before .args in
-    let h = fed-fits (a .state .held) (a .store .now) (a .piece .now) _ _ _ _ (c .before .before .before .before .before .before .before .pour .ensures .0) (c .before .before .before .before .before .before .before .pour .ensures .1) (c .before .before .pour2 .ensures .0) in
+    let h = fed-fits (a .state .held) (a .store .now) (a .piece .now) _ _ _ _ (pour .0) (pour .1) (c .before .before .pour2 .ensures .0) in
     omega arith
 
 add-t18 : tie.Need-add-t18
 add-t18 c =
+    let pour = c .before .before .before .before .before .before .before .before .before .before .before .before .before .before .before .pour .ensures in
     let a = c .before .before .before .before .before .before .before .before .before .before .before .before .before .before .before .before .before .before .before .before .before .args in
-    let h = fed-fits (a .state .held) (a .store .now) (a .piece .now) _ _ _ _ (c .before .before .before .before .before .before .before .before .before .before .before .before .before .before .before .pour .ensures .0) (c .before .before .before .before .before .before .before .before .before .before .before .before .before .before .before .pour .ensures .1) (c .before .before .before .before .before .before .before .before .before .before .pour2 .ensures .0) in
+    let h = fed-fits (a .state .held) (a .store .now) (a .piece .now) _ _ _ _ (pour .0) (pour .1) (c .before .before .before .before .before .before .before .before .before .before .pour2 .ensures .0) in
     omega arith
 
 returns : tie.Need-returns
 returns c =
+    let pour = c .before .before .before .before .before .before .before .before .before .before .before .before .before .before .before .pour in
+    let pour2 = c .before .before .before .before .before .before .before .before .before .before .pour2 in
     let a = c .before .before .before .before .before .before .before .before .before .before .before .before .before .before .before .before .before .before .before .before .before .args in
-    fed (a .state .held) (a .store .now) (a .piece .now) (a .sheet .now) (a .symbology .now) (a .layout .now) (c .before .before .before .before .before .before .before .before .before .before .before .before .before .before .before .pour .result) (c .before .before .before .before .before .before .before .before .before .before .pour2 .result) _ _ _ _ _
-    (c .before .before .before .before .before .before .before .before .before .before .before .before .before .before .before .pour .ensures .0) (c .before .before .before .before .before .before .before .before .before .before .before .before .before .before .before .pour .ensures .1) (c .before .before .before .before .before .before .before .before .before .before .pour2 .ensures .0) (c .before .before .before .before .before .before .before .before .before .before .pour2 .ensures .1) (c .before .before .before .before .judge .ensures)
+    fed (a .state .held) (a .store .now) (a .piece .now) (a .sheet .now) (a .symbology .now) (a .layout .now) (pour .result) (pour2 .result) _ _ _ _ _
+    (pour .ensures .0) (pour .ensures .1) (pour2 .ensures .0) (pour2 .ensures .1) (c .before .before .before .before .judge .ensures)
 
 pub feed-spec : {M : Type 1} → statement M
 feed-spec =

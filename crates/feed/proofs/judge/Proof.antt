@@ -10,12 +10,14 @@ use Rattle.feed.proofs.judge.Tie as tie
 
 add-end : tie.Need-add-end
 add-end c =
-    let w = is-whole (c .before .before .before .before .before .before .before .args .held) (c .before .before .before .before .before .before .before .args .store .now) _ _ (sym (c .before .before .before .stage-of .ensures) ∙ c .before .version .given .1) in
+    let args = c .before .before .before .before .before .before .before .args in
+    let w = is-whole (args .held) (args .store .now) _ _ (sym (c .before .before .before .stage-of .ensures) ∙ c .before .version .given .1) in
     omega (arith, w)
 
 part-read-block-end : tie.Need-part-read-block-end
 part-read-block-end c =
-    let w = is-whole (c .before .before .before .before .before .before .before .args .held) (c .before .before .before .before .before .before .before .args .store .now) _ _ (sym (c .before .before .before .stage-of .ensures) ∙ c .before .version .given .1) in
+    let args = c .before .before .before .before .before .before .before .args in
+    let w = is-whole (args .held) (args .store .now) _ _ (sym (c .before .before .before .stage-of .ensures) ∙ c .before .version .given .1) in
     omega (arith, w)
 
 returns : tie.Need-returns

@@ -10,32 +10,38 @@ use Rattle.feed.proofs.pour.Tie as tie
 
 copy-requires : tie.Need-copy-requires
 copy-requires c κs =
-    let k = c .before .before .before .before .before .before .before .args .held in
-    let st = c .before .before .before .before .before .before .before .args .store .now in
+    let args = c .before .before .before .before .before .before .before .args in
+    let k = args .held in
+    let st = args .store .now in
     let w : (c .before .before .need .result) ≡ needOf (stageOf k st) = c .before .before .need .ensures ∙ ap needOf (c .before .before .before .stage-of .ensures) in
     omega (arith, need-fits k st)
 
 returns : tie.Need-returns
 unfolding poured
 returns c =
-    let k = c .before .before .before .before .before .before .before .before .before .before .args .held in
-    let st = c .before .before .before .before .before .before .before .before .before .before .args .store .now in
-    let w : (c .before .before .before .before .before .need .result) ≡ needOf (stageOf k st) = c .before .before .before .before .before .need .ensures ∙ ap needOf (c .before .before .before .before .before .before .stage-of .ensures) in
+    let args = c .before .before .before .before .before .before .before .before .before .before .args in
+    let need = c .before .before .before .before .before .need in
+    let k = args .held in
+    let st = args .store .now in
+    let w : (need .result) ≡ needOf (stageOf k st) = need .ensures ∙ ap needOf (c .before .before .before .before .before .before .stage-of .ensures) in
     (omega arith, c .before .before .copy .ensures)
 
 copy-requires-2 : tie.Need-copy-requires-2
 copy-requires-2 c κs =
-    let k = c .before .before .before .before .before .before .before .args .held in
-    let st = c .before .before .before .before .before .before .before .args .store .now in
+    let args = c .before .before .before .before .before .before .before .args in
+    let k = args .held in
+    let st = args .store .now in
     let w : (c .before .before .need .result) ≡ needOf (stageOf k st) = c .before .before .need .ensures ∙ ap needOf (c .before .before .before .stage-of .ensures) in
     omega (arith, need-fits k st)
 
 returns-2 : tie.Need-returns-2
 unfolding poured
 returns-2 c =
-    let k = c .before .before .before .before .before .before .before .before .before .before .args .held in
-    let st = c .before .before .before .before .before .before .before .before .before .before .args .store .now in
-    let w : (c .before .before .before .before .before .need .result) ≡ needOf (stageOf k st) = c .before .before .before .before .before .need .ensures ∙ ap needOf (c .before .before .before .before .before .before .stage-of .ensures) in
+    let args = c .before .before .before .before .before .before .before .before .before .before .args in
+    let need = c .before .before .before .before .before .need in
+    let k = args .held in
+    let st = args .store .now in
+    let w : (need .result) ≡ needOf (stageOf k st) = need .ensures ∙ ap needOf (c .before .before .before .before .before .before .stage-of .ensures) in
     (omega arith, c .before .before .copy2 .ensures)
 
 pub pour-spec : {M : Type 1} → statement M

@@ -6,10 +6,14 @@ use Rattle.names.proofs.row_span.Statement.{statement}
 use Rattle.names.proofs.row_span.Tie as tie
 
 returns : tie.Need-returns
-returns c = span-in _ (c .before .before .before .before .before .before .before .args .rows .now) (c .before .before .before .before .before .before .before .args .at) (c .before .before .before .before .before .if1 .taken) (c .before .before .before .wide .ensures .0) (c .before .wide2 .ensures .0) (c .if2 .taken)
+returns c =
+    let args = c .before .before .before .before .before .before .before .args in
+    span-in _ (args .rows .now) (args .at) (c .before .before .before .before .before .if1 .taken) (c .before .before .before .wide .ensures .0) (c .before .wide2 .ensures .0) (c .if2 .taken)
 
 returns-2 : tie.Need-returns-2
-returns-2 c = span-out _ (c .before .before .before .before .before .before .before .args .rows .now) (c .before .before .before .before .before .before .before .args .at) (c .before .before .before .before .before .if1 .taken) (c .before .before .before .wide .ensures .0) (c .before .wide2 .ensures .0) (c .if2 .left)
+returns-2 c =
+    let args = c .before .before .before .before .before .before .before .args in
+    span-out _ (args .rows .now) (args .at) (c .before .before .before .before .before .if1 .taken) (c .before .before .before .wide .ensures .0) (c .before .wide2 .ensures .0) (c .if2 .left)
 
 returns-3 : tie.Need-returns-3
 returns-3 c = span-none _ (c .before .before .args .rows .now) (c .before .before .args .at) (c .if1 .left)

@@ -8,7 +8,9 @@ use Rattle.names.proofs.symbology_span.Statement.{statement}
 use Rattle.names.proofs.symbology_span.Tie as tie
 
 returns : tie.Need-returns
-returns c = (rw (c .before .symbol-text .ensures) at (c .row-span .ensures)) ∙ row-there 5 symbolText _ (c .before .before .before .before .before .before .args .rows .now) (c .before .before .before .before .before .before .args .index) (c .before .before .before .if1 .taken)
+returns c =
+    let args = c .before .before .before .before .before .before .args in
+    (rw (c .before .symbol-text .ensures) at (c .row-span .ensures)) ∙ row-there 5 symbolText _ (args .rows .now) (args .index) (c .before .before .before .if1 .taken)
 
 returns-2 : tie.Need-returns-2
 returns-2 c = row-past 5 symbolText _ (c .before .before .before .args .rows .now) (c .before .before .before .args .index) (c .if1 .left)

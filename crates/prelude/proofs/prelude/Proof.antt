@@ -30,12 +30,15 @@ returns-6 : tie.Need-returns-6
 returns-6 c = sym (prelude-is (c .before .before .before .before .before .before .before .before .before .before .before .args .s .now) (c .before .before .before .before .before .before .before .before .before .if1 .left) true true true false _ (eq-eqb 68 _ (sym (c .before .before .before .before .before .before .before .if2 .left))) (eq-eqb 66 _ (sym (c .before .before .before .before .before .if3 .left))) (eq-eqb 78 _ (sym (c .before .before .before .if4 .left))) (simp (le-leb _ _ (c .before .if5 .left), lt-leb _ _ (c .if6 .taken))) refl)
 
 returns-7 : tie.Need-returns-7
-returns-7 c = sym (prelude-is (c .before .before .before .before .before .before .before .before .before .before .before .before .before .args .s .now) (c .before .before .before .before .before .before .before .before .before .before .before .if1 .left) true true true true false (eq-eqb 68 _ (sym (c .before .before .before .before .before .before .before .before .before .if2 .left))) (eq-eqb 66 _ (sym (c .before .before .before .before .before .before .before .if3 .left))) (eq-eqb 78 _ (sym (c .before .before .before .before .before .if4 .left))) (simp (le-leb _ _ (c .before .before .before .if5 .left), le-leb _ _ (c .before .before .if6 .left))) (lt-leb 100 (lengthOf (c .before .before .before .before .before .before .before .before .before .before .before .before .before .args .s .now)) (omega (arith, c .before .u32-of .ensures))))
+returns-7 c =
+    let s = c .before .before .before .before .before .before .before .before .before .before .before .before .before .args .s .now in
+    sym (prelude-is s (c .before .before .before .before .before .before .before .before .before .before .before .if1 .left) true true true true false (eq-eqb 68 _ (sym (c .before .before .before .before .before .before .before .before .before .if2 .left))) (eq-eqb 66 _ (sym (c .before .before .before .before .before .before .before .if3 .left))) (eq-eqb 78 _ (sym (c .before .before .before .before .before .if4 .left))) (simp (le-leb _ _ (c .before .before .before .if5 .left), le-leb _ _ (c .before .before .if6 .left))) (lt-leb 100 (lengthOf s) (omega (arith, c .before .u32-of .ensures))))
 
 returns-8 : tie.Need-returns-8
 returns-8 c =
-    ap (Whole (getD (c .before .before .before .before .before .before .before .before .before .before .before .before .before .args .s .now) 3 0)) (c .before .u32-of .ensures .0)
-    ∙ sym (prelude-is (c .before .before .before .before .before .before .before .before .before .before .before .before .before .args .s .now) (c .before .before .before .before .before .before .before .before .before .before .before .if1 .left) true true true true true (eq-eqb 68 _ (sym (c .before .before .before .before .before .before .before .before .before .if2 .left))) (eq-eqb 66 _ (sym (c .before .before .before .before .before .before .before .if3 .left))) (eq-eqb 78 _ (sym (c .before .before .before .before .before .if4 .left))) (simp (le-leb _ _ (c .before .before .before .if5 .left), le-leb _ _ (c .before .before .if6 .left))) (le-leb 100 (lengthOf (c .before .before .before .before .before .before .before .before .before .before .before .before .before .args .s .now)) (omega (arith, c .before .u32-of .ensures))))
+    let s = c .before .before .before .before .before .before .before .before .before .before .before .before .before .args .s .now in
+    ap (Whole (getD s 3 0)) (c .before .u32-of .ensures .0)
+    ∙ sym (prelude-is s (c .before .before .before .before .before .before .before .before .before .before .before .if1 .left) true true true true true (eq-eqb 68 _ (sym (c .before .before .before .before .before .before .before .before .before .if2 .left))) (eq-eqb 66 _ (sym (c .before .before .before .before .before .before .before .if3 .left))) (eq-eqb 78 _ (sym (c .before .before .before .before .before .if4 .left))) (simp (le-leb _ _ (c .before .before .before .if5 .left), le-leb _ _ (c .before .before .if6 .left))) (le-leb 100 (lengthOf s) (omega (arith, c .before .u32-of .ensures))))
 
 pub prelude-spec : {M : Type 1} → statement M
 prelude-spec =

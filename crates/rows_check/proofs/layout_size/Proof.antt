@@ -15,20 +15,26 @@ well-formed-requires : tie.Need-well-formed-requires
 well-formed-requires c κs = (c .before .kinds-of .ensures, good-90 _ _ _ (c .all-good .ensures))
 
 returns : tie.Need-returns
-returns c = exit-90 (now (c .before .before .before .before .before .before .args .rows)) (now (c .before .before .before .before .before .before .args .text)) (sym (c .before .well-formed .ensures) ∙ not-true (c .before .well-formed .result) (c .if1 .taken))
+returns c =
+    let args = c .before .before .before .before .before .before .args in
+    exit-90 (now (args .rows)) (now (args .text)) (sym (c .before .well-formed .ensures) ∙ not-true (c .before .well-formed .result) (c .if1 .taken))
 
 counts-fit-requires : tie.Need-counts-fit-requires
 counts-fit-requires c κs = (c .before .before .before .kinds-of .ensures, good-91 _ _ _ (c .before .before .all-good .ensures))
 
 returns-2 : tie.Need-returns-2
-returns-2 c = exit-91 (now (c .before .before .before .before .before .before .before .before .args .rows)) (now (c .before .before .before .before .before .before .before .before .args .text)) (sym (c .before .before .before .well-formed .ensures) ∙ not-false (c .before .before .before .well-formed .result) (c .before .before .if1 .left)) (sym (c .before .counts-fit .ensures) ∙ not-true (c .before .counts-fit .result) (c .if2 .taken))
+returns-2 c =
+    let args = c .before .before .before .before .before .before .before .before .args in
+    exit-91 (now (args .rows)) (now (args .text)) (sym (c .before .before .before .well-formed .ensures) ∙ not-false (c .before .before .before .well-formed .result) (c .before .before .if1 .left)) (sym (c .before .counts-fit .ensures) ∙ not-true (c .before .counts-fit .result) (c .if2 .taken))
 
 all-pass-requires : tie.Need-all-pass-requires
 all-pass-requires c κs = good-92 _ _ _ (c .before .before .before .before .all-good .ensures)
 
 returns-3 : tie.Need-returns-3
 returns-3 c =
-    exit-92 (now (c .before .before .before .before .before .before .before .before .before .before .args .rows)) (now (c .before .before .before .before .before .before .before .before .before .before .args .text)) (sym (c .before .before .before .before .before .well-formed .ensures) ∙ not-false (c .before .before .before .before .before .well-formed .result) (c .before .before .before .before .if1 .left)) (sym (c .before .before .before .counts-fit .ensures) ∙ not-false (c .before .before .before .counts-fit .result) (c .before .before .if2 .left))
+    let args = c .before .before .before .before .before .before .before .before .before .before .args in
+    let well-formed = c .before .before .before .before .before .well-formed in
+    exit-92 (now (args .rows)) (now (args .text)) (sym (well-formed .ensures) ∙ not-false (well-formed .result) (c .before .before .before .before .if1 .left)) (sym (c .before .before .before .counts-fit .ensures) ∙ not-false (c .before .before .before .counts-fit .result) (c .before .before .if2 .left))
     (sym (c .before .all-pass .ensures) ∙ not-true (c .before .all-pass .result) (c .if3 .taken))
 
 all-pass-requires-2 : tie.Need-all-pass-requires-2
@@ -36,30 +42,50 @@ all-pass-requires-2 c κs = good-93 _ _ _ (c .before .before .before .before .be
 
 returns-4 : tie.Need-returns-4
 returns-4 c =
-    exit-93 (now (c .before .before .before .before .before .before .before .before .before .before .before .before .args .rows)) (now (c .before .before .before .before .before .before .before .before .before .before .before .before .args .text)) (sym (c .before .before .before .before .before .before .before .well-formed .ensures) ∙ not-false (c .before .before .before .before .before .before .before .well-formed .result) (c .before .before .before .before .before .before .if1 .left)) (sym (c .before .before .before .before .before .counts-fit .ensures) ∙ not-false (c .before .before .before .before .before .counts-fit .result) (c .before .before .before .before .if2 .left))
+    let args = c .before .before .before .before .before .before .before .before .before .before .before .before .args in
+    let well-formed = c .before .before .before .before .before .before .before .well-formed in
+    let counts-fit = c .before .before .before .before .before .counts-fit in
+    exit-93 (now (args .rows)) (now (args .text)) (sym (well-formed .ensures) ∙ not-false (well-formed .result) (c .before .before .before .before .before .before .if1 .left)) (sym (counts-fit .ensures) ∙ not-false (counts-fit .result) (c .before .before .before .before .if2 .left))
     (sym (c .before .before .before .all-pass .ensures) ∙ not-false (c .before .before .before .all-pass .result) (c .before .before .if3 .left)) (sym (c .before .all-pass2 .ensures) ∙ not-true (c .before .all-pass2 .result) (c .if4 .taken))
 
 total-size-requires : tie.Need-total-size-requires
 total-size-requires c κs =
-    let w = formed (now (c .before .before .before .before .before .before .before .before .before .before .before .before .args .rows)) (now (c .before .before .before .before .before .before .before .before .before .before .before .before .args .text)) (sym (c .before .before .before .before .before .before .before .well-formed .ensures) ∙ not-false (c .before .before .before .before .before .before .before .well-formed .result) (c .before .before .before .before .before .before .if1 .left)) in
+    let args = c .before .before .before .before .before .before .before .before .before .before .before .before .args in
+    let well-formed = c .before .before .before .before .before .before .before .well-formed in
+    let w = formed (now (args .rows)) (now (args .text)) (sym (well-formed .ensures) ∙ not-false (well-formed .result) (c .before .before .before .before .before .before .if1 .left)) in
     (c .before .before .before .before .before .before .before .before .before .kinds-of .ensures, (record-sections _ _ w, (struct-sections _ _ w, label-def-sections _ _ w)))
 
 returns-5 : tie.Need-returns-5
 returns-5 c =
-    exit-94 (now (c .before .before .before .before .before .before .before .before .before .before .before .before .before .before .args .rows)) (now (c .before .before .before .before .before .before .before .before .before .before .before .before .before .before .args .text)) (sym (c .before .before .before .before .before .before .before .before .before .well-formed .ensures) ∙ not-false (c .before .before .before .before .before .before .before .before .before .well-formed .result) (c .before .before .before .before .before .before .before .before .if1 .left)) (sym (c .before .before .before .before .before .before .before .counts-fit .ensures) ∙ not-false (c .before .before .before .before .before .before .before .counts-fit .result) (c .before .before .before .before .before .before .if2 .left))
-    (sym (c .before .before .before .before .before .all-pass .ensures) ∙ not-false (c .before .before .before .before .before .all-pass .result) (c .before .before .before .before .if3 .left)) (sym (c .before .before .before .all-pass2 .ensures) ∙ not-false (c .before .before .before .all-pass2 .result) (c .before .before .if4 .left)) (c .before .total-size .result) (c .before .total-size .ensures) (c .if5 .taken)
+    let args = c .before .before .before .before .before .before .before .before .before .before .before .before .before .before .args in
+    let well-formed = c .before .before .before .before .before .before .before .before .before .well-formed in
+    let counts-fit = c .before .before .before .before .before .before .before .counts-fit in
+    let all-pass = c .before .before .before .before .before .all-pass in
+    exit-94 (now (args .rows)) (now (args .text)) (sym (well-formed .ensures) ∙ not-false (well-formed .result) (c .before .before .before .before .before .before .before .before .if1 .left)) (sym (counts-fit .ensures) ∙ not-false (counts-fit .result) (c .before .before .before .before .before .before .if2 .left))
+    (sym (all-pass .ensures) ∙ not-false (all-pass .result) (c .before .before .before .before .if3 .left)) (sym (c .before .before .before .all-pass2 .ensures) ∙ not-false (c .before .before .before .all-pass2 .result) (c .before .before .if4 .left)) (c .before .total-size .result) (c .before .total-size .ensures) (c .if5 .taken)
 
 returns-6 : tie.Need-returns-6
 returns-6 c =
-    exit-95 (now (c .before .before .before .before .before .before .before .before .before .before .before .before .before .before .before .before .args .rows)) (now (c .before .before .before .before .before .before .before .before .before .before .before .before .before .before .before .before .args .text)) (sym (c .before .before .before .before .before .before .before .before .before .before .before .well-formed .ensures) ∙ not-false (c .before .before .before .before .before .before .before .before .before .before .before .well-formed .result) (c .before .before .before .before .before .before .before .before .before .before .if1 .left)) (sym (c .before .before .before .before .before .before .before .before .before .counts-fit .ensures) ∙ not-false (c .before .before .before .before .before .before .before .before .before .counts-fit .result) (c .before .before .before .before .before .before .before .before .if2 .left))
-    (sym (c .before .before .before .before .before .before .before .all-pass .ensures) ∙ not-false (c .before .before .before .before .before .before .before .all-pass .result) (c .before .before .before .before .before .before .if3 .left)) (sym (c .before .before .before .before .before .all-pass2 .ensures) ∙ not-false (c .before .before .before .before .before .all-pass2 .result) (c .before .before .before .before .if4 .left)) (c .before .before .before .total-size .result) (c .before .before .before .total-size .ensures) (c .before .before .if5 .left)
+    let args = c .before .before .before .before .before .before .before .before .before .before .before .before .before .before .before .before .args in
+    let well-formed = c .before .before .before .before .before .before .before .before .before .before .before .well-formed in
+    let counts-fit = c .before .before .before .before .before .before .before .before .before .counts-fit in
+    let all-pass = c .before .before .before .before .before .before .before .all-pass in
+    let all-pass2 = c .before .before .before .before .before .all-pass2 in
+    exit-95 (now (args .rows)) (now (args .text)) (sym (well-formed .ensures) ∙ not-false (well-formed .result) (c .before .before .before .before .before .before .before .before .before .before .if1 .left)) (sym (counts-fit .ensures) ∙ not-false (counts-fit .result) (c .before .before .before .before .before .before .before .before .if2 .left))
+    (sym (all-pass .ensures) ∙ not-false (all-pass .result) (c .before .before .before .before .before .before .if3 .left)) (sym (all-pass2 .ensures) ∙ not-false (all-pass2 .result) (c .before .before .before .before .if4 .left)) (c .before .before .before .total-size .result) (c .before .before .before .total-size .ensures) (c .before .before .if5 .left)
     (sym (c .before .labels-rise .ensures) ∙ not-true (c .before .labels-rise .result) (c .if6 .taken))
 
 returns-7 : tie.Need-returns-7
 returns-7 c =
-    done (now (c .before .before .before .before .before .before .before .before .before .before .before .before .before .before .before .before .args .rows)) (now (c .before .before .before .before .before .before .before .before .before .before .before .before .before .before .before .before .args .text)) (sym (c .before .before .before .before .before .before .before .before .before .before .before .well-formed .ensures) ∙ not-false (c .before .before .before .before .before .before .before .before .before .before .before .well-formed .result) (c .before .before .before .before .before .before .before .before .before .before .if1 .left)) (sym (c .before .before .before .before .before .before .before .before .before .counts-fit .ensures) ∙ not-false (c .before .before .before .before .before .before .before .before .before .counts-fit .result) (c .before .before .before .before .before .before .before .before .if2 .left))
-    (sym (c .before .before .before .before .before .before .before .all-pass .ensures) ∙ not-false (c .before .before .before .before .before .before .before .all-pass .result) (c .before .before .before .before .before .before .if3 .left)) (sym (c .before .before .before .before .before .all-pass2 .ensures) ∙ not-false (c .before .before .before .before .before .all-pass2 .result) (c .before .before .before .before .if4 .left)) (c .before .before .before .total-size .result) (c .before .before .before .total-size .ensures) (c .before .before .if5 .left)
-    (sym (c .before .labels-rise .ensures) ∙ not-false (c .before .labels-rise .result) (c .if6 .left)) (c .before .before .before .before .before .before .before .before .before .before .before .before .before .kinds-of .result .records) (c .before .before .before .before .before .before .before .before .before .before .before .before .before .kinds-of .result .structs) (c .before .before .before .before .before .before .before .before .before .before .before .before .before .kinds-of .result .labels) (c .before .before .before .before .before .before .before .before .before .before .before .before .before .kinds-of .ensures .0) (c .before .before .before .before .before .before .before .before .before .before .before .before .before .kinds-of .ensures .1 .0) (c .before .before .before .before .before .before .before .before .before .before .before .before .before .kinds-of .ensures .1 .1)
+    let args = c .before .before .before .before .before .before .before .before .before .before .before .before .before .before .before .before .args in
+    let kinds-of = c .before .before .before .before .before .before .before .before .before .before .before .before .before .kinds-of in
+    let well-formed = c .before .before .before .before .before .before .before .before .before .before .before .well-formed in
+    let counts-fit = c .before .before .before .before .before .before .before .before .before .counts-fit in
+    let all-pass = c .before .before .before .before .before .before .before .all-pass in
+    let all-pass2 = c .before .before .before .before .before .all-pass2 in
+    done (now (args .rows)) (now (args .text)) (sym (well-formed .ensures) ∙ not-false (well-formed .result) (c .before .before .before .before .before .before .before .before .before .before .if1 .left)) (sym (counts-fit .ensures) ∙ not-false (counts-fit .result) (c .before .before .before .before .before .before .before .before .if2 .left))
+    (sym (all-pass .ensures) ∙ not-false (all-pass .result) (c .before .before .before .before .before .before .if3 .left)) (sym (all-pass2 .ensures) ∙ not-false (all-pass2 .result) (c .before .before .before .before .if4 .left)) (c .before .before .before .total-size .result) (c .before .before .before .total-size .ensures) (c .before .before .if5 .left)
+    (sym (c .before .labels-rise .ensures) ∙ not-false (c .before .labels-rise .result) (c .if6 .left)) (kinds-of .result .records) (kinds-of .result .structs) (kinds-of .result .labels) (kinds-of .ensures .0) (kinds-of .ensures .1 .0) (kinds-of .ensures .1 .1)
 
 pub layout-size-spec : {M : Type 1} → statement M
 layout-size-spec =

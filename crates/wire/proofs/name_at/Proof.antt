@@ -23,7 +23,9 @@ returns-5 : tie.Need-returns-5
 returns-5 c = (name-open-at _ _ (omega arith) (c .before .before .before .before .before .before .before .before .before .wide .ensures .0) (omega arith) (c .before .before .before .before .before .text-fault .ensures) (c .before .before .before .before .if3 .left) (omega arith) (c .if5 .taken), refused)
 
 returns-6 : tie.Need-returns-6
-returns-6 c = (name-got-at _ _ (omega arith) (c .before .before .before .before .before .before .before .before .before .wide .ensures .0) (omega arith) (c .before .before .before .before .before .text-fault .ensures) (c .before .before .before .before .if3 .left) (omega arith) (c .if5 .left), past-mk (omega arith) (omega arith) (omega (arith, c .before .before .before .before .before .before .before .before .before .wide .ensures .1)))
+returns-6 c =
+    let wide = c .before .before .before .before .before .before .before .before .before .wide .ensures in
+    (name-got-at _ _ (omega arith) (wide .0) (omega arith) (c .before .before .before .before .before .text-fault .ensures) (c .before .before .before .before .if3 .left) (omega arith) (c .if5 .left), past-mk (omega arith) (omega arith) (omega (arith, wide .1)))
 
 pub name-at-spec : {M : Type 1} → statement M
 name-at-spec =

@@ -15,7 +15,10 @@ returns-2 : tie.Need-returns-2
 returns-2 c = (section-50 _ _ (sym (c .before .before .before .before .before .before .u16-at .ensures .0) ∙ c .before .before .before .before .value .given .1) (omega arith) (omega arith), outside)
 
 returns-3 : tie.Need-returns-3
-returns-3 c = (section-read _ _ (sym (c .before .before .before .before .before .before .u16-at .ensures .0) ∙ c .before .before .before .before .value .given .1) (omega arith) (omega arith), lies-mk (past-at (c .before .before .before .before .before .before .u16-at .ensures .1) (c .before .before .before .before .value .given .1) .0) (omega arith) (omega (arith, past-at (c .before .before .before .before .before .before .u16-at .ensures .1) (c .before .before .before .before .value .given .1) .1)))
+returns-3 c =
+    let u16-at = c .before .before .before .before .before .before .u16-at .ensures in
+    let value = c .before .before .before .before .value .given in
+    (section-read _ _ (sym (u16-at .0) ∙ value .1) (omega arith) (omega arith), lies-mk (past-at (u16-at .1) (value .1) .0) (omega arith) (omega (arith, past-at (u16-at .1) (value .1) .1)))
 
 returns-4 : tie.Need-returns-4
 returns-4 c = (section-short _ _ (sym (c .before .before .before .u16-at .ensures .0) ∙ c .before .why .given .1), outside)

@@ -1,5 +1,5 @@
 -- Each test that fails is a fault of the header, in its order; none is its acceptance. Assumes nothing.
-use mathlib.Core.Path.{_≡_, refl, sym, ap, _∙_}
+use mathlib.Core.Path.{sym, _∙_}
 use Rattle.block.specs.Block.{isSchema}
 use Rattle.block.proofs.HeaderLaws.{was, was-text, fault-0, fault-20, fault-21, fault-22, fault-23}
 use borrow.Author.Needs.{needs}
@@ -46,19 +46,29 @@ is-stype-requires : tie.Need-is-stype-requires
 is-stype-requires c κs = search needs
 
 returns : tie.Need-returns
-returns c = fault-0 (c .before .before .before .before .before .before .before .before .before .before .before .before .before .before .args .v) (c .before .before .before .before .before .before .before .before .before .before .before .before .before .before .args .block .now) (c .before .before .before .before .before .before .before .before .before .before .before .before .before .before .pre) (was-text (c .before .before .before .before .before .before .before .before .before .before .before .before .before .before .args .v .«dataset_cstr_len») (c .before .before .before .before .before .before .before .before .before .before .before .before .before .before .args .block .now) (c .before .before .before .before .before .before .before .before .before .before .before .is-utf8 .ensures) (c .before .before .before .before .before .before .before .before .before .before .if1 .taken)) (was isSchema (c .before .before .before .before .before .before .before .before .before .half .ensures .0) (c .before .before .before .before .before .before .before .before .is-schema .ensures) (c .before .before .before .before .before .before .before .if2 .taken)) (sym (c .before .before .before .before .is-stype-in .ensures) ∙ c .before .before .before .if3 .taken) (sym (c .before .is-stype .ensures) ∙ c .if4 .taken)
+returns c =
+    let start = c .before .before .before .before .before .before .before .before .before .before .before .before .before .before in
+    fault-0 (start .args .v) (start .args .block .now) (start .pre) (was-text (start .args .v .«dataset_cstr_len») (start .args .block .now) (c .before .before .before .before .before .before .before .before .before .before .before .is-utf8 .ensures) (c .before .before .before .before .before .before .before .before .before .before .if1 .taken)) (was isSchema (c .before .before .before .before .before .before .before .before .before .half .ensures .0) (c .before .before .before .before .before .before .before .before .is-schema .ensures) (c .before .before .before .before .before .before .before .if2 .taken)) (sym (c .before .before .before .before .is-stype-in .ensures) ∙ c .before .before .before .if3 .taken) (sym (c .before .is-stype .ensures) ∙ c .if4 .taken)
 
 returns-2 : tie.Need-returns-2
-returns-2 c = fault-23 (c .before .before .before .before .before .before .before .before .before .before .before .before .before .before .args .v) (c .before .before .before .before .before .before .before .before .before .before .before .before .before .before .args .block .now) (c .before .before .before .before .before .before .before .before .before .before .before .before .before .before .pre) (was-text (c .before .before .before .before .before .before .before .before .before .before .before .before .before .before .args .v .«dataset_cstr_len») (c .before .before .before .before .before .before .before .before .before .before .before .before .before .before .args .block .now) (c .before .before .before .before .before .before .before .before .before .before .before .is-utf8 .ensures) (c .before .before .before .before .before .before .before .before .before .before .if1 .taken)) (was isSchema (c .before .before .before .before .before .before .before .before .before .half .ensures .0) (c .before .before .before .before .before .before .before .before .is-schema .ensures) (c .before .before .before .before .before .before .before .if2 .taken)) (sym (c .before .before .before .before .is-stype-in .ensures) ∙ c .before .before .before .if3 .taken) (sym (c .before .is-stype .ensures) ∙ c .if4 .left)
+returns-2 c =
+    let start = c .before .before .before .before .before .before .before .before .before .before .before .before .before .before in
+    fault-23 (start .args .v) (start .args .block .now) (start .pre) (was-text (start .args .v .«dataset_cstr_len») (start .args .block .now) (c .before .before .before .before .before .before .before .before .before .before .before .is-utf8 .ensures) (c .before .before .before .before .before .before .before .before .before .before .if1 .taken)) (was isSchema (c .before .before .before .before .before .before .before .before .before .half .ensures .0) (c .before .before .before .before .before .before .before .before .is-schema .ensures) (c .before .before .before .before .before .before .before .if2 .taken)) (sym (c .before .before .before .before .is-stype-in .ensures) ∙ c .before .before .before .if3 .taken) (sym (c .before .is-stype .ensures) ∙ c .if4 .left)
 
 returns-3 : tie.Need-returns-3
-returns-3 c = fault-22 (c .before .before .before .before .before .before .before .before .before .before .before .args .v) (c .before .before .before .before .before .before .before .before .before .before .before .args .block .now) (c .before .before .before .before .before .before .before .before .before .before .before .pre) (was-text (c .before .before .before .before .before .before .before .before .before .before .before .args .v .«dataset_cstr_len») (c .before .before .before .before .before .before .before .before .before .before .before .args .block .now) (c .before .before .before .before .before .before .before .before .is-utf8 .ensures) (c .before .before .before .before .before .before .before .if1 .taken)) (was isSchema (c .before .before .before .before .before .before .half .ensures .0) (c .before .before .before .before .before .is-schema .ensures) (c .before .before .before .before .if2 .taken)) (sym (c .before .is-stype-in .ensures) ∙ c .if3 .left)
+returns-3 c =
+    let start = c .before .before .before .before .before .before .before .before .before .before .before in
+    fault-22 (start .args .v) (start .args .block .now) (start .pre) (was-text (start .args .v .«dataset_cstr_len») (start .args .block .now) (c .before .before .before .before .before .before .before .before .is-utf8 .ensures) (c .before .before .before .before .before .before .before .if1 .taken)) (was isSchema (c .before .before .before .before .before .before .half .ensures .0) (c .before .before .before .before .before .is-schema .ensures) (c .before .before .before .before .if2 .taken)) (sym (c .before .is-stype-in .ensures) ∙ c .if3 .left)
 
 returns-4 : tie.Need-returns-4
-returns-4 c = fault-21 (c .before .before .before .before .before .before .before .args .v) (c .before .before .before .before .before .before .before .args .block .now) (c .before .before .before .before .before .before .before .pre) (was-text (c .before .before .before .before .before .before .before .args .v .«dataset_cstr_len») (c .before .before .before .before .before .before .before .args .block .now) (c .before .before .before .before .is-utf8 .ensures) (c .before .before .before .if1 .taken)) (was isSchema (c .before .before .half .ensures .0) (c .before .is-schema .ensures) (c .if2 .left))
+returns-4 c =
+    let start = c .before .before .before .before .before .before .before in
+    fault-21 (start .args .v) (start .args .block .now) (start .pre) (was-text (start .args .v .«dataset_cstr_len») (start .args .block .now) (c .before .before .before .before .is-utf8 .ensures) (c .before .before .before .if1 .taken)) (was isSchema (c .before .before .half .ensures .0) (c .before .is-schema .ensures) (c .if2 .left))
 
 returns-5 : tie.Need-returns-5
-returns-5 c = fault-20 (c .before .before .before .before .args .v) (c .before .before .before .before .args .block .now) (c .before .before .before .before .pre) (was-text (c .before .before .before .before .args .v .«dataset_cstr_len») (c .before .before .before .before .args .block .now) (c .before .is-utf8 .ensures) (c .if1 .left))
+returns-5 c =
+    let start = c .before .before .before .before in
+    fault-20 (start .args .v) (start .args .block .now) (start .pre) (was-text (start .args .v .«dataset_cstr_len») (start .args .block .now) (c .before .is-utf8 .ensures) (c .if1 .left))
 
 pub check-header-spec : {M : Type 1} → statement M
 check-header-spec =

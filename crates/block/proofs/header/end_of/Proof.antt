@@ -1,5 +1,5 @@
 -- 0 and 2^64-1 are absent. Assumes nothing.
-use borrow.Author.Tests.{le-leb, lt-leb, eq-eqb, ne-eqb}
+use borrow.Author.Tests.{eq-eqb, ne-eqb}
 use borrow.Author.Needs.{needs}
 use Rattle.block.proofs.header.end_of.Statement.{statement}
 use Rattle.block.proofs.header.end_of.Tie as tie

@@ -1,6 +1,5 @@
 -- Each field is the number at its place in the header. Assumes nothing.
-use mathlib.Core.Path.{_≡_, refl, sym, ap, _∙_}
-use native.Mathlib.Omega.{arith}
+use mathlib.Core.Path.{ap, _∙_}
 use Rattle.block.specs.Fields.{schemaOf, endOf, limitOf, stypeInOf}
 use Rattle.block.proofs.HeaderLaws.{fields-are}
 use borrow.Author.Needs.{needs}
@@ -83,7 +82,9 @@ cast-t35 : tie.Need-cast-t35
 cast-t35 c = search needs
 
 returns : tie.Need-returns
-returns c = fields-are (c .before .before .before .before .before .before .before .before .before .before .before .before .before .before .before .before .before .args .v) (c .before .before .before .before .before .before .before .before .before .before .before .before .before .before .before .before .before .args .block .now) (c .before .before .before .before .before .before .before .before .before .before .before .before .before .before .before .before .before .pre) _ _ _ (c .before .before .before .before .before .before .before .before .before .trimmed-len .ensures) (c .before .before .before .before .before .before .before .before .present-unless .ensures ∙ ap schemaOf (c .before .before .before .before .before .before .before .before .before .before .before .before .before .half .ensures .0)) (c .before .before .before .before .before .before .before .long2 .ensures) (c .before .before .before .before .before .end-of .ensures ∙ ap endOf (c .before .before .before .before .before .before .long3 .ensures)) (c .before .before .before .before .present-unless2 .ensures ∙ ap limitOf (c .before .before .before .before .before .before .before .before .before .before .long .ensures)) (c .before .before .before .present-unless3 .ensures ∙ ap stypeInOf (c .before .before .before .before .before .before .before .before .before .before .before .wide .ensures .0)) (c .symbol-width .ensures)
+returns c =
+    let start = c .before .before .before .before .before .before .before .before .before .before .before .before .before .before .before .before .before in
+    fields-are (start .args .v) (start .args .block .now) (start .pre) _ _ _ (c .before .before .before .before .before .before .before .before .before .trimmed-len .ensures) (c .before .before .before .before .before .before .before .before .present-unless .ensures ∙ ap schemaOf (c .before .before .before .before .before .before .before .before .before .before .before .before .before .half .ensures .0)) (c .before .before .before .before .before .before .before .long2 .ensures) (c .before .before .before .before .before .end-of .ensures ∙ ap endOf (c .before .before .before .before .before .before .long3 .ensures)) (c .before .before .before .before .present-unless2 .ensures ∙ ap limitOf (c .before .before .before .before .before .before .before .before .before .before .long .ensures)) (c .before .before .before .present-unless3 .ensures ∙ ap stypeInOf (c .before .before .before .before .before .before .before .before .before .before .before .wide .ensures .0)) (c .symbol-width .ensures)
 
 pub fields-of-spec : {M : Type 1} → statement M
 fields-of-spec =

@@ -1,6 +1,5 @@
 -- The accepted codes, by comparison. Assumes nothing.
-use borrow.Author.Tests.{le-leb, lt-leb, eq-eqb, ne-eqb}
-use borrow.Author.Needs.{needs}
+use borrow.Author.Tests.{le-leb, lt-leb}
 use Rattle.block.proofs.header.is_schema.Statement.{statement}
 use Rattle.block.proofs.header.is_schema.Tie as tie
 

@@ -1,7 +1,6 @@
 -- One row for each version. Assumes nothing.
-use borrow.Author.Tests.{le-leb, lt-leb, eq-eqb, ne-eqb}
+use borrow.Author.Tests.{eq-eqb, ne-eqb}
 use Rattle.block.specs.Block.{lengths}
-use borrow.Author.Needs.{needs}
 use Rattle.block.proofs.header.lengths_of.Statement.{statement}
 use Rattle.block.proofs.header.lengths_of.Tie as tie
 

@@ -1,5 +1,4 @@
 -- A value is absent where it is the one that says so. Assumes nothing.
-use borrow.Author.Tests.{le-leb, lt-leb, eq-eqb, ne-eqb}
 use borrow.Author.Needs.{needs}
 use Rattle.block.proofs.header.present_unless.Statement.{statement}
 use Rattle.block.proofs.header.present_unless.Tie as tie

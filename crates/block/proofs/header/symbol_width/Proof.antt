@@ -1,5 +1,5 @@
 -- The width stands in front of the reserved bytes; a version without one has 22. Assumes nothing.
-use mathlib.Core.Path.{_≡_, refl, sym, ap, _∙_}
+use mathlib.Core.Path.{_≡_}
 use native.Mathlib.Omega.{arith}
 use Rattle.block.specs.Block.{widthOf}
 use Rattle.block.proofs.HeaderLaws.{of-header}
@@ -17,13 +17,17 @@ add-at-2 : tie.Need-add-at-2
 add-at-2 c = search needs
 
 half-requires : tie.Need-half-requires
-half-requires c κs = let t = c .before .before .before .before .before .pre .two (omega (arith, c .before .before .if1 .left)) in omega (arith, t, c .before .before .before .before .before .pre .total, c .before .before .before .before .before .pre .long)
+half-requires c κs =
+    let pre = c .before .before .before .before .before .pre in
+    let t = pre .two (omega (arith, c .before .before .if1 .left)) in omega (arith, t, pre .total, pre .long)
 
 cast-result : tie.Need-cast-result
 cast-result c = search needs
 
 returns-2 : tie.Need-returns-2
-returns-2 c = let t = c .before .before .before .before .before .before .pre .two (omega (arith, c .before .before .before .if1 .left)) in of-header (c .before .before .before .before .before .before .args .v) (c .before .before .before .before .before .before .args .block .now) (c .before .before .before .before .before .before .pre) (λ h. (c .half .result) ≡ widthOf (c .before .before .before .before .before .before .args .v) h) (rw t (c .half .ensures .0))
+returns-2 c =
+    let start = c .before .before .before .before .before .before in
+    let t = start .pre .two (omega (arith, c .before .before .before .if1 .left)) in of-header (start .args .v) (start .args .block .now) (start .pre) (λ h. (c .half .result) ≡ widthOf (start .args .v) h) (rw t (c .half .ensures .0))
 
 pub symbol-width-spec : {M : Type 1} → statement M
 symbol-width-spec =

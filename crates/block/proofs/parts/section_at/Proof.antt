@@ -1,5 +1,4 @@
 -- Version 4 has a length; below, the section is the rest. Assumes nothing.
-use mathlib.Core.Path.{_≡_, refl, sym, ap, _∙_}
 use native.Mathlib.Omega.{arith}
 use native.Mathlib.Nat.{le-refl}
 use Rattle.block.proofs.PartLaws.{within-mk, within-back}

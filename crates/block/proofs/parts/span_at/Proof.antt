@@ -24,10 +24,14 @@ sub-if2 : tie.Need-sub-if2
 sub-if2 c = search needs
 
 returns-2 : tie.Need-returns-2
-returns-2 c = (span-past _ _ _ _ (omega arith) (c .before .u32-of .ensures .0 ∙ sym (u32-is (c .before .before .before .before .args .block .now) (c .before .before .before .before .args .at))) (omega arith), outside-mk)
+returns-2 c =
+    let args = c .before .before .before .before .args in
+    (span-past _ _ _ _ (omega arith) (c .before .u32-of .ensures .0 ∙ sym (u32-is (args .block .now) (args .at))) (omega arith), outside-mk)
 
 returns-3 : tie.Need-returns-3
-returns-3 c = (span-part _ _ _ _ (omega arith) (c .before .u32-of .ensures .0 ∙ sym (u32-is (c .before .before .before .before .args .block .now) (c .before .before .before .before .args .at))) (omega arith), within-mk (le-refl _) (omega arith))
+returns-3 c =
+    let args = c .before .before .before .before .args in
+    (span-part _ _ _ _ (omega arith) (c .before .u32-of .ensures .0 ∙ sym (u32-is (args .block .now) (args .at))) (omega arith), within-mk (le-refl _) (omega arith))
 
 pub span-at-spec : {M : Type 1} → statement M
 span-at-spec =

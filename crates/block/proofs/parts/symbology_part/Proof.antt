@@ -19,7 +19,11 @@ part-part-end : tie.Need-part-part-end
 part-part-end c = omega (arith, (within-at (c .before .before .before .section-at .ensures .1) (c .before .start .given .1)))
 
 returns : tie.Need-returns
-returns c = symbology-reads _ (c .before .before .before .before .before .before .before .before .before .before .before .args .block .now) _ (c .before .before .before .before .before .before .before .before .before .before .before .pre .1) _ (sym (c .before .before .before .before .before .before .before .before .section-at .ensures .0) ∙ c .before .before .before .before .before .before .start .given .1) (within-at (c .before .before .before .before .before .before .before .before .section-at .ensures .1) (c .before .before .before .before .before .before .start .given .1)) (c .before .before .read-section-rows .ensures)
+returns c =
+    let start = c .before .before .before .before .before .before .before .before .before .before .before in
+    let section-at = c .before .before .before .before .before .before .before .before .section-at .ensures in
+    let start2 = c .before .before .before .before .before .before .start .given in
+    symbology-reads _ (start .args .block .now) _ (start .pre .1) _ (sym (section-at .0) ∙ start2 .1) (within-at (section-at .1) (start2 .1)) (c .before .before .read-section-rows .ensures)
 
 returns-2 : tie.Need-returns-2
 returns-2 c = symbology-cut _ (c .before .before .before .before .before .before .args .block .now) _ _ (sym (c .before .before .before .section-at .ensures .0) ∙ c .before .why .given .1)

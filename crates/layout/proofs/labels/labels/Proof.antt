@@ -30,7 +30,11 @@ same-length : tie.Need-same-length Inv-loop μ-loop
 same-length c = c .before .before .before .before .before .before .before .before .before .before .before .before .loop .inv .going .wide
 
 returns : tie.Need-returns Inv-loop μ-loop
-returns c = (going-no (c .before .before .before .before .before .before .before .before .before .before .before .before .loop .inv .going) (labels-55 _ _ _ _ _ (c .before .before .before .before .before .before .before .before .before .before .before .loop-test .taken) (sym (c .before .before .before .before .before .before .before .before .before .before .u16-at .ensures .0) ∙ c .before .before .before .before .before .before .before .before .x .given .1) (sym (c .before .before .before .before .before .before .name-at .ensures .0) ∙ c .before .before .before .before .l .given .1) (sym (c .before .before .before .before .before .before .before .before .before .before .before .before .loop .inv .marks .right _ (past-at (c .before .before .before .before .before .before .before .before .before .before .u16-at .ensures .1) (c .before .before .before .before .before .before .before .before .x .given .1) .2)) ∙ sym (c .before .is-marked .ensures) ∙ c .if1 .taken)), tt)
+returns c =
+    let inv = c .before .before .before .before .before .before .before .before .before .before .before .before .loop .inv in
+    let u16-at = c .before .before .before .before .before .before .before .before .before .before .u16-at .ensures in
+    let x = c .before .before .before .before .before .before .before .before .x .given in
+    (going-no (inv .going) (labels-55 _ _ _ _ _ (c .before .before .before .before .before .before .before .before .before .before .before .loop-test .taken) (sym (u16-at .0) ∙ x .1) (sym (c .before .before .before .before .before .before .name-at .ensures .0) ∙ c .before .before .before .before .l .given .1) (sym (inv .marks .right _ (past-at (u16-at .1) (x .1) .2)) ∙ sym (c .before .is-marked .ensures) ∙ c .if1 .taken)), tt)
 
 add-label-row : tie.Need-add-label-row Inv-loop μ-loop
 add-label-row c = omega (arith, past-at (c .before .before .before .before .before .before .before .before .name-at .ensures .1) (c .before .before .before .before .before .before .l .given .1))
@@ -52,14 +56,20 @@ loop-less c = omega arith
 
 loop-again : tie.Need-loop-again Inv-loop μ-loop
 loop-again c =
-    let w = label-place _ _ (sym (c .before .before .before .before .before .before .before .before .before .before .before .before .before .before .before .before .before .before .u16-at .ensures .0) ∙ c .before .before .before .before .before .before .before .before .before .before .before .before .before .before .before .before .x .given .1) (sym (c .before .before .before .before .before .before .before .before .before .before .before .before .before .before .name-at .ensures .0) ∙ c .before .before .before .before .before .before .before .before .before .before .before .before .l .given .1) (past-at (c .before .before .before .before .before .before .before .before .before .before .before .before .before .before .name-at .ensures .1) (c .before .before .before .before .before .before .before .before .before .before .before .before .l .given .1) .1) in
-    let free = sym (c .before .before .before .before .before .before .before .before .before .before .before .before .before .before .before .before .before .before .before .before .loop .inv .marks .right _ (past-at (c .before .before .before .before .before .before .before .before .before .before .before .before .before .before .before .before .before .before .u16-at .ensures .1) (c .before .before .before .before .before .before .before .before .before .before .before .before .before .before .before .before .x .given .1) .2)) ∙ sym (c .before .before .before .before .before .before .before .before .before .is-marked .ensures) ∙ c .before .before .before .before .before .before .before .before .if1 .left in
+    let inv = c .before .before .before .before .before .before .before .before .before .before .before .before .before .before .before .before .before .before .before .before .loop .inv in
+    let loop-test = c .before .before .before .before .before .before .before .before .before .before .before .before .before .before .before .before .before .before .before .loop-test in
+    let u16-at = c .before .before .before .before .before .before .before .before .before .before .before .before .before .before .before .before .before .before .u16-at .ensures in
+    let x = c .before .before .before .before .before .before .before .before .before .before .before .before .before .before .before .before .x .given in
+    let name-at = c .before .before .before .before .before .before .before .before .before .before .before .before .before .before .name-at .ensures in
+    let l = c .before .before .before .before .before .before .before .before .before .before .before .before .l .given in
+    let w = label-place _ _ (sym (u16-at .0) ∙ x .1) (sym (name-at .0) ∙ l .1) (past-at (name-at .1) (l .1) .1) in
+    let free = sym (inv .marks .right _ (past-at (u16-at .1) (x .1) .2)) ∙ sym (c .before .before .before .before .before .before .before .before .before .is-marked .ensures) ∙ c .before .before .before .before .before .before .before .before .if1 .left in
     record {
       seen = _;
-      going = going-row (c .before .before .before .before .before .before .before .before .before .before .before .before .before .before .before .before .before .before .before .before .loop .inv .going) (labels-row _ _ _ _ _ (c .before .before .before .before .before .before .before .before .before .before .before .before .before .before .before .before .before .before .before .loop-test .taken) (sym (c .before .before .before .before .before .before .before .before .before .before .before .before .before .before .before .before .before .before .u16-at .ensures .0) ∙ c .before .before .before .before .before .before .before .before .before .before .before .before .before .before .before .before .x .given .1) (sym (c .before .before .before .before .before .before .before .before .before .before .before .before .before .before .name-at .ensures .0) ∙ c .before .before .before .before .before .before .before .before .before .before .before .before .l .given .1) free)
-          (put-as (c .before .before .before .before .before .label-row .ensures) (c .before .before .put-row .ensures)) (c .before .before .put-row .kept .0) (omega (arith, past-at (c .before .before .before .before .before .before .before .before .before .before .before .before .before .before .before .before .before .before .u16-at .ensures .1) (c .before .before .before .before .before .before .before .before .before .before .before .before .before .before .before .before .x .given .1), past-at (c .before .before .before .before .before .before .before .before .before .before .before .before .before .before .name-at .ensures .1) (c .before .before .before .before .before .before .before .before .before .before .before .before .l .given .1), c .before .before .before .before .before .before .before .before .before .before .before .before .before .before .before .before .before .before .before .before .loop .inv .going));
-      marks = rw (c .before .before .before .before .before .before .mark .ensures) (marks-more _ _ _ (past-at (c .before .before .before .before .before .before .before .before .before .before .before .before .before .before .before .before .before .before .u16-at .ensures .1) (c .before .before .before .before .before .before .before .before .before .before .before .before .before .before .before .before .x .given .1) .2) (c .before .before .before .before .before .before .before .before .before .before .before .before .before .before .before .before .before .before .before .before .loop .inv .marks));
-      trail = trail-next _ (c .before .before .before .before .before .before .before .before .before .before .before .before .before .before .before .before .before .before .before .before .loop .inv .trail) (c .before .before .before .before .before .before .before .before .before .before .before .before .before .before .before .before .before .before .before .loop-test .taken) (w .0) (w .1) (past-at (c .before .before .before .before .before .before .before .before .before .before .before .before .before .before .name-at .ensures .1) (c .before .before .before .before .before .before .before .before .before .before .before .before .l .given .1) .1);
+      going = going-row (inv .going) (labels-row _ _ _ _ _ (loop-test .taken) (sym (u16-at .0) ∙ x .1) (sym (name-at .0) ∙ l .1) free)
+          (put-as (c .before .before .before .before .before .label-row .ensures) (c .before .before .put-row .ensures)) (c .before .before .put-row .kept .0) (omega (arith, past-at (u16-at .1) (x .1), past-at (name-at .1) (l .1), inv .going));
+      marks = rw (c .before .before .before .before .before .before .mark .ensures) (marks-more _ _ _ (past-at (u16-at .1) (x .1) .2) (inv .marks));
+      trail = trail-next _ (inv .trail) (loop-test .taken) (w .0) (w .1) (past-at (name-at .1) (l .1) .1);
     }
 
 same-length-2 : tie.Need-same-length-2 Inv-loop μ-loop

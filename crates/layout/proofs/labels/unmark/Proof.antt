@@ -40,7 +40,9 @@ loop-less : tie.Need-loop-less Inv-loop μ-loop
 loop-less c = omega arith
 
 loop-again : tie.Need-loop-again Inv-loop μ-loop
-loop-again c = rw (c .before .before .wide .ensures .0, c .wipe .ensures, c .before .before .before .before .half .ensures .0) (codes-next (c .before .before .before .before .before .before .loop .inv) (c .before .before .before .before .before .loop-test .taken) (omega (arith, c .before .before .before .before .half .ensures)))
+loop-again c =
+    let half = c .before .before .before .before .half .ensures in
+    rw (c .before .before .wide .ensures .0, c .wipe .ensures, half .0) (codes-next (c .before .before .before .before .before .before .loop .inv) (c .before .before .before .before .before .loop-test .taken) (omega (arith, half)))
 
 returns : tie.Need-returns Inv-loop μ-loop
 returns c = codes-end (c .before .loop .inv) (c .loop-test .left)

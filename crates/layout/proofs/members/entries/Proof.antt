@@ -27,8 +27,10 @@ add-k c = omega (arith, past-at (c .before .before .before .before .before .befo
 
 loop-again : tie.Need-loop-again Inv-loop μ-loop
 loop-again c =
-    going-row (c .before .before .before .before .before .before .before .before .before .before .before .before .loop .inv) (entries-row _ _ _ _ (sym D-is) (c .before .before .before .before .before .before .before .before .before .before .before .loop-test .taken) (sym (c .before .before .before .before .before .before .before .before .before .before .take .ensures .0) ∙ c .before .before .before .before .before .before .before .before .next .given .1))
-    (put-as (c .before .before .before .before .before .entry-row .ensures ∙ ap (λ (b : List ℕ). headRow b) (c .before .before .before .before .before .before .entry-bytes .ensures)) (c .before .before .put-row .ensures)) (c .before .before .put-row .kept .0) (omega (arith, past-at (c .before .before .before .before .before .before .before .before .before .before .take .ensures .1) (c .before .before .before .before .before .before .before .before .next .given .1)))
+    let take = c .before .before .before .before .before .before .before .before .before .before .take .ensures in
+    let next = c .before .before .before .before .before .before .before .before .next .given in
+    going-row (c .before .before .before .before .before .before .before .before .before .before .before .before .loop .inv) (entries-row _ _ _ _ (sym D-is) (c .before .before .before .before .before .before .before .before .before .before .before .loop-test .taken) (sym (take .0) ∙ next .1))
+    (put-as (c .before .before .before .before .before .entry-row .ensures ∙ ap (λ (b : List ℕ). headRow b) (c .before .before .before .before .before .before .entry-bytes .ensures)) (c .before .before .put-row .ensures)) (c .before .before .put-row .kept .0) (omega (arith, past-at (take .1) (next .1)))
 
 same-length : tie.Need-same-length Inv-loop μ-loop
 same-length c = c .before .before .before .before .before .loop .inv .wide

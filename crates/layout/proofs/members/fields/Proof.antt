@@ -9,10 +9,14 @@ use Rattle.layout.proofs.members.fields.Statement.{statement}
 use Rattle.layout.proofs.members.fields.Tie as tie
 
 entries-requires : tie.Need-entries-requires
-entries-requires c κs = record { small = c .before .before .before .before .before .before .before .pre .small; few = omega (arith, past-at (c .before .before .before .before .u16-at .ensures .1) (c .before .before .value .given .1)); inside = past-at (c .before .before .before .before .u16-at .ensures .1) (c .before .before .value .given .1) .1 }
+entries-requires c κs =
+    let u16-at = c .before .before .before .before .u16-at .ensures in
+    record { small = c .before .before .before .before .before .before .before .pre .small; few = omega (arith, past-at (u16-at .1) (c .before .before .value .given .1)); inside = past-at (u16-at .1) (c .before .before .value .given .1) .1 }
 
 names-requires : tie.Need-names-requires
-names-requires c κs = record { small = c .before .before .before .before .before .before .before .before .before .before .before .before .before .before .pre .small; few = ran-at (c .before .before .before .before .before .before .entries .ensures) (c .before .before .m .given .1) .0; inside = ran-at (c .before .before .before .before .before .before .entries .ensures) (c .before .before .m .given .1) .1 }
+names-requires c κs =
+    let entries = c .before .before .before .before .before .before .entries .ensures in
+    record { small = c .before .before .before .before .before .before .before .before .before .before .before .before .before .before .pre .small; few = ran-at entries (c .before .before .m .given .1) .0; inside = ran-at entries (c .before .before .m .given .1) .1 }
 
 returns : tie.Need-returns
 returns c =

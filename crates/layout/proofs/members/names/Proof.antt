@@ -32,8 +32,10 @@ add-k c = omega (arith, past-at (c .before .before .before .before .before .befo
 
 loop-again : tie.Need-loop-again Inv-loop μ-loop
 loop-again c =
-    going-row (c .before .before .before .before .before .before .before .before .before .before .before .loop .inv) (names-row _ _ _ _ (c .before .before .before .before .before .before .before .before .before .before .loop-test .taken) (sym (c .before .before .before .before .before .before .before .before .before .name-at .ensures .0) ∙ c .before .before .before .before .before .before .before .value .given .1))
-    (put-as (c .before .before .before .before .before .name-row .ensures) (c .before .before .put-row .ensures)) (c .before .before .put-row .kept .0) (omega (arith, past-at (c .before .before .before .before .before .before .before .before .before .name-at .ensures .1) (c .before .before .before .before .before .before .before .value .given .1)))
+    let name-at = c .before .before .before .before .before .before .before .before .before .name-at .ensures in
+    let value = c .before .before .before .before .before .before .before .value .given in
+    going-row (c .before .before .before .before .before .before .before .before .before .before .before .loop .inv) (names-row _ _ _ _ (c .before .before .before .before .before .before .before .before .before .before .loop-test .taken) (sym (name-at .0) ∙ value .1))
+    (put-as (c .before .before .before .before .before .name-row .ensures) (c .before .before .put-row .ensures)) (c .before .before .put-row .kept .0) (omega (arith, past-at (name-at .1) (value .1)))
 
 same-length : tie.Need-same-length Inv-loop μ-loop
 same-length c = c .before .before .before .before .before .loop .inv .wide

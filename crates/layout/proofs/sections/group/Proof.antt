@@ -9,7 +9,9 @@ use Rattle.layout.proofs.sections.group.Statement.{statement}
 use Rattle.layout.proofs.sections.group.Tie as tie
 
 sections-requires : tie.Need-sections-requires
-sections-requires c κs = (omega (arith, past-at (c .before .before .before .before .before .u16-at .ensures .1) (c .before .before .before .value .given .1), c .before .before .before .before .before .before .before .before .pre .0), c .before .before .before .before .before .before .before .before .pre .1)
+sections-requires c κs =
+    let pre = c .before .before .before .before .before .before .before .before .pre in
+    (omega (arith, past-at (c .before .before .before .before .before .u16-at .ensures .1) (c .before .before .before .value .given .1), pre .0), pre .1)
 
 returns : tie.Need-returns
 unfolding groupAt

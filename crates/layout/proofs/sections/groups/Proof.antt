@@ -12,13 +12,15 @@ group-requires c κs = (c .before .before .before .before .pre, marks-none)
 
 group-requires-2 : tie.Need-group-requires-2
 group-requires-2 c κs =
-    let w = ran-at (c .before .before .before .before .before .before .before .group .ensures .0) (c .before .before .before .a .given .1) in
-    (record { small = c .before .before .before .before .before .before .before .before .before .before .before .before .pre .small; few = w .0; inside = w .1 }, cleared-at (c .before .before .before .before .before .before .before .group .ensures .1) (c .before .before .before .a .given .1))
+    let group = c .before .before .before .before .before .before .before .group .ensures in
+    let w = ran-at (group .0) (c .before .before .before .a .given .1) in
+    (record { small = c .before .before .before .before .before .before .before .before .before .before .before .before .pre .small; few = w .0; inside = w .1 }, cleared-at (group .1) (c .before .before .before .a .given .1))
 
 group-requires-3 : tie.Need-group-requires-3
 group-requires-3 c κs =
-    let w = ran-at (c .before .before .before .before .before .before .before .group2 .ensures .0) (c .before .before .before .b .given .1) in
-    (record { small = c .before .before .before .before .before .before .before .before .before .before .before .before .before .before .before .before .before .before .before .before .pre .small; few = w .0; inside = w .1 }, cleared-at (c .before .before .before .before .before .before .before .group2 .ensures .1) (c .before .before .before .b .given .1))
+    let group2 = c .before .before .before .before .before .before .before .group2 .ensures in
+    let w = ran-at (group2 .0) (c .before .before .before .b .given .1) in
+    (record { small = c .before .before .before .before .before .before .before .before .before .before .before .before .before .before .before .before .before .before .before .before .pre .small; few = w .0; inside = w .1 }, cleared-at (group2 .1) (c .before .before .before .b .given .1))
 
 returns : tie.Need-returns
 returns c = ran-is (groups-is _ _) (ran-seq (c .before .before .before .before .before .before .before .before .before .before .before .before .before .before .before .before .before .before .group .ensures .0) _ (c .before .before .before .before .before .before .before .before .before .before .before .before .before .before .a .given .1) (ran-seq (c .before .before .before .before .before .before .before .before .before .before .group2 .ensures .0) _ (c .before .before .before .before .before .before .b .given .1) (c .before .before .group3 .ensures .0)))

@@ -12,7 +12,9 @@ label-def-row-requires : tie.Need-label-def-row-requires
 label-def-row-requires c κs = omega (arith, past-at (c .before .before .before .u16-at .ensures .1) (c .before .count .given .1), past-at (c .before .before .before .before .before .before .before .name-at .ensures .1) (c .before .before .before .before .before .len .given .1))
 
 labels-requires : tie.Need-labels-requires
-labels-requires c κs = (omega (arith, past-at (c .before .before .before .before .before .before .before .before .before .before .before .u16-at .ensures .1) (c .before .before .before .before .before .before .before .before .before .count .given .1), past-at (c .before .before .before .before .before .before .before .before .before .before .before .before .before .before .before .name-at .ensures .1) (c .before .before .before .before .before .before .before .before .before .before .before .before .before .len .given .1), c .before .before .before .before .before .before .before .before .before .before .before .before .before .before .before .before .before .before .pre .0), c .before .before .before .before .before .before .before .before .before .before .before .before .before .before .before .before .before .before .pre .1)
+labels-requires c κs =
+    let pre = c .before .before .before .before .before .before .before .before .before .before .before .before .before .before .before .before .before .before .pre in
+    (omega (arith, past-at (c .before .before .before .before .before .before .before .before .before .before .before .u16-at .ensures .1) (c .before .before .before .before .before .before .before .before .before .count .given .1), past-at (c .before .before .before .before .before .before .before .before .before .before .before .before .before .before .before .name-at .ensures .1) (c .before .before .before .before .before .before .before .before .before .before .before .before .before .len .given .1), pre .0), pre .1)
 
 returns : tie.Need-returns
 returns c = (

@@ -33,8 +33,9 @@ part-part-end c = omega (arith, lies-at (c .before .before .before .section-at .
 
 body-requires : tie.Need-body-requires Inv-loop μ-loop
 body-requires c κs =
+    let inv = c .before .before .before .before .before .before .before .before .loop .inv in
     let w = lies-at (c .before .before .before .before .before .before .section-at .ensures .1) (c .before .before .before .before .b .given .1) in
-    (part-room _ _ _ (c .before .before .before .before .before .before .before .before .before .before .before .pre .0 .small) (omega (arith, c .before .before .before .before .before .before .before .before .loop .inv .0)) (w .1) (w .2), c .before .before .before .before .before .before .before .before .loop .inv .1)
+    (part-room _ _ _ (c .before .before .before .before .before .before .before .before .before .before .before .pre .0 .small) (omega (arith, inv .0)) (w .1) (w .2), inv .1)
 
 sub-todo : tie.Need-sub-todo Inv-loop μ-loop
 sub-todo c = omega arith
@@ -44,10 +45,13 @@ loop-less c = omega arith
 
 loop-again : tie.Need-loop-again Inv-loop μ-loop
 loop-again c =
-    let w = lies-at (c .before .before .before .before .before .before .before .before .before .before .before .before .section-at .ensures .1) (c .before .before .before .before .before .before .before .before .before .before .b .given .1) in (
-      going-run (c .before .before .before .before .before .before .before .before .before .before .before .before .before .before .loop .inv .0) _ (sections-run _ _ _ _ (c .before .before .before .before .before .before .before .before .before .before .before .before .before .loop-test .taken) (sym (c .before .before .before .before .before .before .before .before .before .before .before .before .section-at .ensures .0) ∙ c .before .before .before .before .before .before .before .before .before .before .b .given .1))
-          (c .before .before .before .before .before .body .ensures .0) (c .before .m .given .1) (c .before .before .before .before .before .body .kept .1 .1 .1 .0) (part-few _ _ _ (ran-at (c .before .before .before .before .before .body .ensures .0) (c .before .m .given .1)) (w .1) (w .2)),
-      cleared-at (c .before .before .before .before .before .body .ensures .1) (c .before .m .given .1),
+    let section-at = c .before .before .before .before .before .before .before .before .before .before .before .before .section-at .ensures in
+    let b = c .before .before .before .before .before .before .before .before .before .before .b .given in
+    let body = c .before .before .before .before .before .body in
+    let w = lies-at (section-at .1) (b .1) in (
+      going-run (c .before .before .before .before .before .before .before .before .before .before .before .before .before .before .loop .inv .0) _ (sections-run _ _ _ _ (c .before .before .before .before .before .before .before .before .before .before .before .before .before .loop-test .taken) (sym (section-at .0) ∙ b .1))
+          (body .ensures .0) (c .before .m .given .1) (body .kept .1 .1 .1 .0) (part-few _ _ _ (ran-at (body .ensures .0) (c .before .m .given .1)) (w .1) (w .2)),
+      cleared-at (body .ensures .1) (c .before .m .given .1),
     )
 
 same-length : tie.Need-same-length Inv-loop μ-loop

@@ -18,11 +18,16 @@ returns-2 c = simp (sym (c .before .before .before .row-fits .ensures) ∙ not-f
 
 returns-3 : tie.Need-returns-3
 unfolding rowGood both
-returns-3 c = simp (sym (c .before .before .before .before .before .row-fits .ensures) ∙ not-false (c .before .before .before .before .before .row-fits .result) (c .before .before .before .before .if1 .left), sym (c .before .before .before .count-fits .ensures) ∙ not-false (c .before .before .before .count-fits .result) (c .before .before .if2 .left), sym (c .before .name-short .ensures) ∙ not-true (c .before .name-short .result) (c .if3 .taken))
+returns-3 c =
+    let row-fits = c .before .before .before .before .before .row-fits in
+    simp (sym (row-fits .ensures) ∙ not-false (row-fits .result) (c .before .before .before .before .if1 .left), sym (c .before .before .before .count-fits .ensures) ∙ not-false (c .before .before .before .count-fits .result) (c .before .before .if2 .left), sym (c .before .name-short .ensures) ∙ not-true (c .before .name-short .result) (c .if3 .taken))
 
 returns-4 : tie.Need-returns-4
 unfolding rowGood both
-returns-4 c = c .name-clean .ensures ∙ simp (sym (c .before .before .before .before .before .before .row-fits .ensures) ∙ not-false (c .before .before .before .before .before .before .row-fits .result) (c .before .before .before .before .before .if1 .left), sym (c .before .before .before .before .count-fits .ensures) ∙ not-false (c .before .before .before .before .count-fits .result) (c .before .before .before .if2 .left), sym (c .before .before .name-short .ensures) ∙ not-false (c .before .before .name-short .result) (c .before .if3 .left))
+returns-4 c =
+    let row-fits = c .before .before .before .before .before .before .row-fits in
+    let count-fits = c .before .before .before .before .count-fits in
+    c .name-clean .ensures ∙ simp (sym (row-fits .ensures) ∙ not-false (row-fits .result) (c .before .before .before .before .before .if1 .left), sym (count-fits .ensures) ∙ not-false (count-fits .result) (c .before .before .before .if2 .left), sym (c .before .before .name-short .ensures) ∙ not-false (c .before .before .name-short .result) (c .before .if3 .left))
 
 pub row-good-spec : {M : Type 1} → statement M
 row-good-spec =

@@ -19,16 +19,25 @@ loop-holds : tie.Need-loop-holds Inv-loop μ-loop
 loop-holds c = refl
 
 returns : tie.Need-returns Inv-loop μ-loop
-returns c = sym (walk-no (c .before .before .before .before .before .before .args .kind) (now (c .before .before .before .before .before .before .args .rows)) (now (c .before .before .before .before .before .before .args .text)) (c .before .before .before .loop .p) (c .before .before .before .loop .todo) (c .before .before .loop-test .taken) (sym (c .before .section-in-place .ensures) ∙ not-true (c .before .section-in-place .result) (c .if1 .taken))) ∙ c .before .before .before .loop .inv
+returns c =
+    let args = c .before .before .before .before .before .before .args in
+    sym (walk-no (args .kind) (now (args .rows)) (now (args .text)) (c .before .before .before .loop .p) (c .before .before .before .loop .todo) (c .before .before .loop-test .taken) (sym (c .before .section-in-place .ensures) ∙ not-true (c .before .section-in-place .result) (c .if1 .taken))) ∙ c .before .before .before .loop .inv
 
 next-section-requires : tie.Need-next-section-requires Inv-loop μ-loop
-next-section-requires c κs = own-row-in-place (c .before .before .before .before .before .before .args .kind) (now (c .before .before .before .before .before .before .args .rows)) (now (c .before .before .before .before .before .before .args .text)) (c .before .before .before .loop .p) (sym (c .before .section-in-place .ensures) ∙ not-false (c .before .section-in-place .result) (c .if1 .left))
+next-section-requires c κs =
+    let args = c .before .before .before .before .before .before .args in
+    own-row-in-place (args .kind) (now (args .rows)) (now (args .text)) (c .before .before .before .loop .p) (sym (c .before .section-in-place .ensures) ∙ not-false (c .before .section-in-place .result) (c .if1 .left))
 
 loop-again : tie.Need-loop-again Inv-loop μ-loop
-loop-again c = rw (c .next-section .ensures) (sym (walk-yes (c .before .before .before .before .before .before .before .args .kind) (now (c .before .before .before .before .before .before .before .args .rows)) (now (c .before .before .before .before .before .before .before .args .text)) (c .before .before .before .before .loop .p) (c .before .before .before .before .loop .todo) (c .before .before .before .loop-test .taken) (sym (c .before .before .section-in-place .ensures) ∙ not-false (c .before .before .section-in-place .result) (c .before .if1 .left))) ∙ c .before .before .before .before .loop .inv)
+loop-again c =
+    let args = c .before .before .before .before .before .before .before .args in
+    let loop = c .before .before .before .before .loop in
+    rw (c .next-section .ensures) (sym (walk-yes (args .kind) (now (args .rows)) (now (args .text)) (loop .p) (loop .todo) (c .before .before .before .loop-test .taken) (sym (c .before .before .section-in-place .ensures) ∙ not-false (c .before .before .section-in-place .result) (c .before .if1 .left))) ∙ loop .inv)
 
 returns-2 : tie.Need-returns-2 Inv-loop μ-loop
-returns-2 c = sym (walk-none (c .before .before .before .before .args .kind) (now (c .before .before .before .before .args .rows)) (now (c .before .before .before .before .args .text)) (c .before .loop .p) (c .before .loop .todo) (c .loop-test .left)) ∙ c .before .loop .inv
+returns-2 c =
+    let args = c .before .before .before .before .args in
+    sym (walk-none (args .kind) (now (args .rows)) (now (args .text)) (c .before .loop .p) (c .before .loop .todo) (c .loop-test .left)) ∙ c .before .loop .inv
 
 pub walk-sections-spec : {M : Type 1} → statement M
 walk-sections-spec =

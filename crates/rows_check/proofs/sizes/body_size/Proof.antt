@@ -15,7 +15,8 @@ names-size-requires c κs =
 
 returns : tie.Need-returns
 returns c =
-    c .names-size .ensures ∙ rw (c .before .add-to .ensures, c .before .before .before .nameless-size .ensures .0, c .before .before .cell-of .ensures .0, c .before .before .before .before .before .names-from .ensures .0, c .before .before .before .before .count-of .ensures .0, body-length (c .before .before .before .before .before .before .before .before .args .kind) (now (c .before .before .before .before .before .before .before .before .args .rows)) (now (c .before .before .before .before .before .before .before .before .args .text)) (c .before .before .before .before .before .before .before .before .args .q) (c .before .before .before .before .before .before .before .before .pre .1)) (omega arith)
+    let start = c .before .before .before .before .before .before .before .before in
+    c .names-size .ensures ∙ rw (c .before .add-to .ensures, c .before .before .before .nameless-size .ensures .0, c .before .before .cell-of .ensures .0, c .before .before .before .before .before .names-from .ensures .0, c .before .before .before .before .count-of .ensures .0, body-length (start .args .kind) (now (start .args .rows)) (now (start .args .text)) (start .args .q) (start .pre .1)) (omega arith)
 
 pub body-size-spec : {M : Type 1} → statement M
 body-size-spec =

@@ -25,7 +25,8 @@ loop-holds c = (search needs, refl, c .before .before .pre .0, refl)
 
 loop-again : tie.Need-loop-again Inv-loop μ-loop
 loop-again c =
-    let h = name-length (now (c .before .before .before .before .before .before .args .rows)) (now (c .before .before .before .before .before .before .args .text)) (c .before .before .before .loop .p) (c .before .before .before .before .before .before .pre .1 .1 (c .before .before .before .loop .p) (omega arith) (omega arith)) in
+    let start = c .before .before .before .before .before .before in
+    let h = name-length (now (start .args .rows)) (now (start .args .text)) (c .before .before .before .loop .p) (start .pre .1 .1 (c .before .before .before .loop .p) (omega arith) (omega arith)) in
     (search needs, search needs, omega arith, rw (c .add-to .ensures) (sizes-next _ _ _ _ _ _ (c .before .before .loop-test .taken) (omega (arith, h))) ∙ c .before .before .before .loop .inv .3)
 
 returns : tie.Need-returns Inv-loop μ-loop

@@ -27,22 +27,28 @@ loop-holds c = (c .before .before .pre .1, refl, c .before .before .pre .0, refl
 
 body-size-requires : tie.Need-body-size-requires Inv-loop μ-loop
 body-size-requires c κs =
-    let s = sections-next (c .before .before .before .before .args .kind) (now (c .before .before .before .before .args .rows)) (now (c .before .before .before .before .args .text)) (c .before .loop .p) (c .before .loop .todo) (c .loop-test .taken) (c .before .loop .inv .0) in
+    let args = c .before .before .before .before .args in
+    let s = sections-next (args .kind) (now (args .rows)) (now (args .text)) (c .before .loop .p) (c .before .loop .todo) (c .loop-test .taken) (c .before .loop .inv .0) in
     (own-row-inside _ _ _ _ (s .0), s .0)
 
 next-section-requires : tie.Need-next-section-requires Inv-loop μ-loop
 next-section-requires c κs =
-    let s = sections-next (c .before .before .before .before .before .before .args .kind) (now (c .before .before .before .before .before .before .args .rows)) (now (c .before .before .before .before .before .before .args .text)) (c .before .before .before .loop .p) (c .before .before .before .loop .todo) (c .before .before .loop-test .taken) (c .before .before .before .loop .inv .0) in
+    let args = c .before .before .before .before .before .before .args in
+    let s = sections-next (args .kind) (now (args .rows)) (now (args .text)) (c .before .before .before .loop .p) (c .before .before .before .loop .todo) (c .before .before .loop-test .taken) (c .before .before .before .loop .inv .0) in
     own-row-inside _ _ _ _ (s .0)
 
 loop-again : tie.Need-loop-again Inv-loop μ-loop
 loop-again c =
-    let s = sections-next (c .before .before .before .before .before .before .before .args .kind) (now (c .before .before .before .before .before .before .before .args .rows)) (now (c .before .before .before .before .before .before .before .args .text)) (c .before .before .before .before .loop .p) (c .before .before .before .before .loop .todo) (c .before .before .before .loop-test .taken) (c .before .before .before .before .loop .inv .0) in
+    let args = c .before .before .before .before .before .before .before .args in
+    let loop = c .before .before .before .before .loop in
+    let s = sections-next (args .kind) (now (args .rows)) (now (args .text)) (loop .p) (loop .todo) (c .before .before .before .loop-test .taken) (loop .inv .0) in
     rw (c .next-section .ensures)
-    (s .1, sym (skip-next (c .before .before .before .before .before .before .before .args .kind) (now (c .before .before .before .before .before .before .before .args .rows)) (c .before .before .before .before .loop .p) (c .before .before .before .before .loop .todo) (c .before .before .before .loop-test .taken)) ∙ c .before .before .before .before .loop .inv .1, rw (c .before .add-section .ensures) (size-le (leb (c .before .before .body-size .result + 2) 65535) (c .before .before .before .before .loop .s + (c .before .before .body-size .result + 2))), section-step (c .before .before .before .before .before .before .before .args .kind) (now (c .before .before .before .before .before .before .before .args .rows)) (now (c .before .before .before .before .before .before .before .args .text)) (c .before .before .before .before .loop .p) (c .before .before .before .before .loop .todo) (c .before .before .before .before .loop .s) (c .before .before .body-size .result) (c .before .add-section .result) (c .before .before .before .loop-test .taken) (c .before .before .body-size .ensures) (c .before .add-section .ensures) ∙ c .before .before .before .before .loop .inv .3)
+    (s .1, sym (skip-next (args .kind) (now (args .rows)) (loop .p) (loop .todo) (c .before .before .before .loop-test .taken)) ∙ loop .inv .1, rw (c .before .add-section .ensures) (size-le (leb (c .before .before .body-size .result + 2) 65535) (loop .s + (c .before .before .body-size .result + 2))), section-step (args .kind) (now (args .rows)) (now (args .text)) (loop .p) (loop .todo) (loop .s) (c .before .before .body-size .result) (c .before .add-section .result) (c .before .before .before .loop-test .taken) (c .before .before .body-size .ensures) (c .before .add-section .ensures) ∙ loop .inv .3)
 
 returns : tie.Need-returns Inv-loop μ-loop
-returns c = (section-done (c .before .before .before .before .args .kind) (now (c .before .before .before .before .args .rows)) (now (c .before .before .before .before .args .text)) (c .before .loop .p) (c .before .loop .todo) _ (c .loop-test .left) (c .before .loop .inv .2) ∙ c .before .loop .inv .3, sym (skip-none (c .before .before .before .before .args .kind) (now (c .before .before .before .before .args .rows)) (c .before .loop .p) (c .before .loop .todo) (c .loop-test .left)) ∙ c .before .loop .inv .1)
+returns c =
+    let args = c .before .before .before .before .args in
+    (section-done (args .kind) (now (args .rows)) (now (args .text)) (c .before .loop .p) (c .before .loop .todo) _ (c .loop-test .left) (c .before .loop .inv .2) ∙ c .before .loop .inv .3, sym (skip-none (args .kind) (now (args .rows)) (c .before .loop .p) (c .before .loop .todo) (c .loop-test .left)) ∙ c .before .loop .inv .1)
 
 pub sections-size-spec : {M : Type 1} → statement M
 sections-size-spec =

@@ -14,10 +14,14 @@ sections-size-requires-2 : tie.Need-sections-size-requires-2
 sections-size-requires-2 c κs = (rw (c .sections-size .ensures .0) (size-le _ _), rw (c .sections-size .ensures .1, c .before .before .before .pre .0 .0, c .before .before .before .pre .0 .1 .0) (c .before .before .before .pre .1 .1 .0))
 
 sections-size-requires-3 : tie.Need-sections-size-requires-3
-sections-size-requires-3 c κs = (rw (c .sections-size2 .ensures .0) (size-le _ _), rw (c .sections-size2 .ensures .1, c .before .sections-size .ensures .1, c .before .before .before .before .pre .0 .0, c .before .before .before .before .pre .0 .1 .0, c .before .before .before .before .pre .0 .1 .1) (c .before .before .before .before .pre .1 .1 .1))
+sections-size-requires-3 c κs =
+    let pre = c .before .before .before .before .pre in
+    (rw (c .sections-size2 .ensures .0) (size-le _ _), rw (c .sections-size2 .ensures .1, c .before .sections-size .ensures .1, pre .0 .0, pre .0 .1 .0, pre .0 .1 .1) (pre .1 .1 .1))
 
 returns : tie.Need-returns
-returns c = c .sections-size3 .ensures .0 ∙ rw (c .before .sections-size2 .ensures .1, c .before .sections-size2 .ensures .0, c .before .before .sections-size .ensures .1, c .before .before .sections-size .ensures .0, c .before .before .before .before .before .pre .0 .0, c .before .before .before .before .before .pre .0 .1 .0, c .before .before .before .before .before .pre .0 .1 .1) (total (now (c .before .before .before .before .before .args .rows)) (now (c .before .before .before .before .before .args .text)))
+returns c =
+    let start = c .before .before .before .before .before in
+    c .sections-size3 .ensures .0 ∙ rw (c .before .sections-size2 .ensures .1, c .before .sections-size2 .ensures .0, c .before .before .sections-size .ensures .1, c .before .before .sections-size .ensures .0, start .pre .0 .0, start .pre .0 .1 .0, start .pre .0 .1 .1) (total (now (start .args .rows)) (now (start .args .text)))
 
 pub total-size-spec : {M : Type 1} → statement M
 total-size-spec =

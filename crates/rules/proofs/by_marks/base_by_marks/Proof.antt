@@ -6,25 +6,33 @@ use Rattle.rules.proofs.by_marks.base_by_marks.Statement.{statement}
 use Rattle.rules.proofs.by_marks.base_by_marks.Tie as tie
 
 side-end-requires : tie.Need-side-end-requires
-side-end-requires c κs = (c .before .before .before .before .pre .0, (c .before .before .before .before .pre .1 .1 .0 .low, c .before .before .before .before .pre .1 .1 .1))
+side-end-requires c κs = let pre = c .before .before .before .before .pre in (pre .0, (pre .1 .1 .0 .low, pre .1 .1 .1))
 
 same-length : tie.Need-same-length
 same-length c = ap length (c .before .before .before .side-end .ensures .1)
 
 returns : tie.Need-returns
-returns c = (base-81 _ _ (c .before .before .before .before .before .before .before .before .pre .1 .0 .small) (c .before .before .before .before .before .before .before .before .pre .1 .0 .low) (c .before .before .before .side-end .ensures .0) (c .if1 .taken), (c .before .before .before .side-end .ensures .1))
+returns c =
+    let pre = c .before .before .before .before .before .before .before .before .pre in
+    (base-81 _ _ (pre .1 .0 .small) (pre .1 .0 .low) (c .before .before .before .side-end .ensures .0) (c .if1 .taken), (c .before .before .before .side-end .ensures .1))
 
 same-length-2 : tie.Need-same-length-2
 same-length-2 c = ap length (c .before .before .before .before .before .side-end .ensures .1)
 
 returns-2 : tie.Need-returns-2
-returns-2 c = (base-82 _ _ (c .before .before .before .before .before .before .before .before .before .before .pre .1 .0 .small) (c .before .before .before .before .before .before .before .before .before .before .pre .1 .0 .low) (c .before .before .before .before .before .side-end .ensures .0) (c .before .before .if1 .left) (c .if2 .taken), (c .before .before .before .before .before .side-end .ensures .1))
+returns-2 c =
+    let pre = c .before .before .before .before .before .before .before .before .before .before .pre in
+    let side-end = c .before .before .before .before .before .side-end .ensures in
+    (base-82 _ _ (pre .1 .0 .small) (pre .1 .0 .low) (side-end .0) (c .before .before .if1 .left) (c .if2 .taken), (side-end .1))
 
 same-length-3 : tie.Need-same-length-3
 same-length-3 c = ap length (c .before .before .before .before .before .side-end .ensures .1)
 
 returns-3 : tie.Need-returns-3
-returns-3 c = (base-0 _ _ (c .before .before .before .before .before .before .before .before .before .before .pre .1 .0 .small) (c .before .before .before .before .before .before .before .before .before .before .pre .1 .0 .low) (c .before .before .before .before .before .side-end .ensures .0) (c .before .before .if1 .left) (c .if2 .left), (c .before .before .before .before .before .side-end .ensures .1))
+returns-3 c =
+    let pre = c .before .before .before .before .before .before .before .before .before .before .pre in
+    let side-end = c .before .before .before .before .before .side-end .ensures in
+    (base-0 _ _ (pre .1 .0 .small) (pre .1 .0 .low) (side-end .0) (c .before .before .if1 .left) (c .if2 .left), (side-end .1))
 
 pub base-by-marks-spec : {M : Type 1} → statement M
 base-by-marks-spec =

@@ -6,19 +6,23 @@ use Rattle.rules.proofs.by_marks.ext_by_marks.Statement.{statement}
 use Rattle.rules.proofs.by_marks.ext_by_marks.Tie as tie
 
 side-end-requires : tie.Need-side-end-requires
-side-end-requires c κs = (c .before .before .before .before .pre .0, (c .before .before .before .before .pre .1 .1 .0 .high, c .before .before .before .before .pre .1 .1 .1))
+side-end-requires c κs = let pre = c .before .before .before .before .pre in (pre .0, (pre .1 .1 .0 .high, pre .1 .1 .1))
 
 same-length : tie.Need-same-length
 same-length c = ap length (c .before .before .before .side-end .ensures .1)
 
 returns : tie.Need-returns
-returns c = (ext-83 _ _ (c .before .before .before .before .before .before .before .before .pre .1 .0 .small) (c .before .before .before .before .before .before .before .before .pre .1 .0 .high) (c .before .before .before .side-end .ensures .0) (c .if1 .taken), (c .before .before .before .side-end .ensures .1))
+returns c =
+    let pre = c .before .before .before .before .before .before .before .before .pre in
+    (ext-83 _ _ (pre .1 .0 .small) (pre .1 .0 .high) (c .before .before .before .side-end .ensures .0) (c .if1 .taken), (c .before .before .before .side-end .ensures .1))
 
 same-length-2 : tie.Need-same-length-2
 same-length-2 c = ap length (c .before .before .before .side-end .ensures .1)
 
 returns-2 : tie.Need-returns-2
-returns-2 c = (ext-0 _ _ (c .before .before .before .before .before .before .before .before .pre .1 .0 .small) (c .before .before .before .before .before .before .before .before .pre .1 .0 .high) (c .before .before .before .side-end .ensures .0) (c .if1 .left), (c .before .before .before .side-end .ensures .1))
+returns-2 c =
+    let pre = c .before .before .before .before .before .before .before .before .pre in
+    (ext-0 _ _ (pre .1 .0 .small) (pre .1 .0 .high) (c .before .before .before .side-end .ensures .0) (c .if1 .left), (c .before .before .before .side-end .ensures .1))
 
 pub ext-by-marks-spec : {M : Type 1} → statement M
 ext-by-marks-spec = tie.close (tie.spec side-end-requires same-length returns same-length-2 returns-2)

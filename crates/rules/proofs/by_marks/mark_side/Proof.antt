@@ -33,16 +33,22 @@ same-length : tie.Need-same-length Inv-loop μ-loop
 same-length c = c .before .before .before .before .before .before .before .before .before .loop .inv .marks .only .long
 
 returns : tie.Need-returns Inv-loop μ-loop
-returns c = paint-clash _ _ _ _ _ (c .before .before .before .before .before .before .before .before .before .loop .inv) (c .before .before .before .before .before .before .before .if1 .taken) (c .before .before .before .before .before .before .entry-at .ensures) (sym (c .before .before .before .before .extent-of .ensures .other) ∙ c .before .before .before .if2 .left) (c .before .before .before .before .extent-of .ensures .off) (c .before .before .before .before .extent-of .ensures .end) (sym (c .before .is-taken .ensures) ∙ (c .if3 .taken))
+returns c =
+    let extent-of = c .before .before .before .before .extent-of .ensures in
+    paint-clash _ _ _ _ _ (c .before .before .before .before .before .before .before .before .before .loop .inv) (c .before .before .before .before .before .before .before .if1 .taken) (c .before .before .before .before .before .before .entry-at .ensures) (sym (extent-of .other) ∙ c .before .before .before .if2 .left) (extent-of .off) (extent-of .end) (sym (c .before .is-taken .ensures) ∙ (c .if3 .taken))
 
 add-owner : tie.Need-add-owner Inv-loop μ-loop
-add-owner c = omega (arith, paint-owner _ _ _ _ _ (c .before .before .before .before .before .before .before .before .before .loop .inv) (c .before .before .before .before .before .before .before .if1 .taken) (c .before .before .before .before .before .before .entry-at .ensures) (sym (c .before .before .before .before .extent-of .ensures .other) ∙ c .before .before .before .if2 .left) (c .before .before .before .before .extent-of .ensures .off) (c .before .before .before .before .extent-of .ensures .end) (sym (c .before .is-taken .ensures) ∙ (c .if3 .left)))
+add-owner c =
+    let extent-of = c .before .before .before .before .extent-of .ensures in
+    omega (arith, paint-owner _ _ _ _ _ (c .before .before .before .before .before .before .before .before .before .loop .inv) (c .before .before .before .before .before .before .before .if1 .taken) (c .before .before .before .before .before .before .entry-at .ensures) (sym (extent-of .other) ∙ c .before .before .before .if2 .left) (extent-of .off) (extent-of .end) (sym (c .before .is-taken .ensures) ∙ (c .if3 .left)))
 
 loop-less-2 : tie.Need-loop-less-2 Inv-loop μ-loop
 loop-less-2 c = rw (c .before .before .before .before .before .before .before .before .before .before .rest .ensures) (omega arith)
 
 loop-again-2 : tie.Need-loop-again-2 Inv-loop μ-loop
-loop-again-2 c = rw (c .before .before .before .before .before .before .before .before .before .before .rest .ensures) (paint-next _ _ _ _ _ (c .before .before .before .before .before .before .before .before .before .before .before .before .before .before .loop .inv) (c .before .before .before .before .before .before .before .before .before .before .before .before .if1 .taken) (c .before .before .before .before .before .before .before .before .before .before .before .entry-at .ensures) (sym (c .before .before .before .before .before .before .before .before .before .extent-of .ensures .other) ∙ c .before .before .before .before .before .before .before .before .if2 .left) (c .before .before .before .before .before .before .before .before .before .extent-of .ensures .off) (c .before .before .before .before .before .before .before .before .before .extent-of .ensures .end) (sym (c .before .before .before .before .before .before .is-taken .ensures) ∙ (c .before .before .before .before .before .if3 .left)) (c .before .before .before .give .ensures) (c .larger .ensures))
+loop-again-2 c =
+    let extent-of = c .before .before .before .before .before .before .before .before .before .extent-of .ensures in
+    rw (c .before .before .before .before .before .before .before .before .before .before .rest .ensures) (paint-next _ _ _ _ _ (c .before .before .before .before .before .before .before .before .before .before .before .before .before .before .loop .inv) (c .before .before .before .before .before .before .before .before .before .before .before .before .if1 .taken) (c .before .before .before .before .before .before .before .before .before .before .before .entry-at .ensures) (sym (extent-of .other) ∙ c .before .before .before .before .before .before .before .before .if2 .left) (extent-of .off) (extent-of .end) (sym (c .before .before .before .before .before .before .is-taken .ensures) ∙ (c .before .before .before .before .before .if3 .left)) (c .before .before .before .give .ensures) (c .larger .ensures))
 
 same-length-2 : tie.Need-same-length-2 Inv-loop μ-loop
 same-length-2 c = c .before .before .loop .inv .marks .only .long

@@ -10,19 +10,25 @@ same-length : tie.Need-same-length
 same-length c = ap length (c .before .before .before .give .ensures ∙ marked-back (c .before .before .before .before .before .before .before .before .before .before .before .before .before .before .pre .1 .1) (c .before .before .before .before .before .before .before .before .before .mark-side .ensures))
 
 returns : tie.Need-returns
-returns c = (end-clash (c .before .before .before .before .before .before .before .before .before .mark-side .ensures) (c .if1 .taken), c .before .before .before .give .ensures ∙ marked-back (c .before .before .before .before .before .before .before .before .before .before .before .before .before .before .pre .1 .1) (c .before .before .before .before .before .before .before .before .before .mark-side .ensures))
+returns c =
+    let mark-side = c .before .before .before .before .before .before .before .before .before .mark-side .ensures in
+    (end-clash mark-side (c .if1 .taken), c .before .before .before .give .ensures ∙ marked-back (c .before .before .before .before .before .before .before .before .before .before .before .before .before .before .pre .1 .1) mark-side)
 
 same-length-2 : tie.Need-same-length-2
 same-length-2 c = ap length (c .before .before .before .before .give .ensures ∙ marked-back (c .before .before .before .before .before .before .before .before .before .before .before .before .before .before .before .pre .1 .1) (c .before .before .before .before .before .before .before .before .before .before .mark-side .ensures))
 
 returns-2 : tie.Need-returns-2
-returns-2 c = (end-gap (c .before .before .before .before .before .before .before .before .before .before .mark-side .ensures) (c .before .if1 .left) (c .before .before .before .before .before .before .walk .ensures) (c .if2 .taken), c .before .before .before .before .give .ensures ∙ marked-back (c .before .before .before .before .before .before .before .before .before .before .before .before .before .before .before .pre .1 .1) (c .before .before .before .before .before .before .before .before .before .before .mark-side .ensures))
+returns-2 c =
+    let mark-side = c .before .before .before .before .before .before .before .before .before .before .mark-side .ensures in
+    (end-gap mark-side (c .before .if1 .left) (c .before .before .before .before .before .before .walk .ensures) (c .if2 .taken), c .before .before .before .before .give .ensures ∙ marked-back (c .before .before .before .before .before .before .before .before .before .before .before .before .before .before .before .pre .1 .1) mark-side)
 
 same-length-3 : tie.Need-same-length-3
 same-length-3 c = ap length (c .before .before .before .before .give .ensures ∙ marked-back (c .before .before .before .before .before .before .before .before .before .before .before .before .before .before .before .pre .1 .1) (c .before .before .before .before .before .before .before .before .before .before .mark-side .ensures))
 
 returns-3 : tie.Need-returns-3
-returns-3 c = (end-fine (c .before .before .before .before .before .before .before .before .before .before .mark-side .ensures) (c .before .if1 .left) (c .before .before .before .before .before .before .walk .ensures) (c .if2 .left), c .before .before .before .before .give .ensures ∙ marked-back (c .before .before .before .before .before .before .before .before .before .before .before .before .before .before .before .pre .1 .1) (c .before .before .before .before .before .before .before .before .before .before .mark-side .ensures))
+returns-3 c =
+    let mark-side = c .before .before .before .before .before .before .before .before .before .before .mark-side .ensures in
+    (end-fine mark-side (c .before .if1 .left) (c .before .before .before .before .before .before .walk .ensures) (c .if2 .left), c .before .before .before .before .give .ensures ∙ marked-back (c .before .before .before .before .before .before .before .before .before .before .before .before .before .before .before .pre .1 .1) mark-side)
 
 pub side-end-spec : {M : Type 1} → statement M
 side-end-spec =

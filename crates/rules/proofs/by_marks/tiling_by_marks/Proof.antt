@@ -22,7 +22,10 @@ same-length-2 : tie.Need-same-length-2
 same-length-2 c = ap length (c .before .before .ext-by-marks .ensures .1 ∙ c .before .before .before .before .before .before .before .base-by-marks .ensures .1)
 
 returns-2 : tie.Need-returns-2
-returns-2 c = (tiling-ext _ _ _ (c .before .before .before .before .before .before .before .base-by-marks .ensures .0 ∙ base-engines (c .before .before .before .before .before .before .before .before .before .before .before .before .pre .1 .0)) (c .before .before .before .before .if1 .left) (c .before .before .ext-by-marks .ensures .0 ∙ ext-engines (c .before .before .before .before .before .before .before .before .before .before .before .before .pre .1 .0)), (c .before .before .ext-by-marks .ensures .1 ∙ c .before .before .before .before .before .before .before .base-by-marks .ensures .1))
+returns-2 c =
+    let pre = c .before .before .before .before .before .before .before .before .before .before .before .before .pre in
+    let base-by-marks = c .before .before .before .before .before .before .before .base-by-marks .ensures in
+    (tiling-ext _ _ _ (base-by-marks .0 ∙ base-engines (pre .1 .0)) (c .before .before .before .before .if1 .left) (c .before .before .ext-by-marks .ensures .0 ∙ ext-engines (pre .1 .0)), (c .before .before .ext-by-marks .ensures .1 ∙ base-by-marks .1))
 
 pub tiling-by-marks-spec : {M : Type 1} → statement M
 tiling-by-marks-spec =

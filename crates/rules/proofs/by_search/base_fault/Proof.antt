@@ -13,13 +13,19 @@ returns : tie.Need-returns
 returns c = gave-up refl (λ h. let y : ⊥ = omega arith in y)
 
 returns-2 : tie.Need-returns-2
-returns-2 c = answered (base-gap _ _ _ (c .before .before .before .before .before .before .pre .1 .0) (c .before .before .before .chase .ensures (c .before .before .if1 .left)) (c .before .before .before .before .before .before .pre .1 .1 .1) (c .if2 .taken))
+returns-2 c =
+    let pre = c .before .before .before .before .before .before .pre in
+    answered (base-gap _ _ _ (pre .1 .0) (c .before .before .before .chase .ensures (c .before .before .if1 .left)) (pre .1 .1 .1) (c .if2 .taken))
 
 returns-3 : tie.Need-returns-3
-returns-3 c = answered (base-short _ _ _ (c .before .before .before .before .before .before .before .before .before .pre .1 .0) (c .before .before .before .before .before .before .chase .ensures (c .before .before .before .before .before .if1 .left)) (c .before .before .before .before .before .before .before .before .before .pre .1 .1 .1) (c .before .before .before .if2 .left) (c .if3 .taken))
+returns-3 c =
+    let pre = c .before .before .before .before .before .before .before .before .before .pre in
+    answered (base-short _ _ _ (pre .1 .0) (c .before .before .before .before .before .before .chase .ensures (c .before .before .before .before .before .if1 .left)) (pre .1 .1 .1) (c .before .before .before .if2 .left) (c .if3 .taken))
 
 returns-4 : tie.Need-returns-4
-returns-4 c = answered (base-fine _ _ _ (c .before .before .before .before .before .before .before .before .before .pre .1 .0) (c .before .before .before .before .before .before .chase .ensures (c .before .before .before .before .before .if1 .left)) (c .before .before .before .before .before .before .before .before .before .pre .1 .1 .1) (c .before .before .before .if2 .left) (c .if3 .left))
+returns-4 c =
+    let pre = c .before .before .before .before .before .before .before .before .before .pre in
+    answered (base-fine _ _ _ (pre .1 .0) (c .before .before .before .before .before .before .chase .ensures (c .before .before .before .before .before .if1 .left)) (pre .1 .1 .1) (c .before .before .before .if2 .left) (c .if3 .left))
 
 pub base-fault-spec : {M : Type 1} → statement M
 base-fault-spec = tie.close (tie.spec chase-requires returns returns-2 returns-3 returns-4)

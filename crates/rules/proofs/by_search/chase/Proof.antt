@@ -20,21 +20,23 @@ loop-holds : tie.Need-loop-holds Inv-loop μ-loop
 loop-holds c = (zero-le, omega arith, begun, record { room = (c .before .before .pre .0); has = λ a b h. h })
 
 seek-on-requires : tie.Need-seek-on-requires Inv-loop μ-loop
-seek-on-requires c κs = (c .before .before .before .before .pre .0, (c .before .loop .inv .3, (c .before .before .before .before .pre .1 .0)))
+seek-on-requires c κs = let pre = c .before .before .before .before .pre in (pre .0, (c .before .loop .inv .3, (pre .1 .0)))
 
 returns : tie.Need-returns Inv-loop μ-loop
 returns c = λ e. absurd (subst lib.Dec.T e tt)
 
 add-used : tie.Need-add-used Inv-loop μ-loop
-add-used c = omega (arith, c .before .before .before .before .before .before .loop .inv .0, c .before .before .before .before .before .before .loop .inv .1)
+add-used c = let inv = c .before .before .before .before .before .before .loop .inv in omega (arith, inv .0, inv .1)
 
 loop-less : tie.Need-loop-less Inv-loop μ-loop
 loop-less c = let past = reach-past _ (c .before .before .before .before .before .before .before .before .before .before .pre .1 .0) (c .before .before .before .before .before .seek-on .ensures (c .before .before .before .before .if1 .left) .some (c .before .if2 .left)) in omega arith
 
 loop-again : tie.Need-loop-again Inv-loop μ-loop
 loop-again c =
-    let past = reach-past _ (c .before .before .before .before .before .before .before .before .before .before .pre .1 .0) (c .before .before .before .before .before .seek-on .ensures (c .before .before .before .before .if1 .left) .some (c .before .if2 .left)) in
-    (omega arith, (c .before .before .before .before .before .seek-on .ensures (c .before .before .before .before .if1 .left) .small), on (c .before .before .before .before .before .before .before .loop .inv .2) (c .before .before .before .before .before .seek-on .ensures (c .before .before .before .before .if1 .left) .some (c .before .if2 .left)), (c .before .before .before .before .before .seek-on .ensures (c .before .before .before .before .if1 .left) .within))
+    let seek-on = c .before .before .before .before .before .seek-on .ensures in
+    let if1 = c .before .before .before .before .if1 in
+    let past = reach-past _ (c .before .before .before .before .before .before .before .before .before .before .pre .1 .0) (seek-on (if1 .left) .some (c .before .if2 .left)) in
+    (omega arith, (seek-on (if1 .left) .small), on (c .before .before .before .before .before .before .before .loop .inv .2) (seek-on (if1 .left) .some (c .before .if2 .left)), (seek-on (if1 .left) .within))
 
 returns-2 : tie.Need-returns-2 Inv-loop μ-loop
 returns-2 c _ =

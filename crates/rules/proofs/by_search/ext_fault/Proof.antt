@@ -16,10 +16,14 @@ returns-2 : tie.Need-returns-2
 returns-2 c = gave-up refl (λ h. let y : ⊥ = omega arith in y)
 
 returns-3 : tie.Need-returns-3
-returns-3 c = answered (ext-gap _ _ _ (c .before .before .before .before .before .before .before .pre .1 .0) (c .before .before .before .chase .ensures (c .before .before .if2 .left)) (c .before .before .before .before .before .before .before .pre .1 .1 .1) (c .if3 .taken))
+returns-3 c =
+    let pre = c .before .before .before .before .before .before .before .pre in
+    answered (ext-gap _ _ _ (pre .1 .0) (c .before .before .before .chase .ensures (c .before .before .if2 .left)) (pre .1 .1 .1) (c .if3 .taken))
 
 returns-4 : tie.Need-returns-4
-returns-4 c = answered (ext-fine _ _ _ (c .before .before .before .before .before .before .before .pre .1 .0) (c .before .before .before .chase .ensures (c .before .before .if2 .left)) (c .before .before .before .before .before .before .before .pre .1 .1 .1) (c .if3 .left))
+returns-4 c =
+    let pre = c .before .before .before .before .before .before .before .pre in
+    answered (ext-fine _ _ _ (pre .1 .0) (c .before .before .before .chase .ensures (c .before .before .if2 .left)) (pre .1 .1 .1) (c .if3 .left))
 
 pub ext-fault-spec : {M : Type 1} → statement M
 ext-fault-spec = tie.close (tie.spec returns chase-requires returns-2 returns-3 returns-4)

@@ -21,8 +21,9 @@ sub-ext-fault c =
 
 ext-fault-requires : tie.Need-ext-fault-requires
 ext-fault-requires c κs =
-    let args = (c .before .before .before .before .before .before .args) in
-    (c .before .before .before .before .before .before .pre .0, (high-proper (c .before .before .before .before .before .before .pre .1), (omega (arith, (c .before .before .before .before .before .before .pre .1 .small)), omega (arith, sides (args .frame .«is_record») (args .frame .base) (entriesOf (args .layout .now) (args .rows .now) (args .src)), entries-length (args .layout .now) (args .rows .now) (args .src), (c .before .before .before .count .ensures)))))
+    let start = c .before .before .before .before .before .before in
+    let args = (start .args) in
+    (start .pre .0, (high-proper (start .pre .1), (omega (arith, (start .pre .1 .small)), omega (arith, sides (args .frame .«is_record») (args .frame .base) (entriesOf (args .layout .now) (args .rows .now) (args .src)), entries-length (args .layout .now) (args .rows .now) (args .src), (c .before .before .before .count .ensures)))))
 
 returns-2 : tie.Need-returns-2
 returns-2 c = tried-as (λ e. tiling-ext _ _ _ (tried-0 (c .before .before .before .base-fault .ensures) (c .before .before .if1 .left)) (c .before .before .if1 .left) e) (c .ext-fault .ensures)

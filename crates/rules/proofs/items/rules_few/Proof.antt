@@ -4,7 +4,7 @@ use Rattle.rules.proofs.items.rules_few.Statement.{statement}
 use Rattle.rules.proofs.items.rules_few.Tie as tie
 
 rules-64-requires : tie.Need-rules-64-requires
-rules-64-requires c κs = (c .before .before .before .before .before .before .pre .0, (c .before .if1 .taken, c .before .before .before .before .before .before .pre .1 .1))
+rules-64-requires c κs = let pre = c .before .before .before .before .before .before .pre in (pre .0, (c .before .if1 .taken, pre .1 .1))
 
 returns : tie.Need-returns
 returns c = c .before .before .rules-64 .ensures

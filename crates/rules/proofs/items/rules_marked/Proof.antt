@@ -13,7 +13,7 @@ returns : tie.Need-returns
 returns c = tried-all (c .before .rules-few .ensures) (search needs)
 
 rules-65535-requires : tie.Need-rules-65535-requires
-rules-65535-requires c κs = (c .before .before .before .before .before .pre .0, (c .before .before .before .before .before .pre .1, unowned 65536 (omega arith)))
+rules-65535-requires c κs = let pre = c .before .before .before .before .before .pre in (pre .0, (pre .1, unowned 65536 (omega arith)))
 
 returns-2 : tie.Need-returns-2
 returns-2 c = tried-all (c .before .rules-65535 .ensures) (search needs)

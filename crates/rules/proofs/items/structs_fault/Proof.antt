@@ -19,29 +19,32 @@ abbrev μ-loop : tie.MeasureT-loop
     length (seqsFrom layout rows false p)
 
 loop-holds : tie.Need-loop-holds Inv-loop μ-loop
-loop-holds c = (record { good = c .before .before .before .before .before .pre .0; marks = c .before .before .before .before .before .pre .1 .0; same = refl }, refl)
+loop-holds c = let pre = c .before .before .before .before .before .pre in (record { good = pre .0; marks = pre .1 .0; same = refl }, refl)
 
 next-item-requires : tie.Need-next-item-requires Inv-loop μ-loop
 next-item-requires c κs = c .loop .inv .0 .good
 
 struct-fault-requires : tie.Need-struct-fault-requires Inv-loop μ-loop
 struct-fault-requires c κs =
+    let inv = c .before .before .before .before .before .before .loop .inv in
     let s = step-found (c .before .before .before .before .before .next-item .ensures) (c .before .before .before .item .given .1) in
-    (s .room, (c .before .before .before .before .before .before .loop .inv .0 .marks, (s .base, rw (c .before .before .before .before .before .before .loop .inv .1) (c .before .before .before .before .before .before .before .before .before .before .before .before .pre .1 .1))))
+    (s .room, (inv .0 .marks, (s .base, rw (inv .1) (c .before .before .before .before .before .before .before .before .before .before .before .before .pre .1 .1))))
 
 same-length : tie.Need-same-length Inv-loop μ-loop
 same-length c = ap length (c .before .before .before .struct-fault .ensures .1 .1 ∙ c .before .before .before .before .before .before .before .before .before .before .loop .inv .1)
 
 returns : tie.Need-returns Inv-loop μ-loop
 returns c =
-    (tried-as (λ e. structs-stop _ _ _ _ _ _ (c .before .before .before .before .before .before .before .before .before .before .loop .inv .0) (step-found (c .before .before .before .before .before .before .before .before .before .next-item .ensures) (c .before .before .before .before .before .before .before .item .given .1)) e (c .if1 .taken)) (tried-by (c .before .before .before .before .before .before .before .before .before .before .loop .inv .1) (c .before .before .before .struct-fault .ensures .0)), (λ z. absurd (c .if1 .taken z), c .before .before .before .struct-fault .ensures .1 .1 ∙ c .before .before .before .before .before .before .before .before .before .before .loop .inv .1))
+    let inv = c .before .before .before .before .before .before .before .before .before .before .loop .inv in
+    (tried-as (λ e. structs-stop _ _ _ _ _ _ (inv .0) (step-found (c .before .before .before .before .before .before .before .before .before .next-item .ensures) (c .before .before .before .before .before .before .before .item .given .1)) e (c .if1 .taken)) (tried-by (inv .1) (c .before .before .before .struct-fault .ensures .0)), (λ z. absurd (c .if1 .taken z), c .before .before .before .struct-fault .ensures .1 .1 ∙ inv .1))
 
 loop-less : tie.Need-loop-less Inv-loop μ-loop
 loop-less c = step-less (step-found (c .before .before .before .before .before .before .before .before .before .next-item .ensures) (c .before .before .before .before .before .before .before .item .given .1))
 
 loop-again : tie.Need-loop-again Inv-loop μ-loop
 loop-again c =
-    (structs-on _ _ _ _ _ _ (c .before .before .before .before .before .before .before .before .before .before .loop .inv .0) (step-found (c .before .before .before .before .before .before .before .before .before .next-item .ensures) (c .before .before .before .before .before .before .before .item .given .1)) (tried-0 (c .before .before .before .struct-fault .ensures .0) (c .if1 .left)) (c .if1 .left) (c .before .before .before .struct-fault .ensures .1 .0), c .before .before .before .struct-fault .ensures .1 .1 ∙ c .before .before .before .before .before .before .before .before .before .before .loop .inv .1)
+    let inv = c .before .before .before .before .before .before .before .before .before .before .loop .inv in
+    (structs-on _ _ _ _ _ _ (inv .0) (step-found (c .before .before .before .before .before .before .before .before .before .next-item .ensures) (c .before .before .before .before .before .before .before .item .given .1)) (tried-0 (c .before .before .before .struct-fault .ensures .0) (c .if1 .left)) (c .if1 .left) (c .before .before .before .struct-fault .ensures .1 .0), c .before .before .before .struct-fault .ensures .1 .1 ∙ inv .1)
 
 same-length-2 : tie.Need-same-length-2 Inv-loop μ-loop
 same-length-2 c = ap length (c .before .before .before .loop .inv .1)

@@ -20,7 +20,9 @@ wipe-ids-requires : tie.Need-wipe-ids-requires
 wipe-ids-requires c κs = (c .before .before .before .before .before .before .before .before .before .before .before .before .pre .0, (c .before .before .fields-fault .ensures .1) (c .before .if2 .left))
 
 tiling-requires : tie.Need-tiling-requires
-tiling-requires c κs = (c .before .before .before .before .before .before .before .before .before .before .before .before .before .before .pre .0, (passed _ _ _ _ _ _ _ _ (c .before .before .before .before .before .before .before .before .before .before .before .before .before .before .pre .1 .1 .0) (sym (c .before .before .before .before .fields-fault .ensures .0) ∙ (c .before .before .before .if2 .left)), (c .before .before .before .before .before .before .before .before .before .before .before .before .before .before .pre .1 .1 .1)))
+tiling-requires c κs =
+    let pre = c .before .before .before .before .before .before .before .before .before .before .before .before .before .before .pre in
+    (pre .0, (passed _ _ _ _ _ _ _ _ (pre .1 .1 .0) (sym (c .before .before .before .before .fields-fault .ensures .0) ∙ (c .before .before .before .if2 .left)), (pre .1 .1 .1)))
 
 same-length : tie.Need-same-length
 same-length c = ap length (c .before .before .tiling .ensures .1)

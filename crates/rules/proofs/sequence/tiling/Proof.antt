@@ -11,13 +11,15 @@ returns : tie.Need-returns
 returns c = (answered (tried-is (c .before .tiling-by-search .ensures) (c .if2 .taken)), refl)
 
 too-few-requires : tie.Need-too-few-requires
-too-few-requires c κs = (c .before .before .before .before .pre .0, c .before .before .before .before .pre .1 .0)
+too-few-requires c κs = let pre = c .before .before .before .before .pre in (pre .0, pre .1 .0)
 
 returns-2 : tie.Need-returns-2
 returns-2 c = (gave-up refl (c .before .too-few .ensures .1 (c .if3 .taken)), refl)
 
 tiling-by-marks-requires : tie.Need-tiling-by-marks-requires
-tiling-by-marks-requires c κs = (c .before .before .before .before .before .before .before .pre .0, (c .before .before .before .before .before .before .before .pre .1 .0, (c .before .before .too-few .ensures .0 (c .before .if3 .left), c .before .before .before .before .before .before .before .pre .1 .1)))
+tiling-by-marks-requires c κs =
+    let pre = c .before .before .before .before .before .before .before .pre in
+    (pre .0, (pre .1 .0, (c .before .before .too-few .ensures .0 (c .before .if3 .left), pre .1 .1)))
 
 same-length : tie.Need-same-length
 same-length c = ap length (c .before .before .tiling-by-marks .ensures .1)

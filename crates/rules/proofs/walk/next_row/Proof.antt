@@ -36,7 +36,9 @@ add-used-2 : tie.Need-add-used-2 Inv-loop μ-loop
 add-used-2 c = omega (arith, look-few _ _ _ (c .before .before .before .before .before .loop .inv) (c .before .before .before .before .loop-test .taken) (c .before .row-item .ensures .0))
 
 add-t17 : tie.Need-add-t17 Inv-loop μ-loop
-add-t17 c = omega (arith, look-few _ _ _ (c .before .before .before .before .before .loop .inv) (c .before .before .before .before .loop-test .taken) (c .before .row-item .ensures .0), c .before .before .before .before .before .loop .inv .inside)
+add-t17 c =
+    let inv = c .before .before .before .before .before .loop .inv in
+    omega (arith, look-few _ _ _ inv (c .before .before .before .before .loop-test .taken) (c .before .row-item .ensures .0), inv .inside)
 
 sub-t18 : tie.Need-sub-t18 Inv-loop μ-loop
 sub-t18 c = omega (arith, look-few _ _ _ (c .before .before .before .before .before .loop .inv) (c .before .before .before .before .loop-test .taken) (c .before .row-item .ensures .0))

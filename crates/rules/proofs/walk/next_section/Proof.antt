@@ -12,16 +12,22 @@ returns : tie.Need-returns
 returns c = section-end _ _ _ (c .before .before .before .before .pre .1) (c .if1 .taken)
 
 section-item-requires : tie.Need-section-item-requires
-section-item-requires c κs = section-lies _ _ _ (c .before .before .before .before .pre .1) (c .before .before .before .before .pre .0) (c .if1 .left)
+section-item-requires c κs = let pre = c .before .before .before .before .pre in section-lies _ _ _ (pre .1) (pre .0) (c .if1 .left)
 
 half-requires : tie.Need-half-requires
-half-requires c κs = omega (arith, section-bounds (section-lies _ _ _ (c .before .before .before .before .before .pre .1) (c .before .before .before .before .before .pre .0) (c .before .if1 .left)))
+half-requires c κs =
+    let pre = c .before .before .before .before .before .pre in
+    omega (arith, section-bounds (section-lies _ _ _ (pre .1) (pre .0) (c .before .if1 .left)))
 
 add-t10 : tie.Need-add-t10
-add-t10 c = omega (arith, section-lies _ _ _ (c .before .before .before .before .before .before .pre .1) (c .before .before .before .before .before .before .pre .0) (c .before .before .if1 .left) .inside, c .half .ensures .0)
+add-t10 c =
+    let pre = c .before .before .before .before .before .before .pre in
+    omega (arith, section-lies _ _ _ (pre .1) (pre .0) (c .before .before .if1 .left) .inside, c .half .ensures .0)
 
 returns-2 : tie.Need-returns-2
-returns-2 c = section-step _ _ _ (c .before .before .before .before .before .before .before .pre .1) (c .before .before .before .before .before .before .before .pre .0) (c .before .before .before .if1 .left) (c .before .before .section-item .ensures .0) (c .before .before .section-item .ensures .1) (ap (λ (a : ℕ). record { rows = false; at = c .before .before .before .before .before .before .before .args .place .at + a; left = c .before .before .before .before .before .before .before .args .place .left - 1 }) (c .before .half .ensures .0)) (omega arith)
+returns-2 c =
+    let start = c .before .before .before .before .before .before .before in
+    section-step _ _ _ (start .pre .1) (start .pre .0) (c .before .before .before .if1 .left) (c .before .before .section-item .ensures .0) (c .before .before .section-item .ensures .1) (ap (λ (a : ℕ). record { rows = false; at = start .args .place .at + a; left = start .args .place .left - 1 }) (c .before .half .ensures .0)) (omega arith)
 
 pub next-section-spec : {M : Type 1} → statement M
 next-section-spec =

@@ -15,7 +15,9 @@ cell-requires-2 : tie.Need-cell-requires-2
 cell-requires-2 c κs = omega (arith, row-bounds (c .before .before .before .before .before .args .is-record), c .column2 .ensures)
 
 returns : tie.Need-returns
-returns c = (row-item-is _ _ _ _ (c .before .before .before .before .before .before .rtype-in .ensures) (rw (c .before .before .before .before .before .column .ensures) at (c .before .before .before .before .cell .ensures .0)) (rw (c .before .before .before .column2 .ensures) at (c .before .before .cell2 .ensures .0)) (c .before .smaller .ensures) (c .smaller2 .ensures), c .before .before .before .before .cell .ensures .1)
+returns c =
+    let cell = c .before .before .before .before .cell .ensures in
+    (row-item-is _ _ _ _ (c .before .before .before .before .before .before .rtype-in .ensures) (rw (c .before .before .before .before .before .column .ensures) at (cell .0)) (rw (c .before .before .before .column2 .ensures) at (c .before .before .cell2 .ensures .0)) (c .before .smaller .ensures) (c .smaller2 .ensures), cell .1)
 
 pub row-item-spec : {M : Type 1} → statement M
 row-item-spec =

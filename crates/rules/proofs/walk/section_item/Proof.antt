@@ -38,7 +38,9 @@ add-t10 : tie.Need-add-t10
 add-t10 c = omega (arith, section-bounds (c .before .before .before .before .before .before .before .before .pre), c .before .before .before .column2 .ensures, c .before .wide .ensures .1)
 
 returns : tie.Need-returns
-returns c = (section-item-is _ _ _ (c .before .before .before .before .before .before .rtype-at .ensures) (rw (c .before .before .before .before .before .column .ensures) at (c .before .before .before .before .half .ensures .0)) (c .before .before .before .column2 .ensures) (c .before .wide .ensures .0) (c .half2 .ensures .0) (sym D-is), c .before .before .before .before .half .ensures .1)
+returns c =
+    let half = c .before .before .before .before .half .ensures in
+    (section-item-is _ _ _ (c .before .before .before .before .before .before .rtype-at .ensures) (rw (c .before .before .before .before .before .column .ensures) at (half .0)) (c .before .before .before .column2 .ensures) (c .before .wide .ensures .0) (c .half2 .ensures .0) (sym D-is), half .1)
 
 pub section-item-spec : {M : Type 1} → statement M
 section-item-spec =

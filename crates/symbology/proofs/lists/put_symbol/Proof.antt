@@ -9,10 +9,14 @@ use Rattle.symbology.proofs.lists.put_symbol.Statement.{statement}
 use Rattle.symbology.proofs.lists.put_symbol.Tie as tie
 
 five-requires : tie.Need-five-requires
-five-requires c κs = omega (arith, c .trimmed-len .ensures, trimmed-le (c .before .before .before .before .args .symbol .now), c .before .before .before .before .pre)
+five-requires c κs =
+    let start = c .before .before .before .before in
+    omega (arith, c .trimmed-len .ensures, trimmed-le (start .args .symbol .now), start .pre)
 
 returns : tie.Need-returns
-returns c = put-as (c .before .before .before .before .before .five .ensures ∙ ap (λ l. row5 (c .before .before .before .before .before .before .before .before .before .before .args .kind) (c .before .before .before .before .before .before .before .before .before .before .args .start) l (c .before .before .before .before .before .before .before .before .before .before .args .x) (c .before .before .before .before .before .before .before .before .before .before .args .y)) (c .before .before .before .before .before .before .trimmed-len .ensures)) (c .before .before .put-row .ensures)
+returns c =
+    let args = c .before .before .before .before .before .before .before .before .before .before .args in
+    put-as (c .before .before .before .before .before .five .ensures ∙ ap (λ l. row5 (args .kind) (args .start) l (args .x) (args .y)) (c .before .before .before .before .before .before .trimmed-len .ensures)) (c .before .before .put-row .ensures)
 
 returns-2 : tie.Need-returns-2
 returns-2 c = record { is = put-not _ _ _ _ (c .if1 .left) }

@@ -11,10 +11,14 @@ returns : tie.Need-returns
 returns c = rw (c .cell-of .ensures .0, c .before .if1 .taken) (sym (record-next (now (c .before .before .before .args .rows)) (c .before .before .before .args .q)))
 
 returns-2 : tie.Need-returns-2
-returns-2 c = rw (c .cell-of2 .ensures .0, c .before .if2 .taken) (sym (struct-next (now (c .before .before .before .before .args .rows)) (c .before .before .before .before .args .q)))
+returns-2 c =
+    let args = c .before .before .before .before .args in
+    rw (c .cell-of2 .ensures .0, c .before .if2 .taken) (sym (struct-next (now (args .rows)) (args .q)))
 
 returns-3 : tie.Need-returns-3
-returns-3 c = rw (c .cell-of3 .ensures .0) (sym (other-next (c .before .before .before .before .args .kind) (c .before .before .if1 .left) (c .before .if2 .left) (now (c .before .before .before .before .args .rows)) (c .before .before .before .before .args .q)))
+returns-3 c =
+    let args = c .before .before .before .before .args in
+    rw (c .cell-of3 .ensures .0) (sym (other-next (args .kind) (c .before .before .if1 .left) (c .before .if2 .left) (now (args .rows)) (args .q)))
 
 pub next-row-spec : {M : Type 1} → statement M
 next-row-spec =

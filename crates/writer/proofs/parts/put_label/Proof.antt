@@ -13,13 +13,19 @@ use Rattle.writer.proofs.parts.put_label.Statement.{statement}
 use Rattle.writer.proofs.parts.put_label.Tie as tie
 
 put-u16-requires : tie.Need-put-u16-requires
-put-u16-requires c κs = record { fits = omega (arith, c .before .before .before .before .before .pre .1 .1 .fits, simp length-append at (ap length (label-print utf8 (labelOf (now (c .before .before .before .before .before .args .rows)) (now (c .before .before .before .before .before .args .text)) (c .before .before .before .before .before .args .q))))) }
+put-u16-requires c κs =
+    let start = c .before .before .before .before .before in
+    record { fits = omega (arith, start .pre .1 .1 .fits, simp length-append at (ap length (label-print utf8 (labelOf (now (start .args .rows)) (now (start .args .text)) (start .args .q))))) }
 
 put-name-requires : tie.Need-put-name-requires
-put-name-requires c κs = (c .before .before .before .before .before .before .before .before .before .pre .0, (c .before .before .before .before .before .before .before .before .before .pre .1 .0, record { fits = omega (arith, c .before .before .before .before .before .before .before .before .before .pre .1 .1 .fits, simp length-append at (ap length (label-print utf8 (labelOf (now (c .before .before .before .before .before .before .before .before .before .args .rows)) (now (c .before .before .before .before .before .before .before .before .before .args .text)) (c .before .before .before .before .before .before .before .before .before .args .q))))) }))
+put-name-requires c κs =
+    let start = c .before .before .before .before .before .before .before .before .before in
+    (start .pre .0, (start .pre .1 .0, record { fits = omega (arith, start .pre .1 .1 .fits, simp length-append at (ap length (label-print utf8 (labelOf (now (start .args .rows)) (now (start .args .text)) (start .args .q))))) }))
 
 returns : tie.Need-returns
-returns c = wrote-is (wrote-then (c .before .before .before .before .before .before .put-u16 .ensures) (c .before .before .put-name .ensures)) (rw (c .before .before .before .before .before .before .before .cell-of .ensures .0) (sym (label-print utf8 (labelOf (now (c .before .before .before .before .before .before .before .before .before .before .before .before .args .rows)) (now (c .before .before .before .before .before .before .before .before .before .before .before .before .args .text)) (c .before .before .before .before .before .before .before .before .before .before .before .before .args .q)))))
+returns c =
+    let args = c .before .before .before .before .before .before .before .before .before .before .before .before .args in
+    wrote-is (wrote-then (c .before .before .before .before .before .before .put-u16 .ensures) (c .before .before .put-name .ensures)) (rw (c .before .before .before .before .before .before .before .cell-of .ensures .0) (sym (label-print utf8 (labelOf (now (args .rows)) (now (args .text)) (args .q)))))
 
 pub put-label-spec : {M : Type 1} → statement M
 put-label-spec =

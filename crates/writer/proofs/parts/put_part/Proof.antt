@@ -18,7 +18,9 @@ returns c = wrote-is (c .before .before .put-entry .ensures) (rw (c .before .bef
 
 put-name-requires : tie.Need-put-name-requires
 unfolding printedPart
-put-name-requires c κs = (c .before .before .before .before .before .before .pre .0, (c .before .before .before .before .before .before .pre .1 .0 .spans (c .before .before .if1 .left) (c .before .before .before .before .before .before .args .q) (omega arith) (omega arith), simp (ne-eqb _ _ (c .before .before .if1 .left), eq-eqb _ _ (c .before .if2 .taken)) at (c .before .before .before .before .before .before .pre .1 .1)))
+put-name-requires c κs =
+    let start = c .before .before .before .before .before .before in
+    (start .pre .0, (start .pre .1 .0 .spans (c .before .before .if1 .left) (start .args .q) (omega arith) (omega arith), simp (ne-eqb _ _ (c .before .before .if1 .left), eq-eqb _ _ (c .before .if2 .taken)) at (start .pre .1 .1)))
 
 returns-2 : tie.Need-returns-2
 unfolding printedPart
@@ -26,7 +28,9 @@ returns-2 c = wrote-is (c .before .before .put-name .ensures) (simp (ne-eqb _ _ 
 
 put-label-requires : tie.Need-put-label-requires
 unfolding printedPart
-put-label-requires c κs = (c .before .before .before .before .before .before .pre .0, (c .before .before .before .before .before .before .pre .1 .0 .spans (c .before .before .if1 .left) (c .before .before .before .before .before .before .args .q) (omega arith) (omega arith), simp (ne-eqb _ _ (c .before .before .if1 .left), ne-eqb _ _ (c .before .if2 .left)) at (c .before .before .before .before .before .before .pre .1 .1)))
+put-label-requires c κs =
+    let start = c .before .before .before .before .before .before in
+    (start .pre .0, (start .pre .1 .0 .spans (c .before .before .if1 .left) (start .args .q) (omega arith) (omega arith), simp (ne-eqb _ _ (c .before .before .if1 .left), ne-eqb _ _ (c .before .if2 .left)) at (start .pre .1 .1)))
 
 returns-3 : tie.Need-returns-3
 unfolding printedPart

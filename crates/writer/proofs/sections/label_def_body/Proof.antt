@@ -12,20 +12,27 @@ use Rattle.writer.proofs.sections.label_def_body.Statement.{statement}
 use Rattle.writer.proofs.sections.label_def_body.Tie as tie
 
 put-name-requires : tie.Need-put-name-requires
-put-name-requires c κs = (c .before .before .before .before .before .pre .0, (c .before .before .before .before .before .pre .1 .0 .own, record { fits = omega (arith, c .before .before .before .before .before .pre .1 .1, simp length-append at (ap length (label-def-is (now (c .before .before .before .before .before .args .rows)) (now (c .before .before .before .before .before .args .text)) (c .before .before .before .before .before .args .q)))) }))
+put-name-requires c κs =
+    let start = c .before .before .before .before .before in
+    (start .pre .0, (start .pre .1 .0 .own, record { fits = omega (arith, start .pre .1 .1, simp length-append at (ap length (label-def-is (now (start .args .rows)) (now (start .args .text)) (start .args .q)))) }))
 
 put-u16-requires : tie.Need-put-u16-requires
-put-u16-requires c κs = record { fits = omega (arith, c .before .before .before .before .before .before .before .before .before .pre .1 .1, simp length-append at (ap length (label-def-is (now (c .before .before .before .before .before .before .before .before .before .args .rows)) (now (c .before .before .before .before .before .before .before .before .before .args .text)) (c .before .before .before .before .before .before .before .before .before .args .q)))) }
+put-u16-requires c κs =
+    let start = c .before .before .before .before .before .before .before .before .before in
+    record { fits = omega (arith, start .pre .1 .1, simp length-append at (ap length (label-def-is (now (start .args .rows)) (now (start .args .text)) (start .args .q)))) }
 
 put-parts-requires : tie.Need-put-parts-requires
 unfolding printedPart
 put-parts-requires c κs =
-    let f = label-def-labels (now (c .before .before .before .before .before .before .before .before .before .before .before .before .before .args .rows)) (c .before .before .before .before .before .before .before .before .before .before .before .before .before .args .q) (now (c .before .before .before .before .before .before .before .before .before .before .before .before .before .args .text)) (c .before .before .before .before .before .before .before .before .before .before .before .before .before .pre .1 .0) in
-    rw (c .before .before .before .before .before .before .before .before .before .cell-of .ensures .0) (f .0, (record { spans = λ g. f .1 }, record { fits = omega (arith, c .before .before .before .before .before .before .before .before .before .before .before .before .before .pre .1 .1, simp length-append at (ap length (label-def-is (now (c .before .before .before .before .before .before .before .before .before .before .before .before .before .args .rows)) (now (c .before .before .before .before .before .before .before .before .before .before .before .before .before .args .text)) (c .before .before .before .before .before .before .before .before .before .before .before .before .before .args .q)))) }))
+    let start = c .before .before .before .before .before .before .before .before .before .before .before .before .before in
+    let f = label-def-labels (now (start .args .rows)) (start .args .q) (now (start .args .text)) (start .pre .1 .0) in
+    rw (c .before .before .before .before .before .before .before .before .before .cell-of .ensures .0) (f .0, (record { spans = λ g. f .1 }, record { fits = omega (arith, start .pre .1 .1, simp length-append at (ap length (label-def-is (now (start .args .rows)) (now (start .args .text)) (start .args .q)))) }))
 
 returns : tie.Need-returns
 unfolding printedPart
-returns c = wrote-filled (wrote-is (wrote-then (c .before .before .before .before .before .before .before .before .before .before .put-name .ensures) (wrote-then (c .before .before .before .before .before .before .put-u16 .ensures) (c .before .before .put-parts .ensures))) (rw (c .before .before .before .before .before .before .before .before .before .before .before .before .cell-of .ensures .0) (sym (label-def-is (now (c .before .before .before .before .before .before .before .before .before .before .before .before .before .before .before .before .args .rows)) (now (c .before .before .before .before .before .before .before .before .before .before .before .before .before .before .before .before .args .text)) (c .before .before .before .before .before .before .before .before .before .before .before .before .before .before .before .before .args .q)))))
+returns c =
+    let args = c .before .before .before .before .before .before .before .before .before .before .before .before .before .before .before .before .args in
+    wrote-filled (wrote-is (wrote-then (c .before .before .before .before .before .before .before .before .before .before .put-name .ensures) (wrote-then (c .before .before .before .before .before .before .put-u16 .ensures) (c .before .before .put-parts .ensures))) (rw (c .before .before .before .before .before .before .before .before .before .before .before .before .cell-of .ensures .0) (sym (label-def-is (now (args .rows)) (now (args .text)) (args .q)))))
 
 pub label-def-body-spec : {M : Type 1} → statement M
 label-def-body-spec =

@@ -23,9 +23,10 @@ put-u32-requires-2 c κs = record { fits = omega (arith, c .before .before .befo
 
 returns : tie.Need-returns
 returns c =
+    let cell-of4 = c .before .before .before .before .before .before .before .before .cell-of4 in
     wrote-is
     (wrote-then (c .before .before .before .before .before .before .before .before .before .before .before .before .before .before .before .before .before .before .before .before .before .before .put-u16 .ensures) (wrote-then (c .before .before .before .before .before .before .before .before .before .before .before .before .before .before .before .before .before .put-u162 .ensures) (wrote-then (c .before .before .before .before .before .before .before .before .before .before .before .before .put-u163 .ensures) (wrote-then (c .before .before .before .before .before .before .before .put-u32 .ensures) (c .before .before .put-u322 .ensures)))))
-    (rw (c .before .before .before .before .before .before .before .before .before .before .before .before .before .before .before .before .before .before .before .before .before .before .before .cell-of .ensures .0, c .before .before .before .before .before .before .before .before .before .before .before .before .before .before .before .before .before .before .cell-of2 .ensures .0, c .before .before .before .before .before .before .before .before .before .before .before .before .before .cell-of3 .ensures .0, little-8 (c .before .before .before .before .before .before .before .before .cell-of4 .result) (c .before .before .before .cell-of5 .result) (c .before .before .before .before .before .before .before .before .cell-of4 .ensures .1), c .before .before .before .before .before .before .before .before .cell-of4 .ensures .0, c .before .before .before .cell-of5 .ensures .0))
+    (rw (c .before .before .before .before .before .before .before .before .before .before .before .before .before .before .before .before .before .before .before .before .before .before .before .cell-of .ensures .0, c .before .before .before .before .before .before .before .before .before .before .before .before .before .before .before .before .before .before .cell-of2 .ensures .0, c .before .before .before .before .before .before .before .before .before .before .before .before .before .cell-of3 .ensures .0, little-8 (cell-of4 .result) (c .before .before .before .cell-of5 .result) (cell-of4 .ensures .1), cell-of4 .ensures .0, c .before .before .before .cell-of5 .ensures .0))
 
 pub put-head-spec : {M : Type 1} → statement M
 put-head-spec =

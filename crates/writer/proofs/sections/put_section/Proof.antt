@@ -18,17 +18,22 @@ part-put-body-start : tie.Need-part-put-body-start
 part-put-body-start c = omega (arith, c .before .before .before .pre .1 .1 .fits, ap length (section-is (c .before .before .before .args .kind) (now (c .before .before .before .args .rows)) (now (c .before .before .before .args .text)) (c .before .before .before .args .q)))
 
 put-body-requires : tie.Need-put-body-requires
-put-body-requires c κs = (c .before .before .before .before .pre .0, (c .before .before .before .before .pre .1 .0, omega (arith, c .before .before .before .before .pre .1 .1 .fits, ap length (section-is (c .before .before .before .before .args .kind) (now (c .before .before .before .before .args .rows)) (now (c .before .before .before .before .args .text)) (c .before .before .before .before .args .q)), lent-length (c .before .before .before .before .args .at + 2) (now (c .before .before .before .before .args .out)))))
+put-body-requires c κs =
+    let start = c .before .before .before .before in
+    (start .pre .0, (start .pre .1 .0, omega (arith, start .pre .1 .1 .fits, ap length (section-is (start .args .kind) (now (start .args .rows)) (now (start .args .text)) (start .args .q)), lent-length (start .args .at + 2) (now (start .args .out)))))
 
 put-u16-requires : tie.Need-put-u16-requires
 put-u16-requires c κs =
-    let h : c .before .before .before .before .before .before .before .before .args .at + 2 ≤ length (now (c .before .before .before .before .before .before .before .before .args .out)) = omega (arith, c .before .before .before .before .before .before .before .before .pre .1 .1 .fits, ap length (section-is (c .before .before .before .before .before .before .before .before .args .kind) (now (c .before .before .before .before .before .before .before .before .args .rows)) (now (c .before .before .before .before .before .before .before .before .args .text)) (c .before .before .before .before .before .before .before .before .args .q))) in
-    record { fits = omega (arith, h, wrote-length (lent-wrote (c .before .before .before .before .before .before .before .before .args .at + 2) (now (c .before .before .before .before .before .before .before .before .args .out)) h (c .before .before .before .put-body .ensures))) }
+    let start = c .before .before .before .before .before .before .before .before in
+    let h : start .args .at + 2 ≤ length (now (start .args .out)) = omega (arith, start .pre .1 .1 .fits, ap length (section-is (start .args .kind) (now (start .args .rows)) (now (start .args .text)) (start .args .q))) in
+    record { fits = omega (arith, h, wrote-length (lent-wrote (start .args .at + 2) (now (start .args .out)) h (c .before .before .before .put-body .ensures))) }
 
 returns : tie.Need-returns
 returns c =
-    let h : c .before .before .before .before .before .before .before .before .before .before .before .args .at + 2 ≤ length (now (c .before .before .before .before .before .before .before .before .before .before .before .args .out)) = omega (arith, c .before .before .before .before .before .before .before .before .before .before .before .pre .1 .1 .fits, ap length (section-is (c .before .before .before .before .before .before .before .before .before .before .before .args .kind) (now (c .before .before .before .before .before .before .before .before .before .before .before .args .rows)) (now (c .before .before .before .before .before .before .before .before .before .before .before .args .text)) (c .before .before .before .before .before .before .before .before .before .before .before .args .q))) in
-    wrote-is (section-wrote refl (lent-wrote (c .before .before .before .before .before .before .before .before .before .before .before .args .at + 2) (now (c .before .before .before .before .before .before .before .before .before .before .before .args .out)) h (c .before .before .before .before .before .before .put-body .ensures)) _ (c .before .before .before .before .before .before .put-body .ensures .count) (c .before .before .put-u16 .ensures)) (sym (section-is (c .before .before .before .before .before .before .before .before .before .before .before .args .kind) (now (c .before .before .before .before .before .before .before .before .before .before .before .args .rows)) (now (c .before .before .before .before .before .before .before .before .before .before .before .args .text)) (c .before .before .before .before .before .before .before .before .before .before .before .args .q)))
+    let start = c .before .before .before .before .before .before .before .before .before .before .before in
+    let put-body = c .before .before .before .before .before .before .put-body .ensures in
+    let h : start .args .at + 2 ≤ length (now (start .args .out)) = omega (arith, start .pre .1 .1 .fits, ap length (section-is (start .args .kind) (now (start .args .rows)) (now (start .args .text)) (start .args .q))) in
+    wrote-is (section-wrote refl (lent-wrote (start .args .at + 2) (now (start .args .out)) h put-body) _ (put-body .count) (c .before .before .put-u16 .ensures)) (sym (section-is (start .args .kind) (now (start .args .rows)) (now (start .args .text)) (start .args .q)))
 
 pub put-section-spec : {M : Type 1} → statement M
 put-section-spec =

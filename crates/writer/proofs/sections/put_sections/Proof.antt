@@ -22,25 +22,33 @@ loop-holds c = (c .before .before .before .pre .0, refl, left-start (c .before .
 
 put-section-requires : tie.Need-put-section-requires Inv-loop μ-loop
 put-section-requires c κs =
-    let s = sections-next (c .before .before .before .before .before .before .args .kind) (now (c .before .before .before .before .before .before .args .rows)) (now (c .before .before .before .before .before .before .args .text)) (c .before .before .loop .p) (c .before .before .loop .todo) (c .before .loop-test .taken) (c .before .before .loop .inv .0) in
+    let args = c .before .before .before .before .before .before .args in
+    let s = sections-next (args .kind) (now (args .rows)) (now (args .text)) (c .before .before .loop .p) (c .before .before .loop .todo) (c .before .loop-test .taken) (c .before .before .loop .inv .0) in
     (own-row-inside _ _ _ _ (s .0), (s .0, many-room _ _ _ _ (c .before .before .loop .inv .2) (c .before .loop-test .taken)))
 
 next-row-requires : tie.Need-next-row-requires Inv-loop μ-loop
 next-row-requires c κs =
-    let s = sections-next (c .before .before .before .before .before .before .before .before .before .args .kind) (now (c .before .before .before .before .before .before .before .before .before .args .rows)) (now (c .before .before .before .before .before .before .before .before .before .args .text)) (c .before .before .before .before .before .loop .p) (c .before .before .before .before .before .loop .todo) (c .before .before .before .before .loop-test .taken) (c .before .before .before .before .before .loop .inv .0) in
+    let args = c .before .before .before .before .before .before .before .before .before .args in
+    let loop = c .before .before .before .before .before .loop in
+    let s = sections-next (args .kind) (now (args .rows)) (now (args .text)) (loop .p) (loop .todo) (c .before .before .before .before .loop-test .taken) (loop .inv .0) in
     own-row-inside _ _ _ _ (s .0)
 
 loop-again : tie.Need-loop-again Inv-loop μ-loop
 loop-again c =
-    let s = sections-next (c .before .before .before .before .before .before .before .before .before .before .args .kind) (now (c .before .before .before .before .before .before .before .before .before .before .args .rows)) (now (c .before .before .before .before .before .before .before .before .before .before .args .text)) (c .before .before .before .before .before .before .loop .p) (c .before .before .before .before .before .before .loop .todo) (c .before .before .before .before .before .loop-test .taken) (c .before .before .before .before .before .before .loop .inv .0) in
+    let args = c .before .before .before .before .before .before .before .before .before .before .args in
+    let loop = c .before .before .before .before .before .before .loop in
+    let loop-test = c .before .before .before .before .before .loop-test in
+    let s = sections-next (args .kind) (now (args .rows)) (now (args .text)) (loop .p) (loop .todo) (loop-test .taken) (loop .inv .0) in
     rw (c .next-row .ensures)
-    (s .1, sym (skip-next (c .before .before .before .before .before .before .before .before .before .before .args .kind) (now (c .before .before .before .before .before .before .before .before .before .before .args .rows)) (c .before .before .before .before .before .before .loop .p) (c .before .before .before .before .before .before .loop .todo) (c .before .before .before .before .before .loop-test .taken)) ∙ c .before .before .before .before .before .before .loop .inv .1, many-step _ _ _ _ (c .before .before .before .before .before .before .loop .inv .2) (c .before .before .before .before .before .loop-test .taken) (c .before .before .before .put-section .ensures))
+    (s .1, sym (skip-next (args .kind) (now (args .rows)) (loop .p) (loop .todo) (loop-test .taken)) ∙ loop .inv .1, many-step _ _ _ _ (loop .inv .2) (loop-test .taken) (c .before .before .before .put-section .ensures))
 
 same-length : tie.Need-same-length Inv-loop μ-loop
 same-length c = c .before .loop .inv .2 .long
 
 returns : tie.Need-returns Inv-loop μ-loop
-returns c = record { wrote = many-done _ _ _ _ (c .before .loop .inv .2) (c .loop-test .left); row = sym (skip-none (c .before .before .before .before .before .args .kind) (now (c .before .before .before .before .before .args .rows)) (c .before .loop .p) (c .before .loop .todo) (c .loop-test .left)) ∙ c .before .loop .inv .1 }
+returns c =
+    let args = c .before .before .before .before .before .args in
+    record { wrote = many-done _ _ _ _ (c .before .loop .inv .2) (c .loop-test .left); row = sym (skip-none (args .kind) (now (args .rows)) (c .before .loop .p) (c .before .loop .todo) (c .loop-test .left)) ∙ c .before .loop .inv .1 }
 
 pub put-sections-spec : {M : Type 1} → statement M
 put-sections-spec =

@@ -11,18 +11,25 @@ use Rattle.writer.proofs.sections.record_body.Statement.{statement}
 use Rattle.writer.proofs.sections.record_body.Tie as tie
 
 put-head-requires : tie.Need-put-head-requires
-put-head-requires c κs = (c .before .before .before .before .before .pre .0, record { fits = omega (arith, c .before .before .before .before .before .pre .1 .1, simp length-append at (ap length (record-is (now (c .before .before .before .before .before .args .rows)) (now (c .before .before .before .before .before .args .text)) (c .before .before .before .before .before .args .q)))) })
+put-head-requires c κs =
+    let start = c .before .before .before .before .before in
+    (start .pre .0, record { fits = omega (arith, start .pre .1 .1, simp length-append at (ap length (record-is (now (start .args .rows)) (now (start .args .text)) (start .args .q)))) })
 
 put-name-requires : tie.Need-put-name-requires
-put-name-requires c κs = (c .before .before .before .before .before .before .before .before .before .pre .0, (c .before .before .before .before .before .before .before .before .before .pre .1 .0 .own, record { fits = omega (arith, c .before .before .before .before .before .before .before .before .before .pre .1 .1, simp length-append at (ap length (record-is (now (c .before .before .before .before .before .before .before .before .before .args .rows)) (now (c .before .before .before .before .before .before .before .before .before .args .text)) (c .before .before .before .before .before .before .before .before .before .args .q)))) }))
+put-name-requires c κs =
+    let start = c .before .before .before .before .before .before .before .before .before in
+    (start .pre .0, (start .pre .1 .0 .own, record { fits = omega (arith, start .pre .1 .1, simp length-append at (ap length (record-is (now (start .args .rows)) (now (start .args .text)) (start .args .q)))) }))
 
 put-fields-requires : tie.Need-put-fields-requires
 put-fields-requires c κs =
-    let f = record-fields (now (c .before .before .before .before .before .before .before .before .before .before .before .before .before .args .rows)) (c .before .before .before .before .before .before .before .before .before .before .before .before .before .args .q) (now (c .before .before .before .before .before .before .before .before .before .before .before .before .before .args .text)) (c .before .before .before .before .before .before .before .before .before .before .before .before .before .pre .1 .0) in
-    rw (c .before .before .before .before .before .before .before .before .before .cell-of .ensures .0) (f .0, (f .1, record { fits = omega (arith, c .before .before .before .before .before .before .before .before .before .before .before .before .before .pre .1 .1, simp length-append at (ap length (record-is (now (c .before .before .before .before .before .before .before .before .before .before .before .before .before .args .rows)) (now (c .before .before .before .before .before .before .before .before .before .before .before .before .before .args .text)) (c .before .before .before .before .before .before .before .before .before .before .before .before .before .args .q)))) }))
+    let start = c .before .before .before .before .before .before .before .before .before .before .before .before .before in
+    let f = record-fields (now (start .args .rows)) (start .args .q) (now (start .args .text)) (start .pre .1 .0) in
+    rw (c .before .before .before .before .before .before .before .before .before .cell-of .ensures .0) (f .0, (f .1, record { fits = omega (arith, start .pre .1 .1, simp length-append at (ap length (record-is (now (start .args .rows)) (now (start .args .text)) (start .args .q)))) }))
 
 returns : tie.Need-returns
-returns c = wrote-filled (wrote-is (wrote-then (c .before .before .before .before .before .before .before .before .before .before .put-head .ensures) (wrote-then (c .before .before .before .before .before .before .put-name .ensures) (c .before .before .put-fields .ensures))) (rw (c .before .before .before .before .before .before .before .before .before .before .before .before .cell-of .ensures .0) (sym (record-is (now (c .before .before .before .before .before .before .before .before .before .before .before .before .before .before .before .before .args .rows)) (now (c .before .before .before .before .before .before .before .before .before .before .before .before .before .before .before .before .args .text)) (c .before .before .before .before .before .before .before .before .before .before .before .before .before .before .before .before .args .q)))))
+returns c =
+    let args = c .before .before .before .before .before .before .before .before .before .before .before .before .before .before .before .before .args in
+    wrote-filled (wrote-is (wrote-then (c .before .before .before .before .before .before .before .before .before .before .put-head .ensures) (wrote-then (c .before .before .before .before .before .before .put-name .ensures) (c .before .before .put-fields .ensures))) (rw (c .before .before .before .before .before .before .before .before .before .before .before .before .cell-of .ensures .0) (sym (record-is (now (args .rows)) (now (args .text)) (args .q)))))
 
 pub record-body-spec : {M : Type 1} → statement M
 record-body-spec =
