@@ -6,7 +6,7 @@ use mathlib.Core.Bool.{Bool, true, false, _||_, cond}
 use mathlib.Core.List.{List, []}
 use lib.ListN.{length}
 use lib.Dec.{leb, eqb}
-use Rattle.codec.specs.Codec as plain
+use Rattle.codec.specs.Codec
 use Rattle.codec.specs.Codec.{Res, _>>=_, need, whole, isNil}
 use Rattle.codec.specs.Format.{Format, raw, num, skip, rawTest, numTest, _then_, on, named, checked, judged, asks, sized, apart, spanned, remainder}
 use Rattle.text.specs.Utf8.{utf8}
@@ -84,17 +84,17 @@ fromHeader h = (h .dataset, (h .schema, (h .start, (h .end, (h .limit, (h .count
 
 unfoldable pub header : MetadataLengths → Format Header false
 header v = named toHeader fromHeader (λ x. refl)
-    (rawTest utf8 20 13 (v .«dataset_cstr_len»)
-    then numTest isSchema 21 13 2
-    then num 13 8
-    then num 13 8
-    then num 13 8
-    then skip 13 (v .«record_count_len»)
-    then numTest isStypeIn 22 13 1
-    then numTest isStype 23 13 1
-    then num 13 1
-    then num 13 (v .«symbol_cstr_len_len»)
-    then skip 13 (v .«reserved_len»))
+    (rawTest utf8 20 13 (v .«dataset_cstr_len»)  -- dataset text
+    then numTest isSchema 21 13 2  -- schema u16
+    then num 13 8  -- start
+    then num 13 8  -- end
+    then num 13 8  -- limit
+    then skip 13 (v .«record_count_len»)  -- record count, version 1 only
+    then numTest isStypeIn 22 13 1  -- stype_in
+    then numTest isStype 23 13 1  -- stype_out
+    then num 13 1  -- ts_out
+    then num 13 (v .«symbol_cstr_len_len»)  -- symbol width u16, not in version 1
+    then skip 13 (v .«reserved_len»))  -- reserved
 
 -- a version without a symbol width has 22
 abbrev pub orV1 : ℕ → ℕ → ℕ
@@ -113,23 +113,23 @@ abbrev pub layoutBox : Format (Parts × List ℕ) false
 layoutBox = apart 24 24 24 4 0 (asks 26 1 (parts utf8 D) (parts-some utf8 D))
 
 pub layout-blind : (sheet : List ℕ) (width : ℕ) (z : Parts × List ℕ) → rulesOf sheet width (layoutBox .codec .bare z .0) ≡ rulesOf sheet width (z .0)
-unfolding plain.boxed plain.asks
+unfolding Codec.boxed Codec.asks
 layout-blind sheet width z = rules-blind sheet width (z .0)
 
 -- the same length and bytes as they are
-pub raw-fits : (n : ℕ) (x : List ℕ) → plain.raw 24 n .legal x → length x ≡ n
-unfolding plain.raw
+pub raw-fits : (n : ℕ) (x : List ℕ) → Codec.raw 24 n .legal x → length x ≡ n
+unfolding Codec.raw
 raw-fits n x lg = lg .0
 
-pub raw-same : (n : ℕ) (x : List ℕ) → length (plain.raw 24 n .bare x) ≡ length x
-unfolding plain.raw
+pub raw-same : (n : ℕ) (x : List ℕ) → length (Codec.raw 24 n .bare x) ≡ length x
+unfolding Codec.raw
 raw-same n x = refl
 
 abbrev pub bytes : Format (List ℕ) false
 bytes = sized 24 4 length (raw 24) raw-fits raw-same
 
 pub bytes-blind : (x : List ℕ) → isNil (bytes .codec .bare x) ≡ isNil x
-unfolding plain.sized plain.raw
+unfolding Codec.sized Codec.raw
 bytes-blind x = refl
 
 -- version 4: read and ruled on. Below: 25 where there are any bytes
@@ -149,7 +149,7 @@ abbrev pub body : List ℕ → MetadataLengths → ℕ → Format (Layout × Sym
 body sheet v width = layoutPart (v .«has_layout») sheet width then symbologyPart (v .«has_layout») width
 
 pub header-width : (v : MetadataLengths) (h : Header) → widthOf v (header v .codec .bare h) ≡ widthOf v h
-unfolding header plain.named plain._then_ plain.num plain.checked plain.raw
+unfolding header Codec.named Codec._then_ Codec.num Codec.checked Codec.raw
 header-width v h = refl
 
 -- header, layout, symbology

@@ -7,7 +7,7 @@ use mathlib.Core.Path.{_≡_, refl, sym, ap, _∙_}
 use mathlib.Core.Bool.{Bool, true, false}
 use mathlib.Core.List.{List}
 use lib.ListN.{length}
-use Rattle.codec.specs.Codec as plain
+use Rattle.codec.specs.Codec
 use Rattle.codec.specs.Codec.{Codec}
 use Rattle.codec.specs.Laws.{Law, law-raw, law-skip, law-padded, law-num, law-byte, law-then, law-on, law-named, law-checked, law-judged, law-asks, law-placed, law-sized, law-times, law-distinct, law-limited, law-boxed, law-full, law-remainder, length-bare}
 use Rattle.codec.specs.Edits.{Edits}
@@ -30,55 +30,55 @@ pub record Format (A : Type 0) (e : Bool) : Type 1 where
 -- ---- bytes and numbers
 
 -- n bytes; k where they run past the end
-unfoldable pub raw-edits : (k n j : ℕ) → Edits (plain.raw k n) j
-unfolding plain.raw
+unfoldable pub raw-edits : (k n j : ℕ) → Edits (Codec.raw k n) j
+unfolding Codec.raw
 raw-edits k n j = edits-still _ j (λ x. refl) (λ p x. refl)
 
 abbrev pub raw : {e : Bool} → ℕ → ℕ → Format (List ℕ) e
-raw {e} k n = record { codec = plain.raw k n; law = law-raw k n; edits = raw-edits k n (tail e) }
+raw {e} k n = record { codec = Codec.raw k n; law = law-raw k n; edits = raw-edits k n (tail e) }
 
 -- a number of w bytes; k where they run past the end
-unfoldable pub num-edits : (k w j : ℕ) → Edits (plain.num k w) j
-unfolding plain.num
+unfoldable pub num-edits : (k w j : ℕ) → Edits (Codec.num k w) j
+unfolding Codec.num
 num-edits k w j = edits-still _ j (λ x. refl) (λ p x. refl)
 
 abbrev pub num : {e : Bool} → ℕ → ℕ → Format ℕ e
-num {e} k w = record { codec = plain.num k w; law = law-num k w; edits = num-edits k w (tail e) }
+num {e} k w = record { codec = Codec.num k w; law = law-num k w; edits = num-edits k w (tail e) }
 
 -- n bytes that nobody looks at
 abbrev pub skip : {e : Bool} → ℕ → ℕ → Format (List ℕ) e
-skip {e} k n = record { codec = plain.skip k n; law = law-skip k n; edits = edits-skip k n (tail e) }
+skip {e} k n = record { codec = Codec.skip k n; law = law-skip k n; edits = edits-skip k n (tail e) }
 
 -- n bytes and m bytes that nobody looks at, as one
 abbrev pub padded : {e : Bool} → ℕ → ℕ → ℕ → Format (List ℕ × List ℕ) e
-padded {e} k n m = record { codec = plain.padded k n m; law = law-padded k n m; edits = edits-padded k n m (tail e) }
+padded {e} k n m = record { codec = Codec.padded k n m; law = law-padded k n m; edits = edits-padded k n m (tail e) }
 
 -- ---- one after the other
 
 infixr 25 _then_
 abbrev pub _then_ : {A B : Type 0} {e : Bool} → Format A e → Format B e → Format (A × B) e
 _then_ {e = e} F G = record {
-  codec = plain._then_ (F .codec) (G .codec);
+  codec = Codec._then_ (F .codec) (G .codec);
   law = law-then _ _ (F .law) (G .law);
   edits = edits-then _ _ (F .edits) (G .edits) (tail-one e) (λ y lg. omega arith);
 }
 
 -- the byte b; k where it is missing, k′ where another stands there
-unfoldable pub byte-edits : (k k′ b j : ℕ) → Edits (plain.byte k k′ b) j
-unfolding plain.byte
+unfoldable pub byte-edits : (k k′ b j : ℕ) → Edits (Codec.byte k k′ b) j
+unfolding Codec.byte
 byte-edits k k′ b j = edits-still _ j (λ x. refl) (λ p x. refl)
 
 abbrev pub byte : {e : Bool} → ℕ → ℕ → ℕ → Format (Unit {0}) e
-byte {e} k k′ b = record { codec = plain.byte k k′ b; law = law-byte k k′ b; edits = byte-edits k k′ b (tail e) }
+byte {e} k k′ b = record { codec = Codec.byte k k′ b; law = law-byte k k′ b; edits = byte-edits k k′ b (tail e) }
 
 -- the byte b after it, so that no place stands at the very end
-pub byte-one : (k k′ b : ℕ) (x : Unit {0}) → plain.byte k k′ b .legal x → 1 ≤ length (plain.byte k k′ b .print x) + 0
-unfolding plain.byte
+pub byte-one : (k k′ b : ℕ) (x : Unit {0}) → Codec.byte k k′ b .legal x → 1 ≤ length (Codec.byte k k′ b .print x) + 0
+unfolding Codec.byte
 byte-one k k′ b x lg = omega arith
 
 abbrev pub closed : {A : Type 0} → ℕ → ℕ → ℕ → Format A true → Format (A × Unit {0}) false
 closed k k′ b F = record {
-  codec = plain._then_ (F .codec) (plain.byte k k′ b);
+  codec = Codec._then_ (F .codec) (Codec.byte k k′ b);
   law = law-then _ _ (F .law) (law-byte k k′ b);
   edits = edits-then _ _ (F .edits) (byte-edits k k′ b 0) (tail-one true) (byte-one k k′ b);
 }
@@ -86,7 +86,7 @@ closed k k′ b F = record {
 -- what follows may depend on what was read, places and skipped bytes apart
 abbrev pub on : {A B : Type 0} {e : Bool} (F : Format A e) (G : A → Format B e) → ((x : A) → G (F .codec .bare x) ≡ G x) → Format (A × B) e
 on {B = B} {e} F G blind = record {
-  codec = plain._on_ (F .codec) λ x. G x .codec;
+  codec = Codec._on_ (F .codec) λ x. G x .codec;
   law = law-on _ _ (F .law) (λ x. G x .law) (λ x. ap (λ (H : Format B e). H .codec) (blind x));
   edits = edits-on _ _ (F .edits) (λ x. G x .edits) (λ x y q. ap (λ (H : Format B e). (H .codec, H .edits)) (sym (blind x) ∙ ap G q ∙ blind y)) (tail e);
 }
@@ -95,44 +95,44 @@ on {B = B} {e} F G blind = record {
 
 -- a value with the place where it starts
 abbrev pub placed : {A : Type 0} → Format A false → Format (ℕ × A) true
-placed F = record { codec = plain.placed (F .codec); law = law-placed _ (F .law); edits = edits-placed _ (F .edits) zero-le }
+placed F = record { codec = Codec.placed (F .codec); law = law-placed _ (F .law); edits = edits-placed _ (F .edits) zero-le }
 
 module _ {A : Type 0} {e : Bool} where
   -- the same bytes under another name
   abbrev pub named : {B : Type 0} (to : A → B) (from : B → A) → ((x : A) → from (to x) ≡ x) → Format A e → Format B e
-  named to from same F = record { codec = plain.named to from (F .codec); law = law-named _ (F .law) to from same; edits = edits-named _ (F .edits) to from same }
+  named to from same F = record { codec = Codec.named to from (F .codec); law = law-named _ (F .law) to from same; edits = edits-named _ (F .edits) to from same }
 
   -- k is refused where what was read fails the test, which sees no place and no skipped byte
   abbrev pub checked : (test : A → Bool) → ℕ → (F : Format A e) → ((x : A) → test (F .codec .bare x) ≡ test x) → Format A e
-  checked test k F blind = record { codec = plain.checked test k (F .codec); law = law-checked _ (F .law) test k blind; edits = edits-checked _ (F .edits) test k blind }
+  checked test k F blind = record { codec = Codec.checked test k (F .codec); law = law-checked _ (F .law) test k blind; edits = edits-checked _ (F .edits) test k blind }
 
   -- refused by the number that the rules give; 0 is none
   abbrev pub judged : (rules : A → ℕ) (F : Format A e) → ((x : A) → rules (F .codec .bare x) ≡ rules x) → Format A e
-  judged rules F blind = record { codec = plain.judged rules (F .codec); law = law-judged _ (F .law) rules blind; edits = edits-judged _ (F .edits) rules blind }
+  judged rules F blind = record { codec = Codec.judged rules (F .codec); law = law-judged _ (F .law) rules blind; edits = edits-judged _ (F .edits) rules blind }
 
   -- k where fewer than n bytes are left; no value has fewer
   abbrev pub asks : ℕ → (n : ℕ) (F : Format A e) → ((x : A) → F .codec .legal x → n ≤ length (F .codec .print x)) → Format A e
-  asks k n F much = record { codec = plain.asks k n (F .codec); law = law-asks _ (F .law) k n much; edits = edits-asks _ (F .edits) k n }
+  asks k n F much = record { codec = Codec.asks k n (F .codec); law = law-asks _ (F .law) k n much; edits = edits-asks _ (F .edits) k n }
 
   -- a number n of w bytes (k where it is missing), then what n says; `size` gives n back
   abbrev pub sized : ℕ → (w : ℕ) (size : A → ℕ) (F : ℕ → Format A e) → ((n : ℕ) (x : A) → F n .codec .legal x → size x ≡ n) → ((n : ℕ) (x : A) → size (F n .codec .bare x) ≡ size x) → Format A e
   sized k w size F fits blind = record {
-    codec = plain.sized k w size (λ n. F n .codec);
+    codec = Codec.sized k w size (λ n. F n .codec);
     law = law-sized k w size _ (λ n. F n .law) fits blind;
     edits = edits-sized k w size _ (λ n. F n .edits) blind (λ n. F n .law);
   }
 
 -- n bytes that pass a test, or k′; k where they run past the end
-pub raw-blind : (test : List ℕ → Bool) (k n : ℕ) (x : List ℕ) → test (plain.raw k n .bare x) ≡ test x
-unfolding plain.raw
+pub raw-blind : (test : List ℕ → Bool) (k n : ℕ) (x : List ℕ) → test (Codec.raw k n .bare x) ≡ test x
+unfolding Codec.raw
 raw-blind test k n x = refl
 
 abbrev pub rawTest : {e : Bool} → (List ℕ → Bool) → ℕ → ℕ → ℕ → Format (List ℕ) e
 rawTest test k′ k n = checked test k′ (raw k n) (raw-blind test k n)
 
 -- a number of w bytes that passes a test, or k′; k where they run past the end
-pub num-blind : (test : ℕ → Bool) (k w x : ℕ) → test (plain.num k w .bare x) ≡ test x
-unfolding plain.num
+pub num-blind : (test : ℕ → Bool) (k w x : ℕ) → test (Codec.num k w .bare x) ≡ test x
+unfolding Codec.num
 num-blind test k w x = refl
 
 abbrev pub numTest : {e : Bool} → (ℕ → Bool) → ℕ → ℕ → ℕ → Format ℕ e
@@ -142,14 +142,14 @@ numTest test k′ k w = checked test k′ (num k w) (num-blind test k w)
 
 module _ {A : Type 0} {e : Bool} (F : Format A e) where
   abbrev pub times : ℕ → Format (List A) e
-  times n = record { codec = plain.times (F .codec) n; law = law-times _ (F .law) n; edits = edits-times _ (F .law) (F .edits) (tail-one e) n }
+  times n = record { codec = Codec.times (F .codec) n; law = law-times _ (F .law) n; edits = edits-times _ (F .law) (F .edits) (tail-one e) n }
 
   pub times-fits : (n : ℕ) (xs : List A) → times n .codec .legal xs → length xs ≡ n
-  unfolding plain.times
+  unfolding Codec.times
   times-fits n xs lg = lg .0
 
   pub times-blind : (n : ℕ) (xs : List A) → length (times n .codec .bare xs) ≡ length xs
-  unfolding plain.times
+  unfolding Codec.times
   times-blind n xs = length-bare _ (F .law) xs
 
   -- u16 count (k where it is missing), then that many
@@ -160,17 +160,17 @@ module _ {A : Type 0} {e : Bool} (F : Format A e) where
   module _ (key : A → ℕ) (k k′ : ℕ) (blind : (x : A) → key (F .codec .bare x) ≡ key x) where
     abbrev pub distinct : ℕ → Format (List A) e
     distinct n = record {
-      codec = plain.distinct (F .codec) key k′ n;
+      codec = Codec.distinct (F .codec) key k′ n;
       law = law-distinct _ (F .law) key k′ blind n;
       edits = edits-distinct _ (F .law) (F .edits) (tail-one e) key k′ blind n;
     }
 
     pub distinct-fits : (n : ℕ) (xs : List A) → distinct n .codec .legal xs → length xs ≡ n
-    unfolding plain.distinct
+    unfolding Codec.distinct
     distinct-fits n xs lg = lg .0
 
     pub distinct-blind : (n : ℕ) (xs : List A) → length (distinct n .codec .bare xs) ≡ length xs
-    unfolding plain.distinct
+    unfolding Codec.distinct
     distinct-blind n xs = length-bare _ (F .law) xs
 
     abbrev pub keyed : Format (List A) e
@@ -179,7 +179,7 @@ module _ {A : Type 0} {e : Bool} (F : Format A e) where
   -- a count of w bytes (k where it is missing, k′ where it is over the bytes left / least), then that many of at least `least` bytes
   abbrev pub limited : (k k′ w least : ℕ) → ((x : A) → F .codec .legal x → least ≤ length (F .codec .print x)) → Format (List A) e
   limited k k′ w least big = record {
-    codec = plain.limited (F .codec) k k′ w least;
+    codec = Codec.limited (F .codec) k k′ w least;
     law = law-limited _ (F .law) least big k k′ w;
     edits = edits-limited _ (F .law) (F .edits) (tail-one e) k k′ w least big (law-times _ (F .law));
   }
@@ -190,11 +190,11 @@ module _ {A B : Type 0} {e : Bool} (F : Format A e) (G : Format B e) where
   both n = times F n then times G n
 
   pub both-fits : (n : ℕ) (z : List A × List B) → both n .codec .legal z → length (z .0) ≡ n
-  unfolding plain._then_ plain.times
+  unfolding Codec._then_ Codec.times
   both-fits n z lg = lg .0 .0
 
   pub both-blind : (n : ℕ) (z : List A × List B) → length (both n .codec .bare z .0) ≡ length (z .0)
-  unfolding plain._then_ plain.times
+  unfolding Codec._then_ Codec.times
   both-blind n z = length-bare _ (F .law) (z .0)
 
   abbrev pub countedBoth : ℕ → Format (List A × List B) e
@@ -206,7 +206,7 @@ module _ {A B : Type 0} {e : Bool} (F : Format A e) (G : Format B e) where
 -- k′ where it is below `own`, k″ where the body runs past the end. Places in the body are places here
 abbrev pub boxed : {A : Type 0} {e : Bool} → ℕ → ℕ → ℕ → ℕ → ℕ → Format A false → Format (A × List ℕ) e
 boxed {e = e} k k′ k″ w own F = record {
-  codec = plain.boxed k k′ k″ w own (λ p. p) (F .codec .each) (F .codec);
+  codec = Codec.boxed k k′ k″ w own (λ p. p) (F .codec .each) (F .codec);
   law = law-boxed _ (F .law) k k′ k″ w own (λ p. p) _ (F .law .spotted);
   edits = edits-boxed k k′ k″ w own _ _ (F .edits) (tail e);
 }
@@ -214,20 +214,20 @@ boxed {e = e} k k′ k″ w own F = record {
 -- the same, with places that count from the body's own first byte and are no places here
 abbrev pub apart : {A : Type 0} {e : Bool} → ℕ → ℕ → ℕ → ℕ → ℕ → Format A false → Format (A × List ℕ) e
 apart {e = e} k k′ k″ w own F = record {
-  codec = plain.boxed k k′ k″ w own (λ p. 0) (λ P x. Unit {0}) (F .codec);
+  codec = Codec.boxed k k′ k″ w own (λ p. 0) (λ P x. Unit {0}) (F .codec);
   law = law-boxed _ (F .law) k k′ k″ w own (λ p. 0) _ (λ P p x h. tt);
   edits = edits-apart k k′ k″ w own (λ p. 0) _ _ (F .edits) (tail e);
 }
 
 -- the same with places here, and contents that span it: k where something is left over, j where length or body is cut short; no edit changes it
 module _ {A : Type 0} {d : Bool} (k j w own : ℕ) (F : Format A d) where
-  pub law-spanned : Law (plain.full k (plain.boxed j j j w own (λ p. p) (F .codec .each) (F .codec)))
-  unfolding plain.boxed
+  pub law-spanned : Law (Codec.full k (Codec.boxed j j j w own (λ p. p) (F .codec .each) (F .codec)))
+  unfolding Codec.boxed
   law-spanned = law-full k _ (law-boxed _ (F .law) j j j w own (λ p. p) _ (F .law .spotted)) (λ p z. refl) (λ z. refl)
 
   abbrev pub spanned : {e : Bool} → Format A e
-  spanned {e} = record { codec = plain.full k (plain.boxed j j j w own (λ p. p) (F .codec .each) (F .codec)); law = law-spanned; edits = edits-kept _ (tail e) }
+  spanned {e} = record { codec = Codec.full k (Codec.boxed j j j w own (λ p. p) (F .codec .each) (F .codec)); law = law-spanned; edits = edits-kept _ (tail e) }
 
 -- what stands from here on, as a list of its own; no edit changes it
 abbrev pub remainder : {A : Type 0} {d e : Bool} → Format A d → Format A e
-remainder {e = e} F = record { codec = plain.remainder (F .codec); law = law-remainder _ (F .law); edits = edits-kept _ (tail e) }
+remainder {e = e} F = record { codec = Codec.remainder (F .codec); law = law-remainder _ (F .law); edits = edits-kept _ (tail e) }

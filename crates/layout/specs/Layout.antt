@@ -4,7 +4,7 @@ use Prim.Native.Nat.{ℕ, _-_}
 use mathlib.Core.Path.{_≡_, refl}
 use mathlib.Core.Bool.{Bool, false}
 use mathlib.Core.List.{List, [], _++_}
-use Rattle.codec.specs.Codec as plain
+use Rattle.codec.specs.Codec
 use Rattle.codec.specs.Codec.{Res, ok, _>>=_, Bytes, whole}
 use Rattle.codec.specs.Format.{Format, _then_, named, padded, counted, keyed, countedBoth}
 use Rattle.wire.specs.Formats.{Name, u16, u64, section, name}
@@ -88,7 +88,7 @@ module _ (utf8 : List ℕ → Bool) where
   label = named (λ z. record { code = z .0; name = z .1 }) (λ l. (l .code, l .name)) (λ x. refl) (u16 then name utf8)
 
   pub label-code : (l : Label) → label .codec .bare l .code ≡ l .code
-  unfolding label plain.named plain._then_ plain.num
+  unfolding label Codec.named Codec._then_ Codec.num
   label-code l = refl
 
   -- name, u16 count, then labels; 55 where a code comes again

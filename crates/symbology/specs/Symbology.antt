@@ -6,7 +6,7 @@ use mathlib.Core.Path.{refl}
 use mathlib.Core.Bool.{Bool, true}
 use mathlib.Core.List.{List}
 use lib.ListN.{length, length-append}
-use Rattle.codec.specs.Codec as plain
+use Rattle.codec.specs.Codec
 use Rattle.codec.specs.Laws.{length-little}
 use Rattle.codec.specs.Format.{Format, _then_, named, placed, rawTest, numTest, asks, limited}
 
@@ -52,7 +52,7 @@ module _ (utf8 : List ℕ → Bool) (isDate : ℕ → Bool) (width : ℕ) where
   symbol k k′ = named toSymbol (λ s. (s .start, s .text)) (λ x. refl) (placed (rawTest utf8 k′ k width))
 
   pub symbol-big : (k k′ : ℕ) (x : Symbol) → symbol k k′ .codec .legal x → width ≤ length (symbol k k′ .codec .print x)
-  unfolding symbol plain.named plain.placed plain.checked plain.raw
+  unfolding symbol Codec.named Codec.placed Codec.checked Codec.raw
   symbol-big k k′ x lg = omega (arith, lg .0 .0)
 
   -- year x 10000 + month x 100 + day in four bytes; k where they are cut short or no date
@@ -69,7 +69,7 @@ module _ (utf8 : List ℕ → Bool) (isDate : ℕ → Bool) (width : ℕ) where
       (date 38 then date 39 then symbol 37 40)
 
   pub interval-big : (x : Interval) → interval .codec .legal x → width + 8 ≤ length (interval .codec .print x)
-  unfolding interval plain.named plain._then_ date plain.checked plain.num
+  unfolding interval Codec.named Codec._then_ date Codec.checked Codec.num
   interval-big x lg = simp (length-append, length-little) (omega (arith, symbol-big 37 40 (x .symbol) (lg .1 .1)))
 
   -- raw symbol (36), u32 interval count (37 where it is too large), intervals
@@ -77,7 +77,7 @@ module _ (utf8 : List ℕ → Bool) (isDate : ℕ → Bool) (width : ℕ) where
   mappingBody = symbol 35 36 then limited interval 35 37 4 (width + 8) interval-big
 
   pub body-big : (x : Symbol × List Interval) → mappingBody .codec .legal x → width + 4 ≤ length (mappingBody .codec .print x)
-  unfolding plain._then_ plain.limited
+  unfolding Codec._then_ Codec.limited
   body-big x lg = simp (length-append, length-little) (omega (arith, symbol-big 35 36 (x .0) (lg .0)))
 
   -- 35 where symbol and count do not fit, before anything in the item is judged
@@ -85,7 +85,7 @@ module _ (utf8 : List ℕ → Bool) (isDate : ℕ → Bool) (width : ℕ) where
   mapping = named toMapping (λ m. (m .rawSymbol, m .intervals)) (λ x. refl) (asks 35 (width + 4) mappingBody body-big)
 
   pub mapping-big : (x : Mapping) → mapping .codec .legal x → width + 4 ≤ length (mapping .codec .print x)
-  unfolding mapping plain.named plain.asks
+  unfolding mapping Codec.named Codec.asks
   mapping-big x lg = body-big (x .rawSymbol, x .intervals) lg
 
   -- lists symbols, partial, not found; then u32 mapping count (33 where it is missing, 34 where it is too large), mappings

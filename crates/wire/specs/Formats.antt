@@ -5,7 +5,7 @@ use mathlib.Core.Path.{refl}
 use mathlib.Core.Bool.{Bool, true, false, not}
 use mathlib.Core.List.{List}
 use lib.ListN.{length}
-use Rattle.codec.specs.Codec as plain
+use Rattle.codec.specs.Codec
 use Rattle.codec.specs.Codec.{among}
 use Rattle.codec.specs.Format.{Format, raw, num, closed, named, checked, placed, sized, boxed}
 
@@ -30,12 +30,12 @@ section F = boxed 50 51 50 2 2 F
 module _ (utf8 : List ℕ → Bool) where
   -- n bytes; 50 where they are cut short, 52 for a NUL among them, 53 where they are not UTF-8
   unfoldable pub textOf : ℕ → Format (ℕ × List ℕ) true
-  unfolding plain.raw plain.checked
+  unfolding Codec.raw Codec.checked
   textOf n = placed (checked utf8 53 (checked noNul 52 (raw 50 n) (λ x. refl)) (λ x. refl))
 
   -- length byte and bytes
   unfoldable pub text : Format (ℕ × List ℕ) true
-  unfolding textOf plain.raw plain.checked plain.placed
+  unfolding textOf Codec.raw Codec.checked Codec.placed
   text = sized 50 1 (λ z. length (z .1)) textOf (λ n x lg. lg .0 .0 .0) (λ n x. refl)
 
   -- length byte, bytes, one NUL; 50 where the last byte is missing, 54 where it is no NUL
