@@ -92,12 +92,6 @@ pub fn check_field(sheet: &[u16; 520], aligns: &[u16], frame: Frame, seen: bool,
 
 // ---- numbers
 
-fn wide(x: u8) -> usize
-    ensures { λ r. ⌜ (r ≡ x) × (r < 256) ⌝ }
-{
-    x as usize
-}
-
 fn wide16(x: u16) -> usize
     ensures { λ r. ⌜ (r ≡ x) × (r < 65536) ⌝ }
 {
@@ -107,7 +101,7 @@ fn wide16(x: u16) -> usize
 fn pair(lo: u8, hi: u8) -> usize
     ensures { λ r. ⌜ (r ≡ lo + 256 * hi) × (r < 65536) ⌝ }
 {
-    wide(lo) + 256 * wide(hi)
+    numbers::wide(lo) + 256 * numbers::wide(hi)
 }
 
 fn both(a: bool, b: bool) -> bool
@@ -153,7 +147,7 @@ fn end_of(e: [u8; 11]) -> usize
 fn type_of(e: [u8; 11]) -> usize
     ensures { λ r. ⌜ (r ≡ typeOf e) × (r < 256) ⌝ }
 {
-    wide(e[6])
+    numbers::wide(e[6])
 }
 
 fn def_of(e: [u8; 11]) -> usize
@@ -202,7 +196,7 @@ fn is_extension(sheet: &[u16; 520], e: [u8; 11]) -> bool
     if w == 0 {
         return false;
     }
-    wide(e[7]) / w % 2 == 1
+    numbers::wide(e[7]) / w % 2 == 1
 }
 
 // Whether a record's entry stands at or past the base.

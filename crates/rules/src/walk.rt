@@ -11,18 +11,12 @@ ghost use Rattle.numbers.specs.Numbers.{le16};
 ghost use Rattle.rules.specs.Items.{sectionItem, rowItem, SectionInside, Good, Stepped, kindOf};
 ghost use Rattle.rules.specs.RowRules.{column};
 
-fn wide(x: u8) -> usize
-    ensures { λ r. ⌜ (r ≡ x) × (r < 256) ⌝ }
-{
-    x as usize
-}
-
 // The u16 at `at`.
 pub(crate) fn half(s: &[u8], at: usize) -> usize
     requires { ⌜ at + 2 ≤ length (now s) ⌝ }
     ensures { λ r. ⌜ (r ≡ le16 (now (s .entry)) at) × (r < 65536) ⌝ }
 {
-    wide(s[at]) + 256 * wide(s[at + 1])
+    numbers::wide(s[at]) + 256 * numbers::wide(s[at + 1])
 }
 
 pub(crate) fn smaller(a: usize, b: usize) -> usize
@@ -59,7 +53,7 @@ fn section_item(layout: &[u8], is_record: bool, at: usize) -> Item
     let rtype = rtype_at(layout, is_record, at + 2);
     let base = half(layout, at + column(is_record, 6, 2));
     let name = at + column(is_record, 16, 4);
-    let p = name + wide(layout[name]) + 2;
+    let p = name + numbers::wide(layout[name]) + 2;
     let count = half(layout, p);
     Item {
         rtype,
