@@ -116,6 +116,13 @@ fn count(layout: &[u8], rows: &[u32], src: Source, frame: Frame, ext: bool) -> u
     k
 }
 
+// How far a chase went.
+fn chased(quit: bool, used: usize, cursor: usize) -> Chased
+    ensures { λ r. ⌜ (r .quit ≡ quit) × ((r .used ≡ used) × (r .cursor ≡ cursor)) ⌝ }
+{
+    Chased { quit, used, cursor }
+}
+
 // From end to end, until no entry of the side starts at the cursor, or until no looks are to spare. None starts at `stop`, where
 // the search is spared.
 fn chase(
@@ -141,26 +148,18 @@ fn chase(
     while cursor != stop {
         let turn = seek_on(layout, rows, src, from, frame, ext, cursor, looks);
         if turn.quit {
-            return Chased {
-                quit: true,
-                used,
-                cursor,
-            };
+            return chased(true, used, cursor);
         }
         let hit = turn.hit;
         if hit.end == 0 {
-            break;
+            return chased(false, used, cursor);
         }
         used += 1;
         cursor = hit.end;
         from = hit.rest;
         looks = turn.spare;
     }
-    Chased {
-        quit: false,
-        used,
-        cursor,
-    }
+    chased(false, used, cursor)
 }
 
 // 81 and 82 of entries that passed 71 to 80, k of which are on the side of the base, or 0; or the search gave up.

@@ -7,7 +7,6 @@ use crate::Task;
 use crate::sequence;
 use crate::sequence::seq_fault;
 use crate::walk;
-use fields::Frame;
 ghost use mathlib.Core.Path.{_≡_};
 ghost use mathlib.Core.Bool.{true, false};
 ghost use mathlib.Core.List.{[]};
@@ -91,22 +90,15 @@ fn struct_fault(
     if item.base % a != 0 {
         return refusal::STRUCT_SIZE;
     }
-    let f = Frame {
-        is_record: false,
-        base: item.base,
-        width: task.width,
-        labels: task.labels,
-    };
-    let by_marks = task.by_marks;
     seq_fault(
         sheet,
         aligns,
         layout,
         rows,
         item,
-        f,
+        false,
+        task,
         marks,
-        by_marks,
         owners,
     )
 }
@@ -143,24 +135,7 @@ fn record_fault(
     if item.base % 8 != 0 {
         return refusal::BASE_NOT_OF_8;
     }
-    let f = Frame {
-        is_record: true,
-        base: item.base,
-        width: task.width,
-        labels: task.labels,
-    };
-    let by_marks = task.by_marks;
-    seq_fault(
-        sheet,
-        aligns,
-        layout,
-        rows,
-        item,
-        f,
-        marks,
-        by_marks,
-        owners,
-    )
+    seq_fault(sheet, aligns, layout, rows, item, true, task, marks, owners)
 }
 
 // The first number that a struct gives, in table order, or 0.

@@ -2,6 +2,7 @@
 use crate::GAVE_UP;
 use crate::Item;
 use crate::Source;
+use crate::Task;
 use crate::by_marks;
 use crate::by_search;
 use crate::entries;
@@ -145,16 +146,16 @@ pub(crate) fn seq_fault(
     layout: &[u8],
     rows: &[u32],
     item: Item,
-    frame: Frame,
+    is_record: bool,
+    task: Task,
     marks: &mut [u64; 1024],
-    by_marks: bool,
     owners: &mut [u16],
 ) -> u32
     requires { ⌜ InSlice (now layout) (now rows) (item .entries) ⌝ }
     requires { ⌜ Marks (now marks) [] ⌝ }
-    requires { ⌜ frame .base < 65536 ⌝ }
+    requires { ⌜ item .base < 65536 ⌝ }
     requires { ⌜ Unowned (now owners) ⌝ }
-    ensures { λ r. ⌜ Tried (now (owners .entry)) (seqFault (now (sheet .entry)) (frame .width) (frame .labels) (now (aligns .entry)) (frame .«is_record») (judged (frame .base) (item .names) (entriesOf (now (layout .entry)) (now (rows .entry)) (item .entries)))) r ⌝ }
+    ensures { λ r. ⌜ Tried (now (owners .entry)) (seqFault (now (sheet .entry)) (task .width) (task .labels) (now (aligns .entry)) «is_record» (judged (item .base) (item .names) (entriesOf (now (layout .entry)) (now (rows .entry)) (item .entries)))) r ⌝ }
     ensures { λ r. ⌜ Clean r (now (marks .exit)) ⌝ }
     ensures { λ _. ⌜ now (owners .exit) ≡ now (owners .entry) ⌝ }
 {
@@ -162,10 +163,16 @@ pub(crate) fn seq_fault(
     if item.names != src.count {
         return refusal::NAMES_AND_FIELDS;
     }
+    let frame = Frame {
+        is_record,
+        base: item.base,
+        width: task.width,
+        labels: task.labels,
+    };
     let a = fields_fault(sheet, aligns, layout, rows, src, frame, marks);
     if a != 0 {
         return a;
     }
     wipe_ids(sheet, layout, rows, src, marks);
-    tiling(layout, rows, src, frame, by_marks, owners)
+    tiling(layout, rows, src, frame, task.by_marks, owners)
 }

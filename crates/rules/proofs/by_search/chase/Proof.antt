@@ -1,7 +1,8 @@
 -- The invariant: the chase so far. Assumes nothing.
 use Prim.Native.Nat.{_-_, _≤_, _<_, zero-le}
-use mathlib.Core.Path.{subst}
+use mathlib.Core.Path.{sym, _∙_, subst}
 use native.Mathlib.Omega.{arith}
+use borrow.Author.Needs.{needs}
 use Rattle.rules.proofs.Search.{ended, reach-past}
 use Rattle.rules.specs.Search.{Reached, begun, on, PartOf}
 use Rattle.rules.specs.Entries.{entriesOf}
@@ -23,7 +24,7 @@ seek-on-requires : tie.Need-seek-on-requires Inv-loop μ-loop
 seek-on-requires c κs = let pre = c .before .before .before .before .pre in (pre .0, (c .before .loop .inv .3, (pre .1 .0)))
 
 returns : tie.Need-returns Inv-loop μ-loop
-returns c = λ e. absurd (subst lib.Dec.T e tt)
+returns c e = absurd (subst lib.Dec.T (sym (c .chased .ensures .0) ∙ e) tt)
 
 add-used : tie.Need-add-used Inv-loop μ-loop
 add-used c = let inv = c .before .before .before .before .before .before .loop .inv in omega (arith, inv .0, inv .1)
@@ -39,12 +40,12 @@ loop-again c =
     (omega arith, (seek-on (if1 .left) .small), on (c .before .before .before .before .before .before .before .loop .inv .2) (seek-on (if1 .left) .some (c .before .if2 .left)), (seek-on (if1 .left) .within))
 
 returns-2 : tie.Need-returns-2 Inv-loop μ-loop
-returns-2 c _ =
-    let here = c .loop-test .left in
-    ended _ _ (c .before .loop .inv .2) (rw here (c .before .before .before .before .pre .1 .1 .1 (omega (arith, here, c .before .loop .inv .1))))
+returns-2 c _ = rw (c .chased2 .ensures .1 .0, c .chased2 .ensures .1 .1) (ended _ _ (c .before .before .before .before .before .before .before .loop .inv .2) (c .before .before .before .before .before .seek-on .ensures (c .before .before .before .before .if1 .left) .none (c .before .if2 .taken)))
 
 returns-3 : tie.Need-returns-3 Inv-loop μ-loop
-returns-3 c _ = ended _ _ (c .before .before .before .before .before .before .loop .inv .2) (c .before .before .before .before .seek-on .ensures (c .before .before .before .if1 .left) .none (c .if2 .taken))
+returns-3 c _ =
+    let here = c .before .loop-test .left in
+    rw (c .chased3 .ensures .1 .0, c .chased3 .ensures .1 .1) (ended _ _ (c .before .before .loop .inv .2) (rw here (c .before .before .before .before .before .pre .1 .1 .1 (omega (arith, here, c .before .before .loop .inv .1)))))
 
 pub chase-spec : {M : Type 1} → statement M
 chase-spec =
@@ -54,9 +55,12 @@ chase-spec =
     μ-loop
     loop-holds
     seek-on-requires
+    (λ c κs. search needs)
     returns
+    (λ c κs. search needs)
+    returns-2
     add-used
     loop-less
     loop-again
-    returns-2
+    (λ c κs. search needs)
     returns-3)
