@@ -4,6 +4,9 @@ use crate::print;
 use crate::words;
 use libc::STDOUT_FILENO;
 
+// The least number of a layout.
+const FIRST_OF_LAYOUTS: u32 = 50;
+
 // The least number of a rule on layouts.
 const FIRST_RULE: u32 = 60;
 
@@ -19,8 +22,16 @@ pub(crate) fn show(n: u32, is_made: bool) -> bool {
     lines::value(lines::TYPE_SHEET, is_made as u64)
 }
 
-// The sentence of a number, from one text of them all.
+// The sentence of a number.
 fn sentence(n: u32) {
+    if n < FIRST_OF_LAYOUTS {
+        return of_blocks(n);
+    }
+    of_layouts(n);
+}
+
+// Of the numbers that a stream, a block or a symbology gives.
+fn of_blocks(n: u32) {
     words::say(
         STDOUT_FILENO,
         b"
@@ -51,6 +62,16 @@ fn sentence(n: u32) {
 38: An interval's start is no date.
 39: An interval's end is no date.
 40: An interval's symbol is not UTF-8.
+",
+        n as u64,
+    );
+}
+
+// Of the numbers that a layout and its rules give.
+fn of_layouts(n: u32) {
+    words::say(
+        STDOUT_FILENO,
+        b"
 50: The layout is cut short.
 51: A section's length is below 2.
 52: A name holds a NUL.
