@@ -1,5 +1,6 @@
 -- The eleven bytes of a field row, and the numbers of eleven bytes. Assumes nothing.
 use Prim.Native.Nat.{ℕ, zero, suc, _+_, _*_, _/_, _%_, _<_}
+use native.Mathlib.Nat.{add-zero}
 use native.Mathlib.Omega.{arith}
 use mathlib.Core.Path.{_≡_, refl, ap₂, _∙_}
 use mathlib.Core.List.{List, [], _∷_, _++_, map}
@@ -9,6 +10,15 @@ use lib.Dec.{lit<}
 use Rattle.entry.specs.Entry.{entryBytes, cutBytes, rowBytes, fieldNumbers}
 
 module _ (t : List ℕ) (at : ℕ) where
+  -- what stands in a part of n from `at` on
+  pub in-part : (n j : ℕ) → j < n → getD (take n (drop at t)) j 0 ≡ getD t (at + j) 0
+  in-part n j h = getD-take n (drop at t) j 0 h ∙ getD-drop at t j 0
+
+  -- an entry's bytes are those of its part alone
+  pub entry-bytes-alone : entryBytes (take 11 (drop at t)) 0 ≡ entryBytes t at
+  entry-bytes-alone =
+      rw (in-part 11 0 (lit< tt), in-part 11 1 (lit< tt), in-part 11 2 (lit< tt), in-part 11 3 (lit< tt), in-part 11 4 (lit< tt), in-part 11 5 (lit< tt), in-part 11 6 (lit< tt), in-part 11 7 (lit< tt), in-part 11 8 (lit< tt), in-part 11 9 (lit< tt), in-part 11 10 (lit< tt), add-zero at)
+
   pub row-bytes-length : length (rowBytes t at) ≡ 11
   unfolding rowBytes cutBytes
   row-bytes-length = refl
@@ -26,10 +36,7 @@ module _ (t : List ℕ) (at : ℕ) where
   -- they are those of the row alone
   pub row-bytes-alone : rowBytes (take 9 (drop at t)) 0 ≡ rowBytes t at
   unfolding rowBytes
-  row-bytes-alone = rw (cell 1 (lit< tt), cell 2 (lit< tt), cell 3 (lit< tt), cell 4 (lit< tt), cell 5 (lit< tt), cell 6 (lit< tt), cell 7 (lit< tt))
-    where
-      cell : (j : ℕ) → j < 9 → getD (take 9 (drop at t)) j 0 ≡ getD t (at + j) 0
-      cell j h = getD-take 9 (drop at t) j 0 h ∙ getD-drop at t j 0
+  row-bytes-alone = rw (in-part 9 1 (lit< tt), in-part 9 2 (lit< tt), in-part 9 3 (lit< tt), in-part 9 4 (lit< tt), in-part 9 5 (lit< tt), in-part 9 6 (lit< tt), in-part 9 7 (lit< tt))
 
   -- numbers that have their width on the wire come back
   pub row-numbers : (getD t (at + 1) 0 < 65536) → (getD t (at + 2) 0 < 65536) → (getD t (at + 3) 0 < 65536) → (getD t (at + 4) 0 < 256) → (getD t (at + 5) 0 < 256) → (getD t (at + 6) 0 < 65536) → (getD t (at + 7) 0 < 256)

@@ -2,17 +2,17 @@
 -- Assumes nothing.
 use Prim.Native.Nat.{ℕ, zero, suc, _+_, _-_, _*_, _≤_, _<_, _%_}
 use native.Mathlib.Omega.{arith}
-use mathlib.Core.Path.{_≡_, sym, ap, _∙_, refl, ap₂}
+use mathlib.Core.Path.{_≡_, sym, ap, _∙_, refl, ap₂, subst}
 use mathlib.Core.List.{List, [], _∷_, _++_}
 use mathlib.Core.Logic.{⊎-elim}
 use lib.ListN.{length, take, drop, length-append, length-take, length-drop, length-replicate}
 use borrow.Author.Tests.{ne-eqb}
-use Rattle.rows_check.specs.Tree.{cell, countOf, namesFrom, nextSection, skip, kinds, structsFrom, labelsFrom, byKind, from, after, nameOf, entryOf, labelOf, fieldsOf, recordOf, structOf, labelDefOf, treeOf}
-use Rattle.rows_check.specs.Sections.{Spans, SectionRows, Sections, many, printedName, printedEntry, printedLabel, printedFields, printedHead, printedBody, printedGroup}
+use Rattle.rows_check.specs.Tree.{cell, countOf, namesFrom, nextSection, skip, kinds, structsFrom, labelsFrom, byKind, hasFields, from, after, nameOf, entryOf, labelOf, fieldsOf, recordOf, structOf, labelDefOf, treeOf}
+use Rattle.rows_check.specs.Sections.{Spans, SectionRows, Sections, many, printedName, printedEntry, printedLabel, printedFields, printedHead, printedLabels, printedNumbers, printedContents, printedBody, printedGroup}
 use Rattle.rows_check.specs.CheckLaws.{row-span, InPlace, Places, Formed, next-more, name-kind-is}
 use native.Mathlib.Nat.{mul-suc}
 use mathlib.Core.Bool.{Bool, true, false, cond}
-use lib.Dec.{eqb}
+use lib.Dec.{T, eqb}
 use Rattle.codec.specs.Codec.{Codec, little, timesPrint}
 use Rattle.text.specs.Utf8.{utf8}
 use Rattle.entry.specs.EntryLaws.{row-bytes-length}
@@ -73,54 +73,30 @@ module _ (rows text : List ℕ) (w : Formed rows text) where
 
 -- ---- by the kind of the section
 
-module _ (rows : List ℕ) (q : ℕ) where
-  pub record-next : nextSection 10 rows q ≡ q + 1 + cell rows q 6 + cell rows q 6
+module _ (kind : ℕ) (rows : List ℕ) (q : ℕ) where
+  pub count-is : countOf kind rows q ≡ byKind kind (cell rows q 6) (cell rows q 4) (cell rows q 3)
+  unfolding countOf
+  count-is = refl
+
+  -- the entries of fields stand before their names
+  pub names-after : hasFields kind ≡ true → namesFrom kind rows q ≡ q + 1 + countOf kind rows q
   unfolding countOf namesFrom
-  record-next = refl
+  names-after = go (eqb kind 10) (eqb kind 13)
+    where
+      go : (a b : Bool) → cond a true b ≡ true → cond a (q + 1 + cell rows q 6) (cond b (q + 1 + cell rows q 4) (q + 1)) ≡ q + 1 + cond a (cell rows q 6) (cond b (cell rows q 4) (cell rows q 3))
+      go true b h = refl
+      go false true h = refl
+      go false false h = absurd (subst T (sym h) tt)
 
-  pub struct-next : nextSection 13 rows q ≡ q + 1 + cell rows q 4 + cell rows q 4
-  unfolding countOf namesFrom
-  struct-next = refl
-
-  module _ (text : List ℕ) where
-    -- the rows of n fields after a record's or a struct's own: n entries, then n names
-    abbrev pub FieldRows : ℕ → Type 0
-    FieldRows n = (9 * (q + 1 + n + n) ≤ length rows) × Spans rows text (q + 1 + n) n
-
-    pub record-fields : SectionRows 10 rows text q → FieldRows (cell rows q 6)
-    unfolding countOf namesFrom
-    record-fields s = (s .inside, s .names)
-
-    pub struct-fields : SectionRows 13 rows text q → FieldRows (cell rows q 4)
-    unfolding countOf namesFrom
-    struct-fields s = (s .inside, s .names)
-
-    pub label-def-labels : SectionRows 14 rows text q → (9 * (q + 1 + cell rows q 3) ≤ length rows) × Spans rows text (q + 1) (cell rows q 3)
-    unfolding countOf namesFrom
-    label-def-labels s = (s .inside, s .names)
-
--- a kind that is neither a record's nor a struct's is a label def's
-module _ (kind : ℕ) (a : kind ≡ 10 → ⊥) (b : kind ≡ 13 → ⊥) where
-  other-kind : {A : Type 0} (x y z : A) → byKind kind x y z ≡ z
-  other-kind x y z = simp (ne-eqb kind 10 a, ne-eqb kind 13 b)
-
-  pub other-next : (rows : List ℕ) (q : ℕ) → nextSection kind rows q ≡ q + 1 + cell rows q 3
-  unfolding countOf namesFrom
-  other-next rows q = ap₂ _+_ (other-kind _ _ _) (other-kind _ _ _)
-
-  module _ (rows text : List ℕ) (q : ℕ) where
-    pub other-rows : SectionRows kind rows text q → SectionRows 14 rows text q
-    unfolding countOf namesFrom
-    other-rows s =
-        record {
-          inside = simp (ne-eqb kind 10 a, ne-eqb kind 13 b) at (s .inside);
-          own = s .own;
-          names = simp (ne-eqb kind 10 a, ne-eqb kind 13 b) at (s .names);
-        }
-
-    pub other-body : printedBody kind rows text q ≡ printedBody 14 rows text q
-    unfolding printedBody
-    other-body = other-kind _ _ _
+  -- a label has no row but its name's
+  pub names-first : hasFields kind ≡ false → namesFrom kind rows q ≡ q + 1
+  unfolding namesFrom
+  names-first = go (eqb kind 10) (eqb kind 13)
+    where
+      go : (a b : Bool) → cond a true b ≡ false → cond a (q + 1 + cell rows q 6) (cond b (q + 1 + cell rows q 4) (q + 1)) ≡ q + 1
+      go true b h = absurd (subst T h tt)
+      go false true h = absurd (subst T h tt)
+      go false false h = refl
 
 -- ---- bytes
 
@@ -166,20 +142,35 @@ module _ (rows text : List ℕ) where
       ∙ ap₂ (λ (m : ℕ) (l : List ℕ). little 2 m ++ l) (length-from after (entryOf rows) n q)
       (ap₂ _++_ (print-many entry after (entryOf rows) n q) (print-many name after (nameOf rows text) n (q + n)))
 
-  pub record-is : (q : ℕ) → printedBody 10 rows text q ≡ printedHead rows q ++ (printedName rows text q ++ printedFields rows text (q + 1) (cell rows q 6))
+  record-is : (q : ℕ) → printedBody 10 rows text q ≡ printedHead rows q ++ (printedName rows text q ++ printedFields rows text (q + 1) (cell rows q 6))
   unfolding printedBody
   record-is q = recordBody-print utf8 D (recordOf rows text q)
 
-  pub struct-is : (q : ℕ) → printedBody 13 rows text q ≡ little 2 (cell rows q 3) ++ (printedName rows text q ++ printedFields rows text (q + 1) (cell rows q 4))
+  struct-is : (q : ℕ) → printedBody 13 rows text q ≡ little 2 (cell rows q 3) ++ (printedName rows text q ++ printedFields rows text (q + 1) (cell rows q 4))
   unfolding printedBody
   struct-is q = structBody-print utf8 D (cell rows q 3) (nameOf rows text q) (fieldsOf rows text (q + 1) (cell rows q 4))
 
-  pub label-def-is : (q : ℕ) → printedBody 14 rows text q ≡ printedName rows text q ++ (little 2 (cell rows q 3) ++ many after (printedLabel rows text) (q + 1) (cell rows q 3))
+  label-def-is : (q : ℕ) → printedBody 14 rows text q ≡ printedName rows text q ++ printedLabels rows text (q + 1) (cell rows q 3)
   unfolding printedBody
   label-def-is q =
       labelBody-print utf8 (nameOf rows text q) (from after (labelOf rows text) (q + 1) (cell rows q 3))
       ∙ ap₂ (λ (m : ℕ) (l : List ℕ). printedName rows text q ++ (little 2 m ++ l)) (length-from after (labelOf rows text) (cell rows q 3) (q + 1))
       (print-many label after (labelOf rows text) (cell rows q 3) (q + 1))
+
+-- a body is numbers, the name, and fields or labels
+pub body-is : (kind : ℕ) (rows text : List ℕ) (q : ℕ) → printedBody kind rows text q ≡ printedNumbers kind rows q ++ (printedName rows text q ++ printedContents kind rows text q)
+unfolding printedBody countOf
+body-is kind rows text q = go (eqb kind 10) (eqb kind 13)
+  where
+    contents : (a b : Bool) → List ℕ
+    contents a b =
+        let n = cond a (cell rows q 6) (cond b (cell rows q 4) (cell rows q 3)) in
+        cond (cond a true b) (printedFields rows text (q + 1) n) (printedLabels rows text (q + 1) n)
+
+    go : (a b : Bool) → cond a (printedBody 10 rows text q) (cond b (printedBody 13 rows text q) (printedBody 14 rows text q)) ≡ cond a (printedHead rows q) (cond b (little 2 (cell rows q 3)) []) ++ (printedName rows text q ++ contents a b)
+    go true b = record-is rows text q
+    go false true = struct-is rows text q
+    go false false = label-def-is rows text q
 
 -- a group is its count and its sections
 pub group-is : (kind : ℕ) (rows text : List ℕ) (q k : ℕ) → printedGroup kind rows text q k ≡ little 2 k ++ many (nextSection kind rows) (printedSection kind rows text) q k
@@ -275,7 +266,7 @@ module _ (rows text : List ℕ) where
           ap length (label-def-is rows text q),
           name-length rows text q h,
           labels-length (cell rows q 3) (q + 1),
-          length-append (printedName rows text q) (little 2 (cell rows q 3) ++ many after (printedLabel rows text) (q + 1) (cell rows q 3)),
+          length-append (printedName rows text q) (printedLabels rows text (q + 1) (cell rows q 3)),
         )
 
   -- the version takes two bytes, whichever it is

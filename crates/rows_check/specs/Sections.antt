@@ -1,9 +1,10 @@
 -- Sections by their rows: where their rows and texts lie, and the bytes of their parts.
 -- Assumes nothing.
 use Prim.Native.Nat.{ℕ, zero, suc, _+_, _*_, _≤_, _<_}
+use mathlib.Core.Bool.{cond}
 use mathlib.Core.List.{List, [], _++_}
 use lib.ListN.{length}
-use Rattle.rows_check.specs.Tree.{cell, countOf, namesFrom, nextSection, byKind, from, after, nameOf, entryOf, labelOf, fieldsOf, recordOf}
+use Rattle.rows_check.specs.Tree.{cell, countOf, namesFrom, nextSection, byKind, hasFields, from, after, nameOf, entryOf, labelOf, fieldsOf, recordOf}
 use Rattle.codec.specs.Codec.{little}
 use Rattle.text.specs.Utf8.{utf8}
 use Rattle.wire.specs.Reader.{name}
@@ -49,7 +50,20 @@ printedFields rows text q n = fields .print (fieldsOf rows text q n)
 abbrev pub printedHead : List ℕ → ℕ → List ℕ
 printedHead rows q = little 2 (cell rows q 3) ++ (little 2 (cell rows q 4) ++ (little 2 (cell rows q 5) ++ little 8 (cell rows q 7 + 4294967296 * cell rows q 8)))
 
+-- a count and that many labels
+abbrev pub printedLabels : List ℕ → List ℕ → ℕ → ℕ → List ℕ
+printedLabels rows text q n = little 2 n ++ many after (printedLabel rows text) q n
+
 -- ---- the bodies of sections
+
+-- what stands before the name: a record's numbers, a struct's size; a label def has nothing there
+abbrev pub printedNumbers : ℕ → List ℕ → ℕ → List ℕ
+printedNumbers kind rows q = byKind kind (printedHead rows q) (little 2 (cell rows q 3)) []
+
+-- what stands after the name: fields, or labels
+abbrev pub printedContents : ℕ → List ℕ → List ℕ → ℕ → List ℕ
+printedContents kind rows text q =
+    cond (hasFields kind) (printedFields rows text (q + 1) (countOf kind rows q)) (printedLabels rows text (q + 1) (countOf kind rows q))
 
 -- of a record, a struct, a label def
 unfoldable pub printedBody : ℕ → List ℕ → List ℕ → ℕ → List ℕ

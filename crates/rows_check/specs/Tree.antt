@@ -1,7 +1,7 @@
 -- The layout that rows of nine stand for: document 01's "Rows", read back. A name's text is a part of the text that is lent
 -- with the rows; skipped bytes are zeros, and nothing is left over.
 -- Assumes nothing.
-use mathlib.Core.Bool.{cond}
+use mathlib.Core.Bool.{Bool, true, cond}
 use Prim.Native.Nat.{ℕ, zero, suc, _+_, _-_, _*_, _/_}
 use mathlib.Core.List.{List, [], _∷_}
 use lib.ListN.{length, take, drop, getD, replicate}
@@ -75,6 +75,10 @@ labelDefOf rows text q = record { name = nameOf rows text q; labels = from after
 -- by the kind of a section: 10 a record, 13 a struct, else a label def
 abbrev pub byKind : {A : Type 0} → ℕ → A → A → A → A
 byKind kind a b c = cond (eqb kind 10) a (cond (eqb kind 13) b c)
+
+-- whether sections of that kind have fields, as records and structs do
+abbrev pub hasFields : ℕ → Bool
+hasFields kind = cond (eqb kind 10) true (eqb kind 13)
 
 -- how many fields or labels the section at row q has, and the row of the first name among them
 unfoldable pub countOf : ℕ → List ℕ → ℕ → ℕ

@@ -12,14 +12,14 @@ use borrow.Author.Tests.{eq-eqb, ne-eqb}
 use Rattle.numbers.specs.Numbers.{le16}
 use Rattle.layout.specs.LayoutOf.{D, D-least}
 use Rattle.entry.specs.Entry.{rowBytes}
-use Rattle.entry.specs.EntryLaws.{row-bytes-alone}
+use Rattle.entry.specs.EntryLaws.{in-part, row-bytes-alone}
 use Rattle.rules.specs.declared.Place.{Place}
 use Rattle.rules.specs.declared.Item.{Item}
 use Rattle.rules.specs.declared.Next.the-variants.{Found, End}
 use Rattle.rules.specs.Rules.{Seq}
 use Rattle.rules.specs.RowRules.{column, rowsOf, rowCount, rowSeq, seqsIn}
 use Rattle.rules.specs.Entries.{entryAt, entriesAt, entriesOf, InSlice}
-use Rattle.rules.specs.EntryLaws.{row-cell, rows-step, entries-length}
+use Rattle.rules.specs.EntryLaws.{rows-step, entries-length}
 use Rattle.rules.specs.RuleLaws.{seq-eq}
 use Rattle.rules.specs.Items.{itemSeq, countIn, sectionItem, SectionInside, sectionSeqs, Stand, rowItem, seqsFrom, Good, Stepped, found, ended, kindOf}
 
@@ -161,7 +161,7 @@ module _ (l t : List ℕ) (isRecord : Bool) where
 
       kind-is : getD r 0 0 ≡ getD t (9 * q) 0
       unfolding r
-      kind-is = row-cell t (9 * q) 0 (lit< tt) ∙ ap (λ (m : ℕ). getD t m 0) (add-zero (9 * q))
+      kind-is = in-part t (9 * q) 9 0 (lit< tt) ∙ ap (λ (m : ℕ). getD t m 0) (add-zero (9 * q))
 
       pub look-on : (getD t (9 * q) 0 ≡ kindOf isRecord → ⊥) → Looking q₀ n₀ (q + 1) (n - 1)
       unfolding seqsIn r
@@ -180,14 +180,14 @@ module _ (l t : List ℕ) (isRecord : Bool) where
 
       count-is : rowCount isRecord r ≡ count
       unfolding rowCount r count
-      count-is = ap (λ (x : ℕ). x % 65536) (row-cell t (9 * q) (column isRecord 6 4) (low isRecord 6 4 (lit< tt) (lit< tt)))
+      count-is = ap (λ (x : ℕ). x % 65536) (in-part t (9 * q) 9 (column isRecord 6 4) (low isRecord 6 4 (lit< tt) (lit< tt)))
 
       seq-is : rowSeq isRecord r rs ≡ itemSeq l t item
       unfolding rowSeq rowItem entriesOf item count rs r
       seq-is =
           rw (count-is)
-          (seq-eq (ap (λ (x : ℕ). cond isRecord (x % 65536) 0) (row-cell t (9 * q) 3 (lit< tt)))
-          (ap (λ (x : ℕ). x % 65536) (row-cell t (9 * q) (column isRecord 5 3) (low isRecord 5 3 (lit< tt) (lit< tt))))
+          (seq-eq (ap (λ (x : ℕ). cond isRecord (x % 65536) 0) (in-part t (9 * q) 9 3 (lit< tt)))
+          (ap (λ (x : ℕ). x % 65536) (in-part t (9 * q) 9 (column isRecord 5 3) (low isRecord 5 3 (lit< tt) (lit< tt))))
           names-is
           (rows-heads l t count (n - 1) (9 * q + 9)))
         where

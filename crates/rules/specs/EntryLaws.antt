@@ -3,18 +3,15 @@ use Prim.Native.Nat.{ℕ, zero, suc, _+_, _-_, _*_, _≤_, _<_}
 use native.Mathlib.Nat.{mul-suc, add-comm}
 use native.Mathlib.Omega.{arith}
 use mathlib.Core.Path.{_≡_, refl, ap, ap₂, _∙_}
-use mathlib.Core.Bool.{true, false}
+use mathlib.Core.Bool.{true, false, cond}
 use mathlib.Core.List.{List, [], _∷_}
-use lib.ListN.{length, getD, take, drop}
-use lib.Seq.{getD-take, getD-drop, drop-drop}
+use lib.ListN.{length, take, drop}
+use lib.Seq.{drop-drop}
 use Rattle.rules.specs.declared.Source.{Source}
 use Rattle.entry.specs.Entry.{entryBytes, rowBytes}
+use Rattle.entry.specs.EntryLaws.{entry-bytes-alone, row-bytes-alone}
 use Rattle.rules.specs.RowRules.{rowsOf}
 use Rattle.rules.specs.Entries.{entryAt, entriesAt, entryOf, entriesOf, restOf, InSlice}
-
--- a number of a row cut out of its table
-pub row-cell : (t : List ℕ) (a j : ℕ) → j < 9 → getD (take 9 (drop a t)) j 0 ≡ getD t (a + j) 0
-row-cell t a j h = getD-take 9 (drop a t) j 0 h ∙ getD-drop a t j 0
 
 -- the first of n rows, and the rest
 pub rows-step : (t : List ℕ) (a n : ℕ) → 0 < n → rowsOf n (drop a t) ≡ take 9 (drop a t) ∷ rowsOf (n - 1) (drop (a + 9) t)
@@ -60,11 +57,17 @@ module _ (l t : List ℕ) where
         let e = mul-step (s .step) (s .count) h in
         record { least = r .least; inside = omega (arith, r .inside); small = omega (arith, r .small) }
 
-  -- the first entry, by where it lies
-  pub first-row : (s : Source) (r : List ℕ) → s .rows ≡ true → r ≡ rowBytes t (s .at) → r ≡ entryOf l t s
-  unfolding entryOf entryAt
-  first-row s r h e = rw h e
+    -- the first entry lies in its slice
+    pub first-inside : s .at + cond (s .rows) 9 11 ≤ cond (s .rows) (length t) (length l)
+    first-inside =
+        let e = mul-step (s .step) (s .count) h in
+        omega (arith, r .least, r .inside)
 
-  pub first-bytes : (s : Source) (r : List ℕ) → s .rows ≡ false → r ≡ entryBytes l (s .at) → r ≡ entryOf l t s
+  -- the first entry, from the part that it is
+  pub first-row : (s : Source) (r : List ℕ) → s .rows ≡ true → r ≡ rowBytes (take (s .at + 9 - s .at) (drop (s .at) t)) 0 → r ≡ entryOf l t s
   unfolding entryOf entryAt
-  first-bytes s r h e = rw h e
+  first-row s r h e = let n : s .at + 9 - s .at ≡ 9 = omega arith in rw h (e ∙ rw n (row-bytes-alone t (s .at)))
+
+  pub first-bytes : (s : Source) (r : List ℕ) → s .rows ≡ false → r ≡ entryBytes (take (s .at + 11 - s .at) (drop (s .at) l)) 0 → r ≡ entryOf l t s
+  unfolding entryOf entryAt
+  first-bytes s r h e = let n : s .at + 11 - s .at ≡ 11 = omega arith in rw h (e ∙ rw n (entry-bytes-alone l (s .at)))

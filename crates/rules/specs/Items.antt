@@ -105,4 +105,4 @@ pub record Ready (l t : List ℕ) (structs : Place) (n : ℕ) (records : Place) 
 
 -- the number that a task gives: structs first, then records
 abbrev pub taskFault : List ℕ → List ℕ → List ℕ → Task → ℕ
-taskFault sheet l t k = seqsFault sheet (k .width) (seqsFrom l t false (k .structs)) (seqsFrom l t true (k .records)) (k .labels)
+taskFault sheet l t k = seqsFault sheet (k .how .width) (seqsFrom l t false (k .structs)) (seqsFrom l t true (k .records)) (k .how .labels)

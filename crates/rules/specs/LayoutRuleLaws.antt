@@ -24,7 +24,8 @@ use Rattle.layout.specs.PlaceLaws.{headsAt, heads-none, heads-more, StructAt, R
 use Rattle.rules.specs.Items.{itemSeq, sectionItem, SectionInside, sectionSeqs, Stand, seqsFrom, Good, Ready}
 use Rattle.rules.specs.LayoutRules.{Accepted, Skips, rulesIn, isKind}
 use Rattle.rules.specs.RuleLaws.{seq-eq}
-use Rattle.rules.specs.EntryLaws.{row-cell, rows-step}
+use Rattle.entry.specs.EntryLaws.{in-part}
+use Rattle.rules.specs.EntryLaws.{rows-step}
 
 -- ---- an accepted layout
 
@@ -210,7 +211,7 @@ module _ (t : List ℕ) where
       let m : 0 < n - q = omega arith in
       let j : n - q - 1 ≡ n - (q + 1) = omega arith in
       let nine : 9 * q + 9 ≡ 9 * (q + 1) = omega arith in
-      let s : K q (n - q) ≡ x + K (q + 1) (n - (q + 1)) = rw (rows-step t (9 * q) (n - q) m, row-cell t (9 * q) 0 (lit< tt), add-zero (9 * q), nine, e, j) in
+      let s : K q (n - q) ≡ x + K (q + 1) (n - (q + 1)) = rw (rows-step t (9 * q) (n - q) m, in-part t (9 * q) 9 0 (lit< tt), add-zero (9 * q), nine, e, j) in
       record { few = omega (arith, v .few); within = omega arith; same = v .same ∙ ap (λ (a : ℕ). k + a) s ∙ sym (add-assoc k x (K (q + 1) (n - (q + 1)))) }
 
   pub kinds-end : {n q k : ℕ} → Kinds n q k → n ≤ q → k ≡ kindRows 14 (rowsOf n t)

@@ -12,9 +12,11 @@ pub(crate) fn entry_at(layout: &[u8], rows: &[u32], src: Source) -> [u8; 11]
 {
     let at = src.at;
     if src.rows {
-        return entry::row_bytes(rows, at);
+        let end = at + 9;
+        return entry::row_bytes(&rows[at..end], 0);
     }
-    entry::entry_bytes(layout, at)
+    let end = at + 11;
+    entry::entry_bytes(&layout[at..end], 0)
 }
 
 // The entries after the first.

@@ -1,5 +1,6 @@
 // All records and structs of a layout, or of rows: numbers 60 to 83.
 use crate::GAVE_UP;
+use crate::How;
 use crate::Item;
 use crate::Next;
 use crate::Place;
@@ -73,7 +74,7 @@ fn struct_fault(
     layout: &[u8],
     rows: &[u32],
     item: Item,
-    task: Task,
+    how: How,
     marks: &mut [u64; 1024],
     owners: &mut [u16],
 ) -> u32
@@ -81,7 +82,7 @@ fn struct_fault(
     requires { ⌜ Marks (now marks) [] ⌝ }
     requires { ⌜ item .base < 65536 ⌝ }
     requires { ⌜ Unowned (now owners) ⌝ }
-    ensures { λ r. ⌜ Tried (now (owners .entry)) (structFault (now (sheet .entry)) (task .width) (task .labels) (now (aligns .entry)) (itemSeq (now (layout .entry)) (now (rows .entry)) item)) r ⌝ }
+    ensures { λ r. ⌜ Tried (now (owners .entry)) (structFault (now (sheet .entry)) (how .width) (how .labels) (now (aligns .entry)) (itemSeq (now (layout .entry)) (now (rows .entry)) item)) r ⌝ }
     ensures { λ r. ⌜ Clean r (now (marks .exit)) ⌝ }
     ensures { λ _. ⌜ now (owners .exit) ≡ now (owners .entry) ⌝ }
 {
@@ -90,17 +91,7 @@ fn struct_fault(
     if item.base % a != 0 {
         return refusal::STRUCT_SIZE;
     }
-    seq_fault(
-        sheet,
-        aligns,
-        layout,
-        rows,
-        item,
-        false,
-        task,
-        marks,
-        owners,
-    )
+    seq_fault(sheet, aligns, layout, rows, item, false, how, marks, owners)
 }
 
 // The first of numbers 61 to 64 and 70 to 83 that a record gives, or 0; `twice` says that its rtype came before.
@@ -111,7 +102,7 @@ fn record_fault(
     rows: &[u32],
     item: Item,
     twice: bool,
-    task: Task,
+    how: How,
     marks: &mut [u64; 1024],
     owners: &mut [u16],
 ) -> u32
@@ -119,7 +110,7 @@ fn record_fault(
     requires { ⌜ Marks (now marks) [] ⌝ }
     requires { ⌜ item .base < 65536 ⌝ }
     requires { ⌜ Unowned (now owners) ⌝ }
-    ensures { λ r. ⌜ Tried (now (owners .entry)) (recordFault (now (sheet .entry)) (task .width) (task .labels) (now (aligns .entry)) twice (itemSeq (now (layout .entry)) (now (rows .entry)) item)) r ⌝ }
+    ensures { λ r. ⌜ Tried (now (owners .entry)) (recordFault (now (sheet .entry)) (how .width) (how .labels) (now (aligns .entry)) twice (itemSeq (now (layout .entry)) (now (rows .entry)) item)) r ⌝ }
     ensures { λ r. ⌜ Clean r (now (marks .exit)) ⌝ }
     ensures { λ _. ⌜ now (owners .exit) ≡ now (owners .entry) ⌝ }
 {
@@ -135,7 +126,7 @@ fn record_fault(
     if item.base % 8 != 0 {
         return refusal::BASE_NOT_OF_8;
     }
-    seq_fault(sheet, aligns, layout, rows, item, true, task, marks, owners)
+    seq_fault(sheet, aligns, layout, rows, item, true, how, marks, owners)
 }
 
 // The first number that a struct gives, in table order, or 0.
@@ -151,15 +142,16 @@ fn structs_fault(
     requires { ⌜ Good (now layout) (now rows) false (task .structs) ⌝ }
     requires { ⌜ Marks (now marks) [] ⌝ }
     requires { ⌜ Unowned (now owners) ⌝ }
-    ensures { λ r. ⌜ Tried (now (owners .entry)) (structsFault (now (sheet .entry)) (task .width) (task .labels) (now (aligns .entry)) (seqsFrom (now (layout .entry)) (now (rows .entry)) false (task .structs))) r ⌝ }
+    ensures { λ r. ⌜ Tried (now (owners .entry)) (structsFault (now (sheet .entry)) (task .how .width) (task .how .labels) (now (aligns .entry)) (seqsFrom (now (layout .entry)) (now (rows .entry)) false (task .structs))) r ⌝ }
     ensures { λ r. ⌜ Clean r (now (marks .exit)) ⌝ }
     ensures { λ _. ⌜ now (owners .exit) ≡ now (owners .entry) ⌝ }
 {
+    let how = task.how;
     let mut p = task.structs;
     loop {
         match walk::next_item(layout, rows, false, p) {
             Next::Found(item, after) => {
-                let v = struct_fault(sheet, aligns, layout, rows, item, task, marks, owners);
+                let v = struct_fault(sheet, aligns, layout, rows, item, how, marks, owners);
                 if v != 0 {
                     return v;
                 }
@@ -183,16 +175,17 @@ fn records_fault(
     requires { ⌜ Good (now layout) (now rows) true (task .records) ⌝ }
     requires { ⌜ Marks (now marks) [] ⌝ }
     requires { ⌜ Unowned (now owners) ⌝ }
-    ensures { λ r. ⌜ Tried (now (owners .entry)) (recordsFault (now (sheet .entry)) (task .width) (task .labels) (now (aligns .entry)) [] (seqsFrom (now (layout .entry)) (now (rows .entry)) true (task .records))) r ⌝ }
+    ensures { λ r. ⌜ Tried (now (owners .entry)) (recordsFault (now (sheet .entry)) (task .how .width) (task .how .labels) (now (aligns .entry)) [] (seqsFrom (now (layout .entry)) (now (rows .entry)) true (task .records))) r ⌝ }
 {
     let mut rtypes = [0u64; 1024];
+    let how = task.how;
     let mut p = task.records;
     loop {
         match walk::next_item(layout, rows, true, p) {
             Next::Found(item, after) => {
                 let rtype = item.rtype;
                 let seen = marks::is_marked(&rtypes, rtype);
-                let v = record_fault(sheet, aligns, layout, rows, item, seen, task, marks, owners);
+                let v = record_fault(sheet, aligns, layout, rows, item, seen, how, marks, owners);
                 if v != 0 {
                     return v;
                 }
@@ -330,7 +323,7 @@ fn rules_tried(sheet: &[u16; 520], layout: &[u8], rows: &[u32], task: Task) -> u
     requires { ⌜ task .n ≤ 4096 ⌝ }
     ensures { λ r. ⌜ Tried [] (taskFault (now (sheet .entry)) (now (layout .entry)) (now (rows .entry)) task) r ⌝ }
 {
-    if task.by_marks {
+    if task.how.by_marks {
         return rules_near(sheet, layout, rows, task);
     }
     rules_searched(sheet, layout, rows, task)

@@ -70,15 +70,20 @@ pub struct Item {
     pub entries: Source,
 }
 
-// What is ruled on: the structs and how many they are, the records, the symbol width, how many label defs there are, and
-// whether all of 81 to 83 are found by marks.
+// How records and structs are ruled on, the same for all: the symbol width, how many label defs there are, and whether all of 81 to 83
+// are found by marks.
+pub struct How {
+    pub width: usize,
+    pub labels: usize,
+    pub by_marks: bool,
+}
+
+// What is ruled on: the structs and how many they are, the records, and how.
 pub struct Task {
     pub structs: Place,
     pub n: usize,
     pub records: Place,
-    pub width: usize,
-    pub labels: usize,
-    pub by_marks: bool,
+    pub how: How,
 }
 
 // The next record or struct, and what comes after it.
@@ -170,13 +175,16 @@ fn layout_rules(layout: &[u8], sheet: &[u16; 520], width: usize, by_marks: bool)
         at: 4,
         left: m,
     };
+    let how = How {
+        width,
+        labels,
+        by_marks,
+    };
     let task = Task {
         structs,
         n,
         records,
-        width,
-        labels,
-        by_marks,
+        how,
     };
     items::rules(sheet, layout, &none, task)
 }
@@ -236,13 +244,16 @@ fn check_rows(rows: &[u32], width: u16, sheet: &[u16; 520], by_marks: bool) -> u
         return refusal::COUNT_LARGE;
     }
     let labels = label_rows(rows);
+    let how = How {
+        width: width as usize,
+        labels,
+        by_marks,
+    };
     let task = Task {
         structs: all,
         n,
         records: all,
-        width: width as usize,
-        labels,
-        by_marks,
+        how,
     };
     items::rules(sheet, &none, rows, task)
 }

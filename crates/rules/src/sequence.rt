@@ -1,8 +1,8 @@
 // One record or struct: its alignment, and numbers 70 to 83.
 use crate::GAVE_UP;
+use crate::How;
 use crate::Item;
 use crate::Source;
-use crate::Task;
 use crate::by_marks;
 use crate::by_search;
 use crate::entries;
@@ -147,7 +147,7 @@ pub(crate) fn seq_fault(
     rows: &[u32],
     item: Item,
     is_record: bool,
-    task: Task,
+    how: How,
     marks: &mut [u64; 1024],
     owners: &mut [u16],
 ) -> u32
@@ -155,7 +155,7 @@ pub(crate) fn seq_fault(
     requires { ⌜ Marks (now marks) [] ⌝ }
     requires { ⌜ item .base < 65536 ⌝ }
     requires { ⌜ Unowned (now owners) ⌝ }
-    ensures { λ r. ⌜ Tried (now (owners .entry)) (seqFault (now (sheet .entry)) (task .width) (task .labels) (now (aligns .entry)) «is_record» (judged (item .base) (item .names) (entriesOf (now (layout .entry)) (now (rows .entry)) (item .entries)))) r ⌝ }
+    ensures { λ r. ⌜ Tried (now (owners .entry)) (seqFault (now (sheet .entry)) (how .width) (how .labels) (now (aligns .entry)) «is_record» (judged (item .base) (item .names) (entriesOf (now (layout .entry)) (now (rows .entry)) (item .entries)))) r ⌝ }
     ensures { λ r. ⌜ Clean r (now (marks .exit)) ⌝ }
     ensures { λ _. ⌜ now (owners .exit) ≡ now (owners .entry) ⌝ }
 {
@@ -166,13 +166,13 @@ pub(crate) fn seq_fault(
     let frame = Frame {
         is_record,
         base: item.base,
-        width: task.width,
-        labels: task.labels,
+        width: how.width,
+        labels: how.labels,
     };
     let a = fields_fault(sheet, aligns, layout, rows, src, frame, marks);
     if a != 0 {
         return a;
     }
     wipe_ids(sheet, layout, rows, src, marks);
-    tiling(layout, rows, src, frame, task.by_marks, owners)
+    tiling(layout, rows, src, frame, how.by_marks, owners)
 }

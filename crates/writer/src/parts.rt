@@ -6,7 +6,7 @@ ghost use Prim.Native.Nat.{_+_, _*_, _≤_};
 ghost use lib.ListN.{length};
 ghost use Rattle.layout.specs.LayoutOf.{entry};
 ghost use Rattle.rows_check.specs.Tree.{cell, after, entryWithZeros};
-ghost use Rattle.rows_check.specs.Sections.{many, printedName, printedLabel, printedFields, Spans};
+ghost use Rattle.rows_check.specs.Sections.{many, printedName, printedLabel, printedFields, printedLabels, Spans};
 ghost use Rattle.writer.specs.Write.{TextsInside, printedPart};
 ghost use Rattle.writer.specs.Output.{RoomFor, Wrote};
 
@@ -42,7 +42,7 @@ fn put_part(kind: usize, out: &mut [u8], at: usize, rows: &[u32], text: &[u8], q
     ensures { λ r. ⌜ Wrote at (printedPart kind (now (rows .entry)) (now (text .entry)) q) (now (out .entry)) (now (out .exit)) r ⌝ }
 {
     if kind == kinds::FIELD {
-        return put_entry(out, at, entry::row_bytes(rows, 9 * q));
+        return put_entry(out, at, cells::entry_of(rows, q));
     }
     if kind == kinds::FIELD_NAME {
         return put_name(out, at, rows, text, q);
@@ -51,7 +51,7 @@ fn put_part(kind: usize, out: &mut [u8], at: usize, rows: &[u32], text: &[u8], q
 }
 
 // The parts of n rows from q on.
-pub(crate) fn put_parts(
+fn put_parts(
     kind: usize,
     out: &mut [u8],
     at: usize,
@@ -93,6 +93,24 @@ pub(crate) fn put_fields(
     let a = put::put_u16(out, at, n);
     let b = put_parts(kinds::FIELD, out, a, rows, text, q, n);
     put_parts(kinds::FIELD_NAME, out, b, rows, text, q + n, n)
+}
+
+// Count and labels.
+pub(crate) fn put_labels(
+    out: &mut [u8],
+    at: usize,
+    rows: &[u32],
+    text: &[u8],
+    q: usize,
+    n: usize,
+) -> usize
+    requires { ⌜ 9 * (q + n) ≤ length (now rows) ⌝ }
+    requires { ⌜ Spans (now rows) (now text) q n ⌝ }
+    requires { ⌜ RoomFor at (printedLabels (now rows) (now text) q n) (now out) ⌝ }
+    ensures { λ r. ⌜ Wrote at (printedLabels (now (rows .entry)) (now (text .entry)) q n) (now (out .entry)) (now (out .exit)) r ⌝ }
+{
+    let a = put::put_u16(out, at, n);
+    put_parts(kinds::LABEL, out, a, rows, text, q, n)
 }
 
 // Code and name.

@@ -8,7 +8,7 @@ ghost use Prim.Native.Nat.{_+_, _*_, _≤_};
 ghost use lib.ListN.{length};
 ghost use Rattle.rows_check.specs.Tree.{nextSection, kinds, structsFrom, labelsFrom};
 ghost use Rattle.rows_check.specs.Check.{printedSection, printed};
-ghost use Rattle.rows_check.specs.Sections.{many, printedHead, printedBody, printedGroup, SectionRows, Sections};
+ghost use Rattle.rows_check.specs.Sections.{many, printedHead, printedNumbers, printedContents, printedBody, printedGroup, SectionRows, Sections};
 ghost use Rattle.writer.specs.Output.{RoomFor, Wrote, Filled};
 ghost use Rattle.writer.specs.Write.{WroteSections};
 
@@ -97,20 +97,52 @@ fn put_section(kind: usize, out: &mut [u8], at: usize, rows: &[u32], text: &[u8]
     b + n
 }
 
-// The body of the section at row q, at the front of what is lent.
+// The body of the section at row q, at the front of what is lent: numbers, the name, and fields or labels.
 fn put_body(kind: usize, out: &mut [u8], rows: &[u32], text: &[u8], q: usize) -> usize
     requires { ⌜ 9 * (q + 1) ≤ length (now rows) ⌝ }
     requires { ⌜ SectionRows kind (now rows) (now text) q ⌝ }
     requires { ⌜ length (printedBody kind (now rows) (now text) q) ≤ length (now out) ⌝ }
     ensures { λ r. ⌜ Filled (printedBody kind (now (rows .entry)) (now (text .entry)) q) (now (out .entry)) (now (out .exit)) r ⌝ }
 {
+    let a = put_numbers(kind, out, rows, q);
+    let b = parts::put_name(out, a, rows, text, q);
+    put_contents(kind, out, b, rows, text, q)
+}
+
+// What stands before the name: a record's numbers, a struct's size.
+fn put_numbers(kind: usize, out: &mut [u8], rows: &[u32], q: usize) -> usize
+    requires { ⌜ 9 * (q + 1) ≤ length (now rows) ⌝ }
+    requires { ⌜ RoomFor 0 (printedNumbers kind (now rows) q) (now out) ⌝ }
+    ensures { λ r. ⌜ Wrote 0 (printedNumbers kind (now (rows .entry)) q) (now (out .entry)) (now (out .exit)) r ⌝ }
+{
     if kind == kinds::RECORD {
-        return record_body(out, rows, text, q);
+        return put_head(out, 0, rows, q);
     }
     if kind == kinds::STRUCT {
-        return struct_body(out, rows, text, q);
+        return put::put_u16(out, 0, cells::cell_of(rows, q, 3));
     }
-    label_def_body(out, rows, text, q)
+    0
+}
+
+// What stands after the name: fields, or labels.
+fn put_contents(
+    kind: usize,
+    out: &mut [u8],
+    at: usize,
+    rows: &[u32],
+    text: &[u8],
+    q: usize,
+) -> usize
+    requires { ⌜ 9 * (q + 1) ≤ length (now rows) ⌝ }
+    requires { ⌜ SectionRows kind (now rows) (now text) q ⌝ }
+    requires { ⌜ RoomFor at (printedContents kind (now rows) (now text) q) (now out) ⌝ }
+    ensures { λ r. ⌜ Wrote at (printedContents kind (now (rows .entry)) (now (text .entry)) q) (now (out .entry)) (now (out .exit)) r ⌝ }
+{
+    let n = cells::count_of(kind, rows, q);
+    if cells::has_fields(kind) {
+        return parts::put_fields(out, at, rows, text, q + 1, n);
+    }
+    parts::put_labels(out, at, rows, text, q + 1, n)
 }
 
 // rtype, schema, base size, hash.
@@ -124,41 +156,4 @@ fn put_head(out: &mut [u8], at: usize, rows: &[u32], q: usize) -> usize
     let d = put::put_u16(out, b, cells::cell_of(rows, q, 5));
     let e = put::put_u32(out, d, cells::cell_of(rows, q, 7));
     put::put_u32(out, e, cells::cell_of(rows, q, 8))
-}
-
-fn record_body(out: &mut [u8], rows: &[u32], text: &[u8], q: usize) -> usize
-    requires { ⌜ 9 * (q + 1) ≤ length (now rows) ⌝ }
-    requires { ⌜ SectionRows 10 (now rows) (now text) q ⌝ }
-    requires { ⌜ length (printedBody 10 (now rows) (now text) q) ≤ length (now out) ⌝ }
-    ensures { λ r. ⌜ Filled (printedBody 10 (now (rows .entry)) (now (text .entry)) q) (now (out .entry)) (now (out .exit)) r ⌝ }
-{
-    let n = cells::cell_of(rows, q, 6);
-    let a = put_head(out, 0, rows, q);
-    let b = parts::put_name(out, a, rows, text, q);
-    parts::put_fields(out, b, rows, text, q + 1, n)
-}
-
-fn struct_body(out: &mut [u8], rows: &[u32], text: &[u8], q: usize) -> usize
-    requires { ⌜ 9 * (q + 1) ≤ length (now rows) ⌝ }
-    requires { ⌜ SectionRows 13 (now rows) (now text) q ⌝ }
-    requires { ⌜ length (printedBody 13 (now rows) (now text) q) ≤ length (now out) ⌝ }
-    ensures { λ r. ⌜ Filled (printedBody 13 (now (rows .entry)) (now (text .entry)) q) (now (out .entry)) (now (out .exit)) r ⌝ }
-{
-    let size = cells::cell_of(rows, q, 3);
-    let n = cells::cell_of(rows, q, 4);
-    let a = put::put_u16(out, 0, size);
-    let b = parts::put_name(out, a, rows, text, q);
-    parts::put_fields(out, b, rows, text, q + 1, n)
-}
-
-fn label_def_body(out: &mut [u8], rows: &[u32], text: &[u8], q: usize) -> usize
-    requires { ⌜ 9 * (q + 1) ≤ length (now rows) ⌝ }
-    requires { ⌜ SectionRows 14 (now rows) (now text) q ⌝ }
-    requires { ⌜ length (printedBody 14 (now rows) (now text) q) ≤ length (now out) ⌝ }
-    ensures { λ r. ⌜ Filled (printedBody 14 (now (rows .entry)) (now (text .entry)) q) (now (out .entry)) (now (out .exit)) r ⌝ }
-{
-    let n = cells::cell_of(rows, q, 3);
-    let a = parts::put_name(out, 0, rows, text, q);
-    let b = put::put_u16(out, a, n);
-    parts::put_parts(kinds::LABEL, out, b, rows, text, q + 1, n)
 }

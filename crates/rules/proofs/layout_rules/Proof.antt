@@ -24,8 +24,8 @@ skip-requires-2 c κs = rw (c .half2 .ensures .0, c .before .skip .ensures, c .b
 half-requires-3 : tie.Need-half-requires-3
 half-requires-3 c κs = rw (c .skip2 .ensures, c .before .half2 .ensures .0, c .before .before .skip .ensures, c .before .before .before .half .ensures .0) (counts-here _ [] (c .before .before .before .before .before .pre) .2)
 
-add-t14 : tie.Need-add-t14
-add-t14 c = rw (c .before .before .before .skip .ensures, c .before .before .before .before .half .ensures .0) (let h = counts-here _ [] (c .before .before .before .before .before .before .pre) .1 in omega arith)
+add-t15 : tie.Need-add-t15
+add-t15 c = rw (c .before .before .before .skip .ensures, c .before .before .before .before .half .ensures .0) (let h = counts-here _ [] (c .before .before .before .before .before .before .pre) .1 in omega arith)
 
 rules-requires : tie.Need-rules-requires
 rules-requires c κs = (rw (c .before .before .before .half2 .ensures .0, c .before .before .before .before .skip .ensures, c .before .before .before .before .before .half .ensures .0) (layout-ready _ _ (c .before .before .before .before .before .before .before .pre)), omega (arith, c .before .before .before .half2 .ensures .1))
@@ -43,7 +43,7 @@ layout-rules-spec =
     add-skip
     skip-requires-2
     half-requires-3
-    add-t14
+    add-t15
     (λ c. search needs)
     rules-requires
     returns)

@@ -13,16 +13,16 @@ use Rattle.rules.proofs.items.records_fault.Statement.{statement}
 use Rattle.rules.proofs.items.records_fault.Tie as tie
 
 abbrev Inv-loop : tie.InvT-loop
-Inv-loop sheet aligns layout rows task marks₀ owners₀ rtypes₀ p₀ marks owners rtypes p =
-    Recording sheet (task .width) (task .labels) aligns layout rows p₀ p marks rtypes × (owners ≡ owners₀)
+Inv-loop sheet aligns layout rows marks₀ owners₀ rtypes₀ how p₀ marks owners rtypes p =
+    Recording sheet (how .width) (how .labels) aligns layout rows p₀ p marks rtypes × (owners ≡ owners₀)
 
 abbrev μ-loop : tie.MeasureT-loop
-μ-loop sheet aligns layout rows task marks₀ owners₀ rtypes₀ p₀ marks owners rtypes p =
+μ-loop sheet aligns layout rows marks₀ owners₀ rtypes₀ how p₀ marks owners rtypes p =
     length (seqsFrom layout rows true p)
 
 loop-holds : tie.Need-loop-holds Inv-loop μ-loop
 loop-holds c =
-    let pre = c .before .before .before .before .before .pre in
+    let pre = c .before .before .before .before .before .before .pre in
     (record { good = pre .0; marks = pre .1 .0; seen = []; rtypes = marks-none; same = refl }, refl)
 
 next-item-requires : tie.Need-next-item-requires Inv-loop μ-loop
@@ -32,7 +32,7 @@ record-fault-requires : tie.Need-record-fault-requires Inv-loop μ-loop
 record-fault-requires c κs =
     let inv = c .before .before .before .before .before .before .before .before .loop .inv in
     let s = step-found (c .before .before .before .before .before .before .before .next-item .ensures) (c .before .before .before .before .before .item .given .1) in
-    (s .room, (inv .0 .marks, (s .base, rw (inv .1) (c .before .before .before .before .before .before .before .before .before .before .before .before .before .before .pre .1 .1))))
+    (s .room, (inv .0 .marks, (s .base, rw (inv .1) (c .before .before .before .before .before .before .before .before .before .before .before .before .before .before .before .pre .1 .1))))
 
 same-length : tie.Need-same-length Inv-loop μ-loop
 same-length c = ap length (c .before .before .before .record-fault .ensures .1 .1 ∙ c .before .before .before .before .before .before .before .before .before .before .before .before .loop .inv .1)

@@ -11,15 +11,15 @@ use Rattle.rules.proofs.items.structs_fault.Statement.{statement}
 use Rattle.rules.proofs.items.structs_fault.Tie as tie
 
 abbrev Inv-loop : tie.InvT-loop
-Inv-loop sheet aligns layout rows task marks₀ owners₀ p₀ marks owners p =
-    Structing sheet (task .width) (task .labels) aligns layout rows p₀ p marks × (owners ≡ owners₀)
+Inv-loop sheet aligns layout rows marks₀ owners₀ how p₀ marks owners p =
+    Structing sheet (how .width) (how .labels) aligns layout rows p₀ p marks × (owners ≡ owners₀)
 
 abbrev μ-loop : tie.MeasureT-loop
-μ-loop sheet aligns layout rows task marks₀ owners₀ p₀ marks owners p =
+μ-loop sheet aligns layout rows marks₀ owners₀ how p₀ marks owners p =
     length (seqsFrom layout rows false p)
 
 loop-holds : tie.Need-loop-holds Inv-loop μ-loop
-loop-holds c = let pre = c .before .before .before .before .before .pre in (record { good = pre .0; marks = pre .1 .0; same = refl }, refl)
+loop-holds c = let pre = c .before .before .before .before .before .before .pre in (record { good = pre .0; marks = pre .1 .0; same = refl }, refl)
 
 next-item-requires : tie.Need-next-item-requires Inv-loop μ-loop
 next-item-requires c κs = c .loop .inv .0 .good
@@ -28,7 +28,7 @@ struct-fault-requires : tie.Need-struct-fault-requires Inv-loop μ-loop
 struct-fault-requires c κs =
     let inv = c .before .before .before .before .before .before .loop .inv in
     let s = step-found (c .before .before .before .before .before .next-item .ensures) (c .before .before .before .item .given .1) in
-    (s .room, (inv .0 .marks, (s .base, rw (inv .1) (c .before .before .before .before .before .before .before .before .before .before .before .before .pre .1 .1))))
+    (s .room, (inv .0 .marks, (s .base, rw (inv .1) (c .before .before .before .before .before .before .before .before .before .before .before .before .before .pre .1 .1))))
 
 same-length : tie.Need-same-length Inv-loop μ-loop
 same-length c = ap length (c .before .before .before .struct-fault .ensures .1 .1 ∙ c .before .before .before .before .before .before .before .before .before .before .loop .inv .1)

@@ -10,11 +10,11 @@ use Rattle.writer.proofs.parts.put_part.Tie as tie
 
 put-entry-requires : tie.Need-put-entry-requires
 unfolding printedPart
-put-entry-requires c κs = rw (c .row-bytes .ensures) (simp (eq-eqb _ _ (c .before .before .if1 .taken)) at (c .before .before .before .before .before .before .pre .1 .1))
+put-entry-requires c κs = rw (c .entry-of .ensures) (simp (eq-eqb _ _ (c .before .before .if1 .taken)) at (c .before .before .before .before .before .before .pre .1 .1))
 
 returns : tie.Need-returns
 unfolding printedPart
-returns c = wrote-is (c .before .before .put-entry .ensures) (rw (c .before .before .before .row-bytes .ensures) (simp (eq-eqb _ _ (c .before .before .before .before .before .if1 .taken))))
+returns c = wrote-is (c .before .before .put-entry .ensures) (rw (c .before .before .before .entry-of .ensures) (simp (eq-eqb _ _ (c .before .before .before .before .before .if1 .taken))))
 
 put-name-requires : tie.Need-put-name-requires
 unfolding printedPart
@@ -40,7 +40,6 @@ pub put-part-spec : {M : Type 1} → statement M
 put-part-spec =
     tie.close
     (tie.spec
-    (λ c. search needs)
     (λ c κs. search needs)
     put-entry-requires
     (λ c. search needs)

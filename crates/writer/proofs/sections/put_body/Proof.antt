@@ -1,49 +1,36 @@
--- By the kind; one that is neither a record's nor a struct's is a label def's.
+-- Numbers, the name, and fields or labels.
 -- Assumes nothing.
-use mathlib.Core.Path.{sym}
+use native.Mathlib.Omega.{arith}
+use mathlib.Core.Path.{sym, ap}
+use lib.ListN.{length, length-append}
 use denote.Ref.{now}
-use Rattle.rows_check.specs.SectionLaws.{other-rows, other-body}
-use Rattle.writer.proofs.OutputLaws.{filled-is}
+use Rattle.rows_check.specs.SectionLaws.{body-is}
+use Rattle.writer.proofs.OutputLaws.{wrote-then, wrote-is, wrote-filled}
 use borrow.Author.Needs.{needs}
 use Rattle.writer.proofs.sections.put_body.Statement.{statement}
 use Rattle.writer.proofs.sections.put_body.Tie as tie
 
-record-body-requires : tie.Need-record-body-requires
-record-body-requires c κs =
-    let pre = c .before .before .before .before .before .pre in
-    (pre .0, (rw (c .before .if1 .taken) at (pre .1 .0), rw (c .before .if1 .taken) at (pre .1 .1)))
+put-numbers-requires : tie.Need-put-numbers-requires
+put-numbers-requires c κs =
+    let start = c .before .before .before .before in
+    (start .pre .0, record { fits = omega (arith, start .pre .1 .1, simp length-append at (ap length (body-is (start .args .kind) (now (start .args .rows)) (now (start .args .text)) (start .args .q)))) })
+
+put-name-requires : tie.Need-put-name-requires
+put-name-requires c κs =
+    let start = c .before .before .before .before .before .before .before .before in
+    (start .pre .0, (start .pre .1 .0 .own, record { fits = omega (arith, start .pre .1 .1, simp length-append at (ap length (body-is (start .args .kind) (now (start .args .rows)) (now (start .args .text)) (start .args .q)))) }))
+
+put-contents-requires : tie.Need-put-contents-requires
+put-contents-requires c κs =
+    let start = c .before .before .before .before .before .before .before .before .before .before .before .before in
+    (start .pre .0, (start .pre .1 .0, record { fits = omega (arith, start .pre .1 .1, simp length-append at (ap length (body-is (start .args .kind) (now (start .args .rows)) (now (start .args .text)) (start .args .q)))) }))
 
 returns : tie.Need-returns
-returns c = filled-is (c .before .before .record-body .ensures) (rw (c .before .before .before .before .if1 .taken))
-
-struct-body-requires : tie.Need-struct-body-requires
-struct-body-requires c κs =
-    let pre = c .before .before .before .before .before .before .pre in
-    (pre .0, (rw (c .before .if2 .taken) at (pre .1 .0), rw (c .before .if2 .taken) at (pre .1 .1)))
-
-returns-2 : tie.Need-returns-2
-returns-2 c = filled-is (c .before .before .struct-body .ensures) (rw (c .before .before .before .before .if2 .taken))
-
-label-def-body-requires : tie.Need-label-def-body-requires
-label-def-body-requires c κs =
-    let start = c .before .before .before .before .before .before in
-    (start .pre .0, (other-rows (start .args .kind) (c .before .before .if1 .left) (c .before .if2 .left) (now (start .args .rows)) (now (start .args .text)) (start .args .q) (start .pre .1 .0), rw (other-body (start .args .kind) (c .before .before .if1 .left) (c .before .if2 .left) (now (start .args .rows)) (now (start .args .text)) (start .args .q)) at (start .pre .1 .1)))
-
-returns-3 : tie.Need-returns-3
-returns-3 c =
-    let args = c .before .before .before .before .before .before .before .before .before .args in
-    filled-is (c .before .before .label-def-body .ensures) (sym (other-body (args .kind) (c .before .before .before .before .before .if1 .left) (c .before .before .before .before .if2 .left) (now (args .rows)) (now (args .text)) (args .q)))
+returns c =
+    let start = c .before .before .before .before .before .before .before .before .before .before .before .before .before .before .before in
+    wrote-filled (wrote-is (wrote-then (c .before .before .before .before .before .before .before .before .before .before .put-numbers .ensures) (wrote-then (c .before .before .before .before .before .before .put-name .ensures) (c .before .before .put-contents .ensures))) (sym (body-is (start .args .kind) (now (start .args .rows)) (now (start .args .text)) (start .args .q))))
 
 pub put-body-spec : {M : Type 1} → statement M
 put-body-spec =
     tie.close
-    (tie.spec
-    record-body-requires
-    (λ c. search needs)
-    returns
-    struct-body-requires
-    (λ c. search needs)
-    returns-2
-    label-def-body-requires
-    (λ c. search needs)
-    returns-3)
+    (tie.spec put-numbers-requires put-name-requires put-contents-requires (λ c. search needs) returns)
