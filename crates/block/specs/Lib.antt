@@ -3,5 +3,7 @@ pub mod Fields
 pub mod Read
 pub mod ReadLaws
 pub mod Parts
+pub mod RefusalLaws
 pub mod Single
 pub mod Examples
+pub mod SpanLaws

@@ -2,12 +2,15 @@
 use Prim.Native.Nat.{ℕ, _*_, _/_}
 use mathlib.Core.Bool.{Bool, _&&_, cond}
 use mathlib.Core.Path.{_≡_}
-use mathlib.Core.List.{List, _++_}
+use mathlib.Core.List.{List, _∷_, _++_}
 use lib.ListN.{length, drop}
 use lib.Dec.{leb}
 use Rattle.codec.specs.Codec.{Res, ok, refuse}
 use Rattle.layout.specs.Rows.{rows}
+use Rattle.layout.specs.Answers.{wireNumbers}
+use Rattle.rules.specs.Rules.{ruleNumbers}
 use Rattle.symbology.specs.SymbologyRows.{symbologyRows}
+use Rattle.symbology.specs.Answers.{contentsNumbers}
 use Rattle.table.specs.Table.{flat}
 use Rattle.block.specs.Block.{Block, lengths, blockOf}
 use Rattle.block.specs.Fields.{fieldsOf}
@@ -25,6 +28,10 @@ nines b = rows (b .layout)
 -- both tables, of so many numbers, hold the rows
 abbrev pub roomy : Block → ℕ → ℕ → Bool
 roomy b m n = leb (length (fives b)) (m / 5) && leb (length (nines b)) (n / 9)
+
+-- what refuses a block: its version, its size, its header, its sections, the symbology's contents, the layout's bytes, the rules
+abbrev pub blockNumbers : List ℕ
+blockNumbers = 11 ∷ 13 ∷ 20 ∷ 21 ∷ 22 ∷ 23 ∷ 24 ∷ 25 ∷ 26 ∷ 27 ∷ 28 ∷ (contentsNumbers ++ (wireNumbers ++ ruleNumbers))
 
 -- refused; or all is accepted and the tables are long enough; or 3, with the rows needed of both
 unfoldable pub answerOf : MetadataLengths → Res (Block × List ℕ) → ℕ → ℕ → BlockAnswer
@@ -57,3 +64,11 @@ pub record Promise (v : ℕ) (b t s l : List ℕ) (r : BlockAnswer) (s′ l′ :
   pub answer : r ≡ blockAnswer v b t s l
   pub symbology : s′ ≡ blockSymbology v b t s l
   pub layout : l′ ≡ blockLayout v b t s l
+
+-- ---- the numbers of document 01
+
+-- 3 for short tables, 0 for an accepted block
+abbrev pub blockNumber : BlockAnswer → ℕ
+blockNumber (Read f) = 0
+blockNumber (Refused e) = e
+blockNumber (Short s l) = 3

@@ -11,7 +11,7 @@ use Rattle.layout.specs.declared.Verdict.{Verdict}
 use Rattle.layout.specs.declared.Verdict.the-variants as Verdict'
 use Rattle.rules.specs.Rules.{ruledOf}
 use Rattle.rows_check.specs.Check.{printed}
-use Rattle.writer.specs.Write.{writeLayout, outAfter}
+use Rattle.writer.specs.Write.{writeLayout, outAfter, writtenNumber}
 use Rattle.writer.specs.declared.Written.{Written}
 use Rattle.writer.specs.declared.Written.the-variants.{Length}
 
@@ -40,11 +40,6 @@ pub record LayoutPlainC (s : List ℕ) (w : ℕ) (sheet o : List ℕ) (r : ℕ) 
   pub out : o′ ≡ verdictOut (verdict (ruledOf sheet w s)) o
 
 -- ---- a layout written
-
--- 0 for a written layout
-abbrev pub writtenNumber : Written → ℕ
-writtenNumber (Length n) = 0
-writtenNumber (Written.Refused e) = e
 
 -- the length at 0
 abbrev pub writtenOut : Written → List ℕ → List ℕ

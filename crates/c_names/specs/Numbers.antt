@@ -6,11 +6,6 @@ use lib.ListN.{length}
 use Rattle.names.specs.declared.Span.{Span}
 use Rattle.names.specs.declared.Span.the-variants.{Part}
 
--- 0 for a span
-abbrev pub spanNumber : Span → ℕ
-spanNumber (Part b n) = 0
-spanNumber (Span.Refused e) = e
-
 -- start and length, or zeros
 abbrev pub spanOut : Span → List ℕ
 spanOut (Part b n) = b ∷ n ∷ []

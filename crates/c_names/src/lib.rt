@@ -2,8 +2,8 @@
 use names::Span;
 ghost use mathlib.Core.Path.{_≡_};
 ghost use lib.ListN.{length};
-ghost use Rattle.names.specs.Names.{symbologySpan, layoutSpan};
-ghost use Rattle.c_names.specs.Numbers.{spanNumber, spanOut};
+ghost use Rattle.names.specs.Names.{symbologySpan, layoutSpan, spanNumber};
+ghost use Rattle.c_names.specs.Numbers.{spanOut};
 
 // The text of a symbology row, as a part of the block: 0 with {start, length}, or 90 with {0, 0}.
 #[no_mangle]

@@ -5,7 +5,7 @@ use mathlib.Core.Path.{_≡_}
 use mathlib.Core.List.{List, [], _∷_}
 use lib.ListN.{set}
 use lib.Seq.{sets}
-use Rattle.block.specs.Read.{blockAnswer, blockSymbology, blockLayout}
+use Rattle.block.specs.Read.{blockAnswer, blockSymbology, blockLayout, blockNumber}
 use Rattle.block.specs.declared.Fields.{Fields}
 use Rattle.block.specs.declared.Optional.{Optional}
 use Rattle.block.specs.declared.Optional.the-variants.{Absent, Present}
@@ -37,12 +37,6 @@ unfoldable pub fieldsOut : Fields → List ℕ
 fieldsOut f =
     f .«dataset_len» ∷ valueOf (f .schema) ∷ f .start ∷ valueOf (f .end) ∷ valueOf (f .limit) ∷ valueOf (f .«stype_in») ∷ f .«stype_out» ∷ bit (f .«ts_out»)
     ∷ f .«symbol_cstr_len» ∷ f .«layout_version» ∷ f .«symbology_rows» ∷ f .«layout_rows» ∷ presence (f .schema) (f .end) (f .limit) (f .«stype_in») ∷ 0 ∷ 0 ∷ 0 ∷ []
-
--- 3 for short tables, 0 for an accepted block
-abbrev pub blockNumber : BlockAnswer → ℕ
-blockNumber (Read f) = 0
-blockNumber (BlockAnswer.Refused e) = e
-blockNumber (BlockAnswer.Short s l) = 3
 
 -- the fields; with 3 the rows needed, at 10 and 11
 abbrev pub blockOut : BlockAnswer → List ℕ → List ℕ

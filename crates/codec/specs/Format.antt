@@ -1,4 +1,4 @@
--- A format with all that is known of it: how it is read and written, the laws of that, and what edits do to it. Each way to build
+-- A format with all that is known of it: how it is read and written, the laws of that, what edits do to it, and which numbers it gives. Each way to build
 -- a format builds all of it at once, from its parts.
 -- Assumes nothing.
 use Prim.Native.Nat.{ℕ, _+_, _≤_, zero-le}
@@ -10,6 +10,8 @@ use lib.ListN.{length}
 use Rattle.codec.specs.Codec
 use Rattle.codec.specs.Codec.{Codec}
 use Rattle.codec.specs.Laws.{Law, law-raw, law-skip, law-padded, law-num, law-byte, law-then, law-on, law-named, law-checked, law-judged, law-asks, law-placed, law-sized, law-times, law-distinct, law-limited, law-boxed, law-full, law-remainder, length-bare}
+use Rattle.codec.specs.Refusals.{Only, Fault}
+use Rattle.codec.specs.RefusalLaws.{only-raw, only-skip, only-padded, only-num, only-byte, only-then, only-on, only-named, only-checked, only-judged, only-asks, only-placed, only-times, only-distinct, only-limited, only-boxed, only-remainder, only-sized, only-full}
 use Rattle.codec.specs.Edits.{Edits}
 use Rattle.codec.specs.EditLaws.{edits-kept, edits-still, edits-skip, edits-padded, edits-then, edits-on, edits-named, edits-checked, edits-judged, edits-asks, edits-placed, edits-sized, edits-times, edits-distinct, edits-limited, edits-apart, edits-boxed}
 
@@ -26,6 +28,9 @@ pub record Format (A : Type 0) (e : Bool) : Type 1 where
   pub codec : Codec A
   pub law : Law codec
   pub edits : Edits codec (tail e)
+  -- P holds of each number that it names for a refusal; and so of every refusal
+  pub numbers : (ℕ → Type 0) → Type 0
+  pub refuses : (P : ℕ → Type 0) → numbers P → Only P codec
 
 -- ---- bytes and numbers
 
@@ -35,7 +40,7 @@ unfolding Codec.raw
 raw-edits k n j = edits-still _ j (λ x. refl) (λ p x. refl)
 
 abbrev pub raw : {e : Bool} → ℕ → ℕ → Format (List ℕ) e
-raw {e} k n = record { codec = Codec.raw k n; law = law-raw k n; edits = raw-edits k n (tail e) }
+raw {e} k n = record { codec = Codec.raw k n; law = law-raw k n; edits = raw-edits k n (tail e); numbers = λ P. P k; refuses = λ P p. only-raw P k n p }
 
 -- a number of w bytes; k where they run past the end
 unfoldable pub num-edits : (k w j : ℕ) → Edits (Codec.num k w) j
@@ -43,15 +48,15 @@ unfolding Codec.num
 num-edits k w j = edits-still _ j (λ x. refl) (λ p x. refl)
 
 abbrev pub num : {e : Bool} → ℕ → ℕ → Format ℕ e
-num {e} k w = record { codec = Codec.num k w; law = law-num k w; edits = num-edits k w (tail e) }
+num {e} k w = record { codec = Codec.num k w; law = law-num k w; edits = num-edits k w (tail e); numbers = λ P. P k; refuses = λ P p. only-num P k w p }
 
 -- n bytes that nobody looks at
 abbrev pub skip : {e : Bool} → ℕ → ℕ → Format (List ℕ) e
-skip {e} k n = record { codec = Codec.skip k n; law = law-skip k n; edits = edits-skip k n (tail e) }
+skip {e} k n = record { codec = Codec.skip k n; law = law-skip k n; edits = edits-skip k n (tail e); numbers = λ P. P k; refuses = λ P p. only-skip P k n p }
 
 -- n bytes and m bytes that nobody looks at, as one
 abbrev pub padded : {e : Bool} → ℕ → ℕ → ℕ → Format (List ℕ × List ℕ) e
-padded {e} k n m = record { codec = Codec.padded k n m; law = law-padded k n m; edits = edits-padded k n m (tail e) }
+padded {e} k n m = record { codec = Codec.padded k n m; law = law-padded k n m; edits = edits-padded k n m (tail e); numbers = λ P. P k; refuses = λ P p. only-padded P k n m p }
 
 -- ---- one after the other
 
@@ -61,6 +66,8 @@ _then_ {e = e} F G = record {
   codec = Codec._then_ (F .codec) (G .codec);
   law = law-then _ _ (F .law) (G .law);
   edits = edits-then _ _ (F .edits) (G .edits) (tail-one e) (λ y lg. omega arith);
+  numbers = λ P. F .numbers P × G .numbers P;
+  refuses = λ P p. only-then P _ (F .refuses P (p .0)) _ (G .refuses P (p .1));
 }
 
 -- the byte b; k where it is missing, k′ where another stands there
@@ -69,7 +76,7 @@ unfolding Codec.byte
 byte-edits k k′ b j = edits-still _ j (λ x. refl) (λ p x. refl)
 
 abbrev pub byte : {e : Bool} → ℕ → ℕ → ℕ → Format (Unit {0}) e
-byte {e} k k′ b = record { codec = Codec.byte k k′ b; law = law-byte k k′ b; edits = byte-edits k k′ b (tail e) }
+byte {e} k k′ b = record { codec = Codec.byte k k′ b; law = law-byte k k′ b; edits = byte-edits k k′ b (tail e); numbers = λ P. P k × P k′; refuses = λ P p. only-byte P k k′ b (p .0) (p .1) }
 
 -- the byte b after it, so that no place stands at the very end
 pub byte-one : (k k′ b : ℕ) (x : Unit {0}) → Codec.byte k k′ b .legal x → 1 ≤ length (Codec.byte k k′ b .print x) + 0
@@ -81,38 +88,42 @@ closed k k′ b F = record {
   codec = Codec._then_ (F .codec) (Codec.byte k k′ b);
   law = law-then _ _ (F .law) (law-byte k k′ b);
   edits = edits-then _ _ (F .edits) (byte-edits k k′ b 0) (tail-one true) (byte-one k k′ b);
+  numbers = λ P. F .numbers P × (P k × P k′);
+  refuses = λ P p. only-then P _ (F .refuses P (p .0)) _ (only-byte P k k′ b (p .1 .0) (p .1 .1));
 }
 
 -- what follows may depend on what was read, places and skipped bytes apart
 abbrev pub on : {A B : Type 0} {e : Bool} (F : Format A e) (G : A → Format B e) → ((x : A) → G (F .codec .bare x) ≡ G x) → Format (A × B) e
-on {B = B} {e} F G blind = record {
+on {A} {B} {e} F G blind = record {
   codec = Codec._on_ (F .codec) λ x. G x .codec;
   law = law-on _ _ (F .law) (λ x. G x .law) (λ x. ap (λ (H : Format B e). H .codec) (blind x));
   edits = edits-on _ _ (F .edits) (λ x. G x .edits) (λ x y q. ap (λ (H : Format B e). (H .codec, H .edits)) (sym (blind x) ∙ ap G q ∙ blind y)) (tail e);
+  numbers = λ P. F .numbers P × ((x : A) → G x .numbers P);
+  refuses = λ P p. only-on P _ (F .refuses P (p .0)) _ (λ x. G x .refuses P (p .1 x));
 }
 
 -- ---- under another name, with a test, with a place
 
 -- a value with the place where it starts
 abbrev pub placed : {A : Type 0} → Format A false → Format (ℕ × A) true
-placed F = record { codec = Codec.placed (F .codec); law = law-placed _ (F .law); edits = edits-placed _ (F .edits) zero-le }
+placed F = record { codec = Codec.placed (F .codec); law = law-placed _ (F .law); edits = edits-placed _ (F .edits) zero-le; numbers = F .numbers; refuses = λ P p. only-placed P _ (F .refuses P p) }
 
 module _ {A : Type 0} {e : Bool} where
   -- the same bytes under another name
   abbrev pub named : {B : Type 0} (to : A → B) (from : B → A) → ((x : A) → from (to x) ≡ x) → Format A e → Format B e
-  named to from same F = record { codec = Codec.named to from (F .codec); law = law-named _ (F .law) to from same; edits = edits-named _ (F .edits) to from same }
+  named to from same F = record { codec = Codec.named to from (F .codec); law = law-named _ (F .law) to from same; edits = edits-named _ (F .edits) to from same; numbers = F .numbers; refuses = λ P p. only-named P _ (F .refuses P p) to from }
 
   -- k is refused where what was read fails the test, which sees no place and no skipped byte
   abbrev pub checked : (test : A → Bool) → ℕ → (F : Format A e) → ((x : A) → test (F .codec .bare x) ≡ test x) → Format A e
-  checked test k F blind = record { codec = Codec.checked test k (F .codec); law = law-checked _ (F .law) test k blind; edits = edits-checked _ (F .edits) test k blind }
+  checked test k F blind = record { codec = Codec.checked test k (F .codec); law = law-checked _ (F .law) test k blind; edits = edits-checked _ (F .edits) test k blind; numbers = λ P. F .numbers P × P k; refuses = λ P p. only-checked P _ (F .refuses P (p .0)) test k (p .1) }
 
   -- refused by the number that the rules give; 0 is none
   abbrev pub judged : (rules : A → ℕ) (F : Format A e) → ((x : A) → rules (F .codec .bare x) ≡ rules x) → Format A e
-  judged rules F blind = record { codec = Codec.judged rules (F .codec); law = law-judged _ (F .law) rules blind; edits = edits-judged _ (F .edits) rules blind }
+  judged rules F blind = record { codec = Codec.judged rules (F .codec); law = law-judged _ (F .law) rules blind; edits = edits-judged _ (F .edits) rules blind; numbers = λ P. F .numbers P × ((x : A) → Fault P (rules x)); refuses = λ P p. only-judged P _ (F .refuses P (p .0)) rules (p .1) }
 
   -- k where fewer than n bytes are left; no value has fewer
   abbrev pub asks : ℕ → (n : ℕ) (F : Format A e) → ((x : A) → F .codec .legal x → n ≤ length (F .codec .print x)) → Format A e
-  asks k n F much = record { codec = Codec.asks k n (F .codec); law = law-asks _ (F .law) k n much; edits = edits-asks _ (F .edits) k n }
+  asks k n F much = record { codec = Codec.asks k n (F .codec); law = law-asks _ (F .law) k n much; edits = edits-asks _ (F .edits) k n; numbers = λ P. F .numbers P × P k; refuses = λ P p. only-asks P _ (F .refuses P (p .0)) k n (p .1) }
 
   -- a number n of w bytes (k where it is missing), then what n says; `size` gives n back
   abbrev pub sized : ℕ → (w : ℕ) (size : A → ℕ) (F : ℕ → Format A e) → ((n : ℕ) (x : A) → F n .codec .legal x → size x ≡ n) → ((n : ℕ) (x : A) → size (F n .codec .bare x) ≡ size x) → Format A e
@@ -120,6 +131,8 @@ module _ {A : Type 0} {e : Bool} where
     codec = Codec.sized k w size (λ n. F n .codec);
     law = law-sized k w size _ (λ n. F n .law) fits blind;
     edits = edits-sized k w size _ (λ n. F n .edits) blind (λ n. F n .law);
+    numbers = λ P. P k × ((n : ℕ) → F n .numbers P);
+    refuses = λ P p. only-sized P k w size _ (p .0) (λ n. F n .refuses P (p .1 n));
   }
 
 -- n bytes that pass a test, or k′; k where they run past the end
@@ -142,7 +155,7 @@ numTest test k′ k w = checked test k′ (num k w) (num-blind test k w)
 
 module _ {A : Type 0} {e : Bool} (F : Format A e) where
   abbrev pub times : ℕ → Format (List A) e
-  times n = record { codec = Codec.times (F .codec) n; law = law-times _ (F .law) n; edits = edits-times _ (F .law) (F .edits) (tail-one e) n }
+  times n = record { codec = Codec.times (F .codec) n; law = law-times _ (F .law) n; edits = edits-times _ (F .law) (F .edits) (tail-one e) n; numbers = F .numbers; refuses = λ P p. only-times P _ (F .refuses P p) n }
 
   pub times-fits : (n : ℕ) (xs : List A) → times n .codec .legal xs → length xs ≡ n
   unfolding Codec.times
@@ -163,6 +176,8 @@ module _ {A : Type 0} {e : Bool} (F : Format A e) where
       codec = Codec.distinct (F .codec) key k′ n;
       law = law-distinct _ (F .law) key k′ blind n;
       edits = edits-distinct _ (F .law) (F .edits) (tail-one e) key k′ blind n;
+      numbers = λ P. F .numbers P × P k′;
+      refuses = λ P p. only-distinct P _ (F .refuses P (p .0)) key k′ (p .1) n;
     }
 
     pub distinct-fits : (n : ℕ) (xs : List A) → distinct n .codec .legal xs → length xs ≡ n
@@ -182,6 +197,8 @@ module _ {A : Type 0} {e : Bool} (F : Format A e) where
     codec = Codec.limited (F .codec) k k′ w least;
     law = law-limited _ (F .law) least big k k′ w;
     edits = edits-limited _ (F .law) (F .edits) (tail-one e) k k′ w least big (law-times _ (F .law));
+    numbers = λ P. F .numbers P × (P k × P k′);
+    refuses = λ P p. only-limited P _ (F .refuses P (p .0)) k k′ w least (p .1 .0) (p .1 .1);
   }
 
 -- u16 count (k where it is missing), that many of one format, then that many of another
@@ -209,6 +226,8 @@ boxed {e = e} k k′ k″ w own F = record {
   codec = Codec.boxed k k′ k″ w own (λ p. p) (F .codec .each) (F .codec);
   law = law-boxed _ (F .law) k k′ k″ w own (λ p. p) _ (F .law .spotted);
   edits = edits-boxed k k′ k″ w own _ _ (F .edits) (tail e);
+  numbers = λ P. F .numbers P × (P k × (P k′ × P k″));
+  refuses = λ P p. only-boxed P _ (F .refuses P (p .0)) k k′ k″ w own (λ p. p) _ (p .1 .0) (p .1 .1 .0) (p .1 .1 .1);
 }
 
 -- the same, with places that count from the body's own first byte and are no places here
@@ -217,6 +236,8 @@ apart {e = e} k k′ k″ w own F = record {
   codec = Codec.boxed k k′ k″ w own (λ p. 0) (λ P x. Unit {0}) (F .codec);
   law = law-boxed _ (F .law) k k′ k″ w own (λ p. 0) _ (λ P p x h. tt);
   edits = edits-apart k k′ k″ w own (λ p. 0) _ _ (F .edits) (tail e);
+  numbers = λ P. F .numbers P × (P k × (P k′ × P k″));
+  refuses = λ P p. only-boxed P _ (F .refuses P (p .0)) k k′ k″ w own (λ p. 0) _ (p .1 .0) (p .1 .1 .0) (p .1 .1 .1);
 }
 
 -- the same with places here, and contents that span it: k where something is left over, j where length or body is cut short; no edit changes it
@@ -226,8 +247,8 @@ module _ {A : Type 0} {d : Bool} (k j w own : ℕ) (F : Format A d) where
   law-spanned = law-full k _ (law-boxed _ (F .law) j j j w own (λ p. p) _ (F .law .spotted)) (λ p z. refl) (λ z. refl)
 
   abbrev pub spanned : {e : Bool} → Format A e
-  spanned {e} = record { codec = Codec.full k (Codec.boxed j j j w own (λ p. p) (F .codec .each) (F .codec)); law = law-spanned; edits = edits-kept _ (tail e) }
+  spanned {e} = record { codec = Codec.full k (Codec.boxed j j j w own (λ p. p) (F .codec .each) (F .codec)); law = law-spanned; edits = edits-kept _ (tail e); numbers = λ P. F .numbers P × (P k × P j); refuses = λ P p. only-full P k _ (p .1 .0) (only-boxed P _ (F .refuses P (p .0)) j j j w own (λ p. p) _ (p .1 .1) (p .1 .1) (p .1 .1)) }
 
 -- what stands from here on, as a list of its own; no edit changes it
 abbrev pub remainder : {A : Type 0} {d e : Bool} → Format A d → Format A e
-remainder {e = e} F = record { codec = Codec.remainder (F .codec); law = law-remainder _ (F .law); edits = edits-kept _ (tail e) }
+remainder {e = e} F = record { codec = Codec.remainder (F .codec); law = law-remainder _ (F .law); edits = edits-kept _ (tail e); numbers = F .numbers; refuses = λ P p. only-remainder P _ (F .refuses P p) }

@@ -7,10 +7,9 @@ use native.Mathlib.Omega.{arith}
 use mathlib.Core.Path.{_≡_, refl, sym, ap, ap₂, _∙_, subst, pathJ}
 use mathlib.Core.List.{List, [], _∷_, _++_, map}
 use lib.ListN.{length, length-append}
-use lib.Dec.{leb}
 use borrow.Author.Tests.{le-leb}
 use Rattle.codec.specs.Codec.{ok, Bytes, raw, skip, num, named, checked, judged, asks, whole, boxed, _then_, _on_}
-use Rattle.codec.specs.Laws.{need-ok, whole-reads, whole-back}
+use Rattle.codec.specs.Laws.{whole-reads}
 use Rattle.codec.specs.Edits.{Marked, bytesOf, Edit, put}
 use Rattle.text.specs.Utf8.{utf8}
 use Rattle.dates.specs.Date.{isDate}
@@ -22,7 +21,7 @@ use Rattle.block.specs.Fields.{fieldsWith, fieldsOf}
 use Rattle.block.specs.Read.{fives, nines, blockAnswer, answerOf}
 use Rattle.demands.specs.LayoutRows.{moveRow}
 use Rattle.demands.specs.SymbologyRows.{symbologyTexts, symbology-located}
-use Rattle.demands.specs.Edited.{header-length, B4, width, section, layoutIn, header-bare, layout-bare, parted, nines-move, fives-move, section-moved, section-stays, nines-texts, fives-texts}
+use Rattle.demands.specs.Edited.{header-length, B4, width, section, layoutIn, header-bare, layout-bare, parted, nines-move, fives-move, section-moved, section-stays, nines-texts, fives-texts, rest-bytes, block-back}
 
 -- the bytes of an accepted block by what may become of them; the bytes after them are ignored
 abbrev pub marking : List ℕ → Block → Marked
@@ -46,12 +45,6 @@ module _ (sheet : List ℕ) where
   block-of : (b : List ℕ) → 100 ≤ length b → length b ≤ 4294967295 → blockOf 4 sheet b ≡ whole (B4 sheet) 0 b
   unfolding blockOf lengths
   block-of b lo hi = rw (le-leb 100 (length b) lo, le-leb (length b) 4294967295 hi)
-
-  pub whole-of : (b : List ℕ) (z : Block × List ℕ) (k : ℕ) → blockOf 4 sheet b ≡ ok z k → whole (B4 sheet) 0 b ≡ ok z k
-  unfolding blockOf lengths
-  whole-of b z k e =
-      let (_, e1) = need-ok (leb 100 (length b)) 13 0 _ z k e in
-      need-ok (leb (length b) 4294967295) 13 0 _ z k e1 .1
 
   fields-bare : (h : Header) (n i j : ℕ) → fieldsWith v4 (header v4 .codec .bare h) n i j ≡ fieldsWith v4 h n i j
   unfolding fieldsWith header named _then_ checked raw num skip
@@ -88,10 +81,6 @@ module _ (sheet : List ℕ) where
       ∙ ap (λ h. fieldsWith v4 h (x .layout .version) i j) (header-bare sheet x y e)
       ∙ fields-bare (x .header) (x .layout .version) i j in
       ap₂ (λ a b. fieldsWith v4 (z .header) (z .layout .version) a b) f n ∙ ap (λ a. fieldsWith v4 (z .header) a i j) v ∙ h
-
-  rest-bytes : (x : Block) → B4 sheet .legal x → Bytes (x .layout .rest)
-  unfolding block named _on_ _then_ layoutPart judged boxed asks
-  rest-bytes x lg = lg .1 .0 .0 .1
 
   bare-texts : (x y : Block) → B4 sheet .bare y ≡ B4 sheet .bare x → texts (bareLayout utf8 D (y .layout)) ≡ texts (bareLayout utf8 D (x .layout))
   unfolding bareLayout
@@ -138,9 +127,9 @@ module _ (sheet : List ℕ) where
               ∙ sym (symbology-located utf8 isDate (width sheet x) (section sheet x + 4) (x .symbology)) ∙ ap symbologyTexts (sym (section-stays sheet x))
               ∙ sym (fives-texts sheet x r) ∙ ap₂ (λ v u. map (rowText v) (fives u)) (sym bytes) at;
           layoutNames =
-              ap (λ v. map (rowText (layoutIn sheet v)) (nines z)) q ∙ nines-texts sheet y r′ ly (rest-bytes y ly)
+              ap (λ v. map (rowText (layoutIn sheet v)) (nines z)) q ∙ nines-texts sheet y r′ ly (rest-bytes sheet y ly)
               ∙ bare-texts x y same
-              ∙ sym (nines-texts sheet x r legal (rest-bytes x legal)) ∙ ap₂ (λ v u. map (rowText (layoutIn sheet v)) (nines u)) (sym bytes) at;
+              ∙ sym (nines-texts sheet x r legal (rest-bytes sheet x legal)) ∙ ap₂ (λ v u. map (rowText (layoutIn sheet v)) (nines u)) (sym bytes) at;
         }
 
   -- DEMAND 3. The marked bytes of an accepted block are its bytes. Every edit of them, with any bytes after them, is read the same
@@ -150,8 +139,7 @@ module _ (sheet : List ℕ) where
 
   pub demand3 : (b : List ℕ) (z : Block) (r : List ℕ) (k : ℕ) → Bytes b → blockOf 4 sheet b ≡ ok (z, r) k → Demand3 b z r
   demand3 b z r k bs read =
-      let c = B4 sheet in
-      let w = whole-back c (block sheet v4 .law) 0 b (z, r) k bs (whole-of b (z, r) k read) in
+      let w = block-back sheet b (z, r) k bs read in
       record {
         whole-block = w .bytes ∙ ap (λ v. v ++ r) (sym (block sheet v4 .edits .marked z));
         edits = λ m r′ e fits.

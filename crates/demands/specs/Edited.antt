@@ -8,8 +8,8 @@ use mathlib.Core.Bool.{true}
 use mathlib.Core.List.{List, [], _++_, map, append-nil, append-assoc}
 use lib.ListN.{length, take, drop, length-append}
 use lib.Seq.{take-at, drop-at, drop-drop, take-append-seam}
-use Rattle.codec.specs.Codec.{Bytes, Codec, value, raw, skip, little, num, named, checked, judged, asks, boxed, full, _then_, _on_}
-use Rattle.codec.specs.Laws.{Law, Here, left-part, part-take, length-little, value-little}
+use Rattle.codec.specs.Codec.{ok, Bytes, Codec, value, raw, skip, little, num, named, checked, judged, asks, boxed, full, _then_, _on_}
+use Rattle.codec.specs.Laws.{Law, Here, Whole, whole-back, left-part, part-take, length-little, value-little}
 use Rattle.codec.specs.Edits.{Marked, kept, _and_, bytesOf, Edit, put}
 use Rattle.codec.specs.EditLaws.{Inside, inside, put-all, put-kept, edits-kept, edits-then, edits-on, edits-named, edits-judged, edits-asks, edits-apart}
 use Rattle.text.specs.Utf8.{utf8}
@@ -21,7 +21,10 @@ use Rattle.layout.specs.TextLaws.{rowText, texts, texts-bare, row-texts}
 use Rattle.layout.specs.Rows.{rows}
 use Rattle.symbology.specs.Symbology.{Symbology, symbology}
 use Rattle.symbology.specs.SymbologyRows.{symbologyRows}
-use Rattle.block.specs.Block.{Header, Block, v4, header, widthOf, layoutPart, symbologyPart, block}
+use Rattle.table.specs.EachLaws.{Each, Lies}
+use Rattle.layout.specs.SpanLaws.{read-lies}
+use Rattle.block.specs.SpanLaws.{block-whole}
+use Rattle.block.specs.Block.{Header, Block, v4, lengths, header, widthOf, layoutPart, symbologyPart, block, blockOf}
 use Rattle.block.specs.Read.{fives, nines}
 use Rattle.demands.specs.LayoutRows.{moveRow, rows-move}
 use Rattle.demands.specs.SymbologyRows.{Shift, symbology-shift, Stands, symbologyTexts, symbology-texts}
@@ -218,3 +221,31 @@ module _ (sheet : List ℕ) where
 
   pub fives-texts : (x : Block) (r : List ℕ) → map (rowText (B4 .print x ++ r)) (fives (B4 .locate 0 x)) ≡ symbologyTexts (B4 .locate 0 x .symbology)
   fives-texts x r = symbology-texts utf8 isDate (width x) (B4 .print x ++ r) (B4 .locate 0 x .symbology) (fives-each x r)
+
+  -- ---- the rows' texts lie within the layout
+
+  -- what is left over in the layout is bytes
+  pub rest-bytes : (x : Block) → B4 .legal x → Bytes (x .layout .rest)
+  unfolding block named _on_ _then_ layoutPart judged boxed asks
+  rest-bytes x lg = lg .1 .0 .0 .1
+
+  -- an accepted block is its bytes, legal and with its places
+  pub block-back : (b : List ℕ) (z : Block × List ℕ) (k : ℕ) → Bytes b → blockOf 4 sheet b ≡ ok z k → Whole B4 (block sheet v4 .law) 0 b z
+  unfolding lengths
+  block-back b z k bs e = whole-back B4 (block sheet v4 .law) 0 b z k bs (block-whole 4 sheet b z k e)
+
+  -- the rows of a legal block's layout lie within it
+  located-lie : (x : Block) (r : List ℕ) → B4 .legal x → Each (Lies 10 15 (length (layoutIn (B4 .print x ++ r)))) (nines (B4 .locate 0 x))
+  unfolding LegalLayout locateLayout
+  located-lie x r lg =
+      let t = x .layout in
+      let lt : LegalLayout utf8 D t = (layout-legal x lg, rest-bytes x lg) in
+      let h = read-lies utf8 D (printLayout utf8 D t) (locateLayout utf8 D t) (length (printLayout utf8 D t)) (layout-octets utf8 D t lt) (parse-print utf8 D t lt) in
+      subst (λ (v : List ℕ). Each (Lies 10 15 (length v)) (nines (B4 .locate 0 x))) (sym (layout-bytes x r lg)) (subst (λ l. Each (Lies 10 15 (length (printLayout utf8 D t))) (rows l)) (sym (layout-at x)) h)
+
+  -- every layout row of an accepted block is of kind 10 to 15, and its text, where it is no field, lies within the layout
+  pub nines-lie : (b : List ℕ) (z : Block × List ℕ) (k : ℕ) → Bytes b → blockOf 4 sheet b ≡ ok z k → Each (Lies 10 15 (length (layoutIn b))) (nines (z .0))
+  nines-lie b z k bs e =
+      let w = block-back b z k bs e in
+      subst (λ (x : Block). Each (Lies 10 15 (length (layoutIn b))) (nines x)) (w .located)
+      (subst (λ (v : List ℕ). Each (Lies 10 15 (length (layoutIn v))) (nines (B4 .locate 0 (z .0)))) (sym (w .bytes)) (located-lie (z .0) (z .1) (w .legal)))

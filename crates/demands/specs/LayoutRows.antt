@@ -1,10 +1,11 @@
 -- The rows of an edited layout: the same rows, each start moved by what was put in before it.
 -- Assumes nothing.
-use Prim.Native.Nat.{ℕ, suc}
+use Prim.Native.Nat.{ℕ, suc, _≤_}
+use native.Mathlib.Omega.{arith}
 use mathlib.Core.Path.{_≡_, refl, sym, ap, ap₂, _∙_}
 use mathlib.Core.Bool.{Bool, false, cond}
 use mathlib.Core.List.{List, [], _∷_, _++_, map, map-append}
-use lib.ListN.{length}
+use lib.ListN.{length, getD}
 use lib.Dec.{eqb}
 use Rattle.codec.specs.Format.{Format, tail-one, raw-edits, num-edits}
 use Rattle.codec.specs.EditLaws.{edits-still, edits-padded, edits-then, edits-named, edits-checked, edits-placed, edits-sized, times-moves, edits-times, edits-distinct, edits-boxed}
@@ -18,6 +19,23 @@ abbrev pub moveRow : (ℕ → ℕ) → List ℕ → List ℕ
 moveRow f [] = []
 moveRow f (k ∷ []) = k ∷ []
 moveRow f (k ∷ s ∷ r) = k ∷ cond (eqb k 11) s (f s) ∷ r
+
+-- the numbers of a moved row: the same kind and length, and the start of a row that is no field moved
+module _ (f : ℕ → ℕ) where
+  pub move-kind : (r : List ℕ) → getD (moveRow f r) 0 0 ≡ getD r 0 0
+  move-kind [] = refl
+  move-kind (k ∷ []) = refl
+  move-kind (k ∷ s ∷ r) = refl
+
+  pub move-length : (r : List ℕ) → getD (moveRow f r) 2 0 ≡ getD r 2 0
+  move-length [] = refl
+  move-length (k ∷ []) = refl
+  move-length (k ∷ s ∷ r) = refl
+
+  pub move-start : (r : List ℕ) → 2 ≤ length r → eqb (getD r 0 0) 11 ≡ false → getD (moveRow f r) 1 0 ≡ f (getD r 1 0)
+  move-start [] l e = absurd (omega arith)
+  move-start (k ∷ []) l e = absurd (omega arith)
+  move-start (k ∷ s ∷ r) l e = rw e refl
 
 module _ {A : Type 0} (F : Format A false) (f : ℕ → ℕ) where
   abbrev Moved : List A → List A → Type 0

@@ -1,9 +1,12 @@
 pub mod LayoutRows
 pub mod SymbologyRows
 pub mod Edited
+pub mod PublicNames
 pub mod Demand3
+pub mod Demand3Calls
 pub mod Number28
 pub mod NotHollow
 pub mod TableP
 pub mod Demand2
 pub mod WriterAccepts
+pub mod Witnesses

@@ -3,7 +3,7 @@
 -- Assumes nothing.
 use Prim.Native.Nat.{ℕ}
 use native.Mathlib.Omega.{arith}
-use mathlib.Core.Path.{_≡_, refl, sym, _∙_}
+use mathlib.Core.Path.{_≡_, refl, sym, ap, _∙_}
 use mathlib.Core.List.{List, [], _∷_, _++_}
 use lib.ListN.{replicate}
 use Rattle.codec.specs.Codec.{Res, ok, refuse, _>>=_, raw, skip, num, named, checked, judged, asks, sized, limited, times, whole, boxed, full, _then_, _on_, remainder}
@@ -15,7 +15,9 @@ use Rattle.layout.specs.Rows.{rows}
 use Rattle.rules.specs.Rules.{rulesOf, seqsFault, structsFault, recordsFault}
 use Rattle.block.specs.Block.{Block, lengths, header, layoutPart, symbologyPart, block, blockOf}
 use Rattle.block.specs.Read.{fives, nines}
-use Rattle.block.specs.Examples.{listed, rowsOf, P10, P11}
+use Rattle.block.specs.ReadLaws.{given}
+use Rattle.block.specs.Examples.{listed, P10, P11}
+use Rattle.block.specs.declared.Fields.{Fields}
 
 -- the rows of what was read, or the refusal
 abbrev pub rowsRead : Res (Block × List ℕ) → Res (List (List ℕ) × List (List ℕ))
@@ -45,10 +47,15 @@ pub accepts4 : (sheet : List ℕ) → rowsRead (blockOf 4 sheet least4) ≡ ok (
 unfolding blockOf lengths whole block header layoutPart symbologyPart remainder named _then_ _on_ checked raw skip num sized utf8 symbology list mapping limited symbologyRows rows judged boxed asks parts groups times full rulesOf seqsFault structsFault recordsFault
 accepts4 sheet = refl
 
--- a block of version 2 with one symbol has a row, and one without has none
-pub rows-differ : (sheet : List ℕ) → _≡_ {A = Res (List (List ℕ))} (rowsOf sheet (listed (69 ∷ 83 ∷ 0 ∷ []))) (rowsOf sheet (listed (69 ∷ 0 ∷ 83 ∷ []))) → ⊥
+-- the symbology rows of what a block gives
+abbrev rowsGiven : Res (Fields × (List (List ℕ) × List (List ℕ))) → Res (List (List ℕ))
+rowsGiven r = r >>= λ z j. ok (z .1 .0) j
+
+-- two blocks of version 2, each of one symbol, are told apart: 45 53 00 has two bytes, 45 00 53 has three
+pub rows-differ : (sheet : List ℕ) → given 2 sheet (listed (69 ∷ 83 ∷ 0 ∷ [])) ≡ given 2 sheet (listed (69 ∷ 0 ∷ 83 ∷ [])) → ⊥
 rows-differ sheet e =
-    let q : _≡_ {A = Res (List (List ℕ))} (ok ((0 ∷ 108 ∷ 2 ∷ 0 ∷ 0 ∷ []) ∷ []) 123) (ok ((0 ∷ 108 ∷ 3 ∷ 0 ∷ 0 ∷ []) ∷ []) 123) = sym (P10 sheet) ∙ e ∙ P11 sheet in
+    let q : _≡_ {A = Res (List (List ℕ))} (ok ((0 ∷ 108 ∷ 2 ∷ 0 ∷ 0 ∷ []) ∷ []) 123) (ok ((0 ∷ 108 ∷ 3 ∷ 0 ∷ 0 ∷ []) ∷ []) 123) =
+    ap rowsGiven (sym (P10 sheet) ∙ e ∙ P11 sheet) in
     let z : _≡_ {A = ℕ} 2 3 = cc in
     omega arith
 

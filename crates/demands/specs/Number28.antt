@@ -11,15 +11,14 @@ use lib.ListN.{length, drop, length-append}
 use lib.Seq.{drop-append-seam, drop-drop}
 use borrow.Author.Tests.{le-leb}
 use Rattle.codec.specs.Codec.{ok, refuse, Bytes, little, raw, skip, num, named, checked, judged, asks, whole, boxed, isNil, full, _then_, _on_}
-use Rattle.codec.specs.Laws.{Here, law-boxed, whole-back}
+use Rattle.codec.specs.Laws.{Here, law-boxed}
 use Rattle.text.specs.Utf8.{utf8}
 use Rattle.dates.specs.Date.{isDate}
 use Rattle.layout.specs.LayoutOf.{D}
 use Rattle.layout.specs.Layout.{printLayout}
 use Rattle.symbology.specs.Symbology.{Symbology, symbology}
 use Rattle.block.specs.Block.{Header, Block, v4, lengths, header, layoutPart, symbologyPart, block, blockOf}
-use Rattle.demands.specs.Edited.{header-length, B4, width, layoutIn, layout-bytes, header-legal, symbology-legal}
-use Rattle.demands.specs.Demand3.{whole-of}
+use Rattle.demands.specs.Edited.{header-length, B4, width, layoutIn, layout-bytes, header-legal, symbology-legal, block-back}
 
 isNil-some : (u : List ℕ) → 0 < length u → isNil u ≡ false
 isNil-some [] h = absurd (omega arith)
@@ -102,7 +101,7 @@ layout-length sheet z = omega arith
 -- DEMAND 3, the symbology section
 pub demand28 : (sheet b : List ℕ) (z : Block) (r : List ℕ) (k : ℕ) → Bytes b → blockOf 4 sheet b ≡ ok (z, r) k → Spanned sheet b r
 demand28 sheet b z r k bs read =
-    let w = whole-back (B4 sheet) (block sheet v4 .law) 0 b (z, r) k bs (whole-of sheet b (z, r) k read) in
+    let w = block-back sheet b (z, r) k bs read in
     let T = symbology utf8 isDate (width sheet z) .codec .print (z .symbology) in
     record {
       front = H sheet z ++ L sheet z;

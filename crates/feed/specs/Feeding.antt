@@ -3,14 +3,14 @@
 use Prim.Native.Nat.{ℕ, _+_, _-_, min}
 use mathlib.Core.Bool.{cond}
 use mathlib.Core.Path.{_≡_}
-use mathlib.Core.List.{List}
+use mathlib.Core.List.{List, _∷_, _++_}
 use lib.ListN.{length, take, drop}
 use lib.Seq.{paste}
 use lib.Dec.{ltb}
-use Rattle.block.specs.Read.{blockAnswer, blockSymbology, blockLayout}
+use Rattle.block.specs.Read.{blockNumbers, blockAnswer, blockSymbology, blockLayout}
 use Rattle.block.specs.declared.BlockAnswer.{BlockAnswer}
 use Rattle.block.specs.declared.BlockAnswer.the-variants.{Read}
-use Rattle.prelude.specs.Prelude.{preludeOf}
+use Rattle.prelude.specs.Prelude.{preludeNumbers, preludeOf}
 use Rattle.prelude.specs.declared.Stage.{Stage}
 use Rattle.prelude.specs.declared.Stage.the-variants.{Whole}
 use Rattle.feed.specs.declared.Answer.{Answer}
@@ -64,6 +64,10 @@ unfoldable pub layoutAt : Stage → List ℕ → List ℕ → List ℕ → List 
 layoutAt (Stage.Needs n) st t s l = l
 layoutAt (Stage.Refused e) st t s l = l
 layoutAt (Whole v n) st t s l = blockLayout v (blockIn st n) t s l
+
+-- what refuses held bytes: the count or the store, the prelude, the block
+abbrev pub feedNumbers : List ℕ
+feedNumbers = 1 ∷ 2 ∷ (preludeNumbers ++ blockNumbers)
 
 -- THE VERDICT on k held bytes of a store, with the sheet and the tables lent now: what it answers, and the tables after it
 pub record Judgement (k : ℕ) (st t s l : List ℕ) (r : Answer) (s′ l′ : List ℕ) : Type 0 where

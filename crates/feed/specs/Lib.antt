@@ -2,6 +2,7 @@ pub mod Feeding
 pub mod StageLaws
 pub mod NeededLaws
 pub mod HeldLaws
+pub mod RefusalLaws
 pub mod Single
 pub mod LeastLaws
 pub mod BytewiseLaws

@@ -2,7 +2,7 @@
 -- Assumes nothing.
 use Prim.Native.Nat.{ℕ, _%_}
 use mathlib.Core.Bool.{Bool, not, _&&_, cond}
-use mathlib.Core.List.{List}
+use mathlib.Core.List.{List, [], _∷_}
 use lib.ListN.{length, getD}
 use lib.Dec.{leb, ltb, eqb}
 use Rattle.fields.specs.Sheet.{sizeOf, defOf, offOf, endOf, isPadding, isStruct, isSymbol, isDecimal, namesLabel, isExtension, pastBase, alignOf}
@@ -46,6 +46,10 @@ breaks79 sheet isRecord base e = not (isPadding sheet e) && differs (isExtension
 -- 80: a base entry ends past the base
 unfoldable pub breaks80 : Bool → ℕ → List ℕ → Bool
 breaks80 isRecord base e = not (pastBase isRecord base e) && ltb base (endOf e)
+
+-- what refuses a field
+abbrev pub fieldNumbers : List ℕ
+fieldNumbers = 71 ∷ 72 ∷ 73 ∷ 74 ∷ 75 ∷ 76 ∷ 77 ∷ 78 ∷ 79 ∷ 80 ∷ []
 
 -- of one entry, in order: `aligns` has the alignment of each struct, `labels` is the number of label defs, `base` the size of the
 -- struct or the base size of the record, and `seen` says that the id came before; 75: size 0; 78: offset + size over 65535

@@ -3,7 +3,7 @@
 use mathlib.Core.Bool.{cond}
 use Prim.Native.Nat.{ℕ, _*_, _/_}
 use mathlib.Core.Path.{_≡_}
-use mathlib.Core.List.{List, _++_}
+use mathlib.Core.List.{List, [], _∷_, _++_}
 use lib.ListN.{length, drop}
 use lib.Dec.{leb}
 use Rattle.codec.specs.Codec.{Res, ok, refuse}
@@ -16,6 +16,13 @@ use Rattle.layout.specs.declared.Verdict.the-variants.{Accepted}
 use Rattle.layout.specs.declared.Verdict.the-variants as Verdict'
 use Rattle.layout.specs.declared.Answer.{Answer}
 use Rattle.layout.specs.declared.Answer.the-variants.{Read, Short, Refused}
+
+-- what refuses a layout: 13 for its size, else a number of its bytes
+abbrev pub wireNumbers : List ℕ
+wireNumbers = 50 ∷ 51 ∷ 52 ∷ 53 ∷ 54 ∷ 55 ∷ []
+
+abbrev pub layoutNumbers : List ℕ
+layoutNumbers = 13 ∷ wireNumbers
 
 -- without a table
 unfoldable pub verdict : Res Layout → Verdict

@@ -10,6 +10,8 @@ pub mod RowLaws
 pub mod TextLaws
 pub mod Examples
 pub mod PrintLaws
+pub mod RefusalLaws
 pub mod Single
 pub mod ReadLaws
 pub mod PlaceLaws
+pub mod SpanLaws

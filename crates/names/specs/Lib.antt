@@ -1,2 +1,4 @@
 pub mod Names
+pub mod NameLaws
+pub mod RefusalLaws
 pub mod Single

@@ -36,3 +36,10 @@ layoutSpan n rows index = spanOf 9 itemText n rows index
 unfoldable pub partIn : List ℕ → Span → List ℕ
 partIn b (Part start len) = cond (leb (start + len) (length b)) (take len (drop start b)) []
 partIn b (Refused k) = []
+
+-- ---- the numbers of document 01
+
+-- 0 for a span
+abbrev pub spanNumber : Span → ℕ
+spanNumber (Part b n) = 0
+spanNumber (Refused e) = e

@@ -1,3 +1,4 @@
 pub mod Prelude
 pub mod PreludeLaws
+pub mod RefusalLaws
 pub mod Single

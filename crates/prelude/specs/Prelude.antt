@@ -3,7 +3,7 @@
 use Prim.Native.Nat.{ℕ, _-_}
 use mathlib.Core.Path.{refl}
 use mathlib.Core.Bool.{Bool, false, _&&_, cond}
-use mathlib.Core.List.{List}
+use mathlib.Core.List.{List, [], _∷_}
 use lib.ListN.{length}
 use lib.Dec.{leb, ltb}
 use Rattle.codec.specs.Codec.{Res, ok, refuse}
@@ -36,6 +36,10 @@ prelude = named
 abbrev pub said : Res Prelude → Stage
 said (ok p j) = Whole (p .version) (p .len)
 said (refuse k) = Refused k
+
+-- what refuses a prelude
+abbrev pub preludeNumbers : List ℕ
+preludeNumbers = 10 ∷ 11 ∷ 12 ∷ []
 
 -- THE VERDICT on a prelude: what is missing of its eight bytes; with eight held 10, 11, 12, or the version and the length
 unfoldable pub preludeOf : List ℕ → Stage

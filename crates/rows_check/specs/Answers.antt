@@ -34,3 +34,8 @@ sizeOf b n = cond b (min 4294967296 n) 4294967296
 unfoldable pub sizedOf : List ℕ → List ℕ → Sized
 sizedOf rows text =
     cond (eqb 0 (fault rows text)) (Length (size rows text) (kinds rows 10) (kinds rows 13) (kinds rows 14)) (Refused (fault rows text))
+
+-- the number of document 01: 0 for rows that pass
+abbrev pub sizedNumber : Sized → ℕ
+sizedNumber (Length b r s l) = 0
+sizedNumber (Refused e) = e

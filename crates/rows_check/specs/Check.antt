@@ -150,6 +150,9 @@ labelsRise rows = every (risesAt rows) 0 (rowCount rows - 1)
 
 -- ---- the number that refuses the rows, or 0
 
+abbrev pub rowNumbers : List ℕ
+rowNumbers = 90 ∷ 91 ∷ 92 ∷ 93 ∷ 94 ∷ 95 ∷ []
+
 abbrev pub sizesFit : List ℕ → List ℕ → Bool
 sizesFit rows text = both (sectionsFit rows text) (leb (size rows text) 4294967295)
 

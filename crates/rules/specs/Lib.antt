@@ -16,4 +16,5 @@ pub mod Engines
 pub mod EngineLaws
 pub mod Check
 pub mod CheckLaws
+pub mod RefusalLaws
 pub mod Single

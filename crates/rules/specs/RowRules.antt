@@ -7,7 +7,7 @@ use lib.ListN.{length, getD, take, drop}
 use lib.Dec.{ltb, eqb}
 use Rattle.entry.specs.Entry.{rowBytes}
 use Rattle.fields.specs.Field.{faultIf}
-use Rattle.rules.specs.Rules.{Seq, seqsFault}
+use Rattle.rules.specs.Rules.{Seq, ruleNumbers, seqsFault}
 
 -- n rows of nine numbers, from the front
 unfoldable pub rowsOf : ℕ → List ℕ → List (List ℕ)
@@ -45,6 +45,10 @@ module _ (isRecord : Bool) where
 unfoldable pub kindRows : ℕ → List (List ℕ) → ℕ
 kindRows kind [] = 0
 kindRows kind (r ∷ rs) = cond (eqb (getD r 0 0) kind) 1 0 + kindRows kind rs
+
+-- what refuses a table of rows
+abbrev pub rowRuleNumbers : List ℕ
+rowRuleNumbers = 91 ∷ ruleNumbers
 
 -- the rules of a table in which records are rows of kind 10, structs of 13 and label defs of 14; 91 where there are more than 65,535 structs
 unfoldable pub rowsRules : List ℕ → ℕ → List ℕ → ℕ

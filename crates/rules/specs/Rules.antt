@@ -3,19 +3,24 @@
 -- Assumes nothing.
 use Prim.Native.Nat.{ℕ, _%_, max}
 use mathlib.Core.Bool.{Bool, true, false, not, cond}
-use mathlib.Core.List.{List, [], _∷_, map}
+use mathlib.Core.List.{List, [], _∷_, _++_, map}
 use lib.ListN.{length, getD}
 use lib.Dec.{ltb, eqb}
 use Rattle.codec.specs.Codec.{Res, ok, _>>=_, need, among}
 use Rattle.layout.specs.Layout.{Fields, RecordL, StructL, Layout, Parts, fromLayout}
 use Rattle.layout.specs.LayoutOf.{layoutOf}
+use Rattle.layout.specs.Answers.{layoutNumbers}
 use Rattle.fields.specs.Sheet.{idOf, offOf, endOf, isPadding, pastBase, memberAlign}
-use Rattle.fields.specs.Field.{faultIf, differs, fieldFault}
+use Rattle.fields.specs.Field.{faultIf, differs, fieldNumbers, fieldFault}
 use Rattle.plain_tiling.specs.Tile.{Span, sorted, walk}
 
 -- the first of two verdicts that is a refusal
 abbrev pub first : ℕ → ℕ → ℕ
 first a b = cond (eqb a 0) b a
+
+-- what refuses a layout that was read
+abbrev pub ruleNumbers : List ℕ
+ruleNumbers = 60 ∷ 61 ∷ 62 ∷ 63 ∷ 64 ∷ 70 ∷ 81 ∷ 82 ∷ 83 ∷ fieldNumbers
 
 -- ---- one sequence of fields
 
@@ -120,6 +125,10 @@ recordSeq r = seqOf (r .rtype) (r .base) (r .fields)
 -- the rules of a layout without its rest
 unfoldable pub rulesOf : List ℕ → ℕ → Parts → ℕ
 rulesOf sheet width t = seqsFault sheet width (map structSeq (t .1 .1 .0)) (map recordSeq (t .1 .0)) (length (t .1 .1 .1))
+
+-- what refuses it with its rules
+abbrev pub ruledNumbers : List ℕ
+ruledNumbers = layoutNumbers ++ ruleNumbers
 
 -- the layout in s, then its rules
 unfoldable pub ruledOf : List ℕ → ℕ → List ℕ → Res Layout

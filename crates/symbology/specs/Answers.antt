@@ -3,7 +3,7 @@
 use Prim.Native.Nat.{ℕ, _*_, _/_}
 use mathlib.Core.Path.{_≡_}
 use mathlib.Core.Bool.{Bool, _&&_, cond}
-use mathlib.Core.List.{List, _++_}
+use mathlib.Core.List.{List, [], _∷_, _++_}
 use lib.ListN.{length, drop}
 use lib.Dec.{leb}
 use Rattle.codec.specs.Codec.{Res, ok, refuse}
@@ -14,6 +14,13 @@ use Rattle.symbology.specs.declared.Found.{Found}
 use Rattle.symbology.specs.declared.Found.the-variants as Found'
 use Rattle.symbology.specs.declared.SectionAnswer.{SectionAnswer}
 use Rattle.symbology.specs.declared.SectionAnswer.the-variants as SectionAnswer'
+
+-- what refuses a symbology: 13 for its size, 28 where it leaves bytes of its section over, else a number of its contents
+abbrev pub contentsNumbers : List ℕ
+contentsNumbers = 30 ∷ 31 ∷ 32 ∷ 33 ∷ 34 ∷ 35 ∷ 36 ∷ 37 ∷ 38 ∷ 39 ∷ 40 ∷ []
+
+abbrev pub symbologyNumbers : List ℕ
+symbologyNumbers = 13 ∷ 28 ∷ contentsNumbers
 
 -- without a table: the rows and the place after the contents
 unfoldable pub found : Res Symbology → Found
@@ -34,3 +41,16 @@ sectionTable write t (refuse k) = t
 pub record SectionPromise (write : Bool) (z : Res Symbology) (t t′ : List ℕ) (r : SectionAnswer) : Type 0 where
   pub is : r ≡ sectionAnswer write (length t / 5) z
   pub leaves : t′ ≡ sectionTable write t z
+
+-- ---- the numbers of document 01
+
+-- 0 for what is accepted
+abbrev pub foundNumber : Found → ℕ
+foundNumber (Found'.Accepted n j) = 0
+foundNumber (Found'.Refused e) = e
+
+-- 0 for what is accepted, its rows written or counted
+abbrev pub sectionNumber : SectionAnswer → ℕ
+sectionNumber (SectionAnswer'.Read n j) = 0
+sectionNumber (SectionAnswer'.Counted n) = 0
+sectionNumber (SectionAnswer'.Refused e) = e

@@ -1,5 +1,6 @@
 pub mod Table
 pub mod ReadingLaws
+pub mod EachLaws
 pub mod TableLaws
 pub mod PartLaws
 pub mod StepLaws

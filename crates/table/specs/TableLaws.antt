@@ -9,15 +9,14 @@ use lib.ListN.{length, drop, length-append, length-drop}
 use lib.Seq.{sets-eq, take-at, drop-append-add, drop-drop}
 use borrow.Author.Tests.{lt-ltb}
 use Rattle.table.specs.Table.{flat, allRows, putRow, fill}
+use Rattle.table.specs.EachLaws.{Each, each-append}
 
 -- every row has w numbers
 abbrev pub Wide : ℕ → List (List ℕ) → Type 0
-Wide w [] = Unit {0}
-Wide w (r ∷ rs) = (length r ≡ w) × Wide w rs
+Wide w rs = Each (λ r. length r ≡ w) rs
 
 pub wide-append : (w : ℕ) (a b : List (List ℕ)) → Wide w a → Wide w b → Wide w (a ++ b)
-wide-append w [] b g h = h
-wide-append w (r ∷ a) b g h = (g .0, wide-append w a b (g .1) h)
+wide-append w a b g h = each-append (λ r. length r ≡ w) a b g h
 
 pub wide-map : (w : ℕ) {A : Type 0} (f : A → List ℕ) → ((x : A) → length (f x) ≡ w) → (xs : List A) → Wide w (map f xs)
 wide-map w f h [] = tt

@@ -4,4 +4,5 @@ pub mod Reader
 pub mod NameLaws
 pub mod SectionLaws
 pub mod StepLaws
+pub mod RefusalLaws
 pub mod Single

@@ -1,7 +1,7 @@
 -- What reading a name or a section at a place of a slice answers, from their formats.
 -- Assumes nothing.
 use Prim.Native.Nat.{ℕ, _+_, _≤_}
-use mathlib.Core.List.{List}
+use mathlib.Core.List.{List, [], _∷_}
 use lib.ListN.{length}
 use Rattle.codec.specs.Codec.{faultOf, Codec}
 use Rattle.codec.specs.Format.{raw}
@@ -20,6 +20,10 @@ name = Formats.name utf8 .codec
 unfoldable pub nameAt : List ℕ → ℕ → Got
 nameAt s at = gotOf (λ n. length (n .text)) (name .parse 0 s at)
 
+-- what refuses a name
+abbrev pub nameNumbers : List ℕ
+nameNumbers = 50 ∷ 52 ∷ 53 ∷ 54 ∷ []
+
 -- the number that refuses the bytes t as a name's text, or 0
 unfoldable pub textFault : List ℕ → ℕ
 textFault t = faultOf (Formats.textOf utf8 (length t) .codec .parse 0 t 0)
@@ -27,6 +31,10 @@ textFault t = faultOf (Formats.textOf utf8 (length t) .codec .parse 0 t 0)
 -- where the body of a section starts, and its end: of a section none of whose body is read
 unfoldable pub sectionAt : List ℕ → ℕ → Got
 sectionAt s at = gotOf (λ _. at + 2) (section (raw 50 0) .codec .parse 0 s at)
+
+-- what refuses a section, whatever it holds
+abbrev pub sectionNumbers : List ℕ
+sectionNumbers = 50 ∷ 51 ∷ []
 
 -- a part of s from `at` on
 pub data Lies (s : List ℕ) (at : ℕ) : Got → Type 0 where

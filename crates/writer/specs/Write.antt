@@ -3,11 +3,12 @@
 use mathlib.Core.Bool.{cond}
 use Prim.Native.Nat.{ℕ}
 use mathlib.Core.Path.{_≡_}
-use mathlib.Core.List.{List, _++_}
+use mathlib.Core.List.{List, [], _∷_, _++_}
 use lib.ListN.{length, drop}
 use lib.Dec.{leb, eqb}
+use Rattle.rules.specs.Rules.{ruleNumbers}
 use Rattle.rules.specs.RowRules.{rowsRules}
-use Rattle.rows_check.specs.Check.{fault, printed}
+use Rattle.rows_check.specs.Check.{rowNumbers, fault, printed}
 use Rattle.rows_check.specs.Tree.{skip}
 use Rattle.rows_check.specs.Sections.{Spans, printedName, printedEntry, printedLabel}
 use Rattle.writer.specs.Output.{Wrote}
@@ -25,6 +26,10 @@ ruled sheet width rows x = cond (eqb 0 (rowsRules sheet width rows)) x (Refused 
 -- 96, or x
 abbrev pub roomy : List ℕ → ℕ → Written → Written
 roomy bytes room x = cond (leb (length bytes) room) x (Refused 96)
+
+-- what refuses to write: the rows, their rules, the room
+abbrev pub writeNumbers : List ℕ
+writeNumbers = rowNumbers ++ (ruleNumbers ++ (96 ∷ []))
 
 -- by the sheet, the symbol width, the layout version, the rows with their text, and how long the output is
 unfoldable pub writeLayout : List ℕ → ℕ → ℕ → List ℕ → List ℕ → ℕ → Written
@@ -53,3 +58,10 @@ printedPart kind rows text q = cond (eqb kind 11) (printedEntry rows q) (cond (e
 -- the texts of n rows of that kind lie in the text; a field row has none
 pub record TextsInside (kind : ℕ) (rows text : List ℕ) (q n : ℕ) : Type 0 where
   pub spans : (kind ≡ 11 → ⊥) → Spans rows text q n
+
+-- ---- the numbers of document 01
+
+-- 0 for a written layout
+abbrev pub writtenNumber : Written → ℕ
+writtenNumber (Length n) = 0
+writtenNumber (Refused e) = e

@@ -1,7 +1,8 @@
 -- What the span below it gives.
 -- Assumes nothing.
 use mathlib.Core.Path.{ap, _∙_}
-use Rattle.c_names.specs.Numbers.{spanNumber, spanOut}
+use Rattle.names.specs.Names.{spanNumber}
+use Rattle.c_names.specs.Numbers.{spanOut}
 use borrow.Author.Needs.{needs}
 use Rattle.c_names.proofs.dbn_symbology_name.Statement.{statement}
 use Rattle.c_names.proofs.dbn_symbology_name.Tie as tie

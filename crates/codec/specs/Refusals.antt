@@ -1,0 +1,29 @@
+-- Which numbers a reader may refuse with.
+-- Assumes nothing.
+use Prim.Native.Nat.{ℕ}
+use mathlib.Core.Path.{_≡_}
+use mathlib.Core.Bool.{Bool, true, _&&_}
+use mathlib.Core.List.{List, [], _∷_}
+use Rattle.codec.specs.Codec.{Res, ok, refuse, Codec, among}
+
+-- P holds of the number, where there is a refusal
+abbrev pub Gives : {A : Type 0} → (ℕ → Type 0) → Res A → Type 0
+Gives P (ok x j) = Unit {0}
+Gives P (refuse k) = P k
+
+-- P holds of every number that the format refuses with
+abbrev pub Only : {A : Type 0} → (ℕ → Type 0) → Codec A → Type 0
+Only P c = (base : ℕ) (s : List ℕ) (i : ℕ) → Gives P (c .parse base s i)
+
+-- k is a number of the list
+abbrev pub In : List ℕ → ℕ → Type 0
+In ns k = among k ns ≡ true
+
+-- every number of one list is one of the other
+abbrev pub allAmong : List ℕ → List ℕ → Bool
+allAmong [] ys = true
+allAmong (x ∷ xs) ys = among x ys && allAmong xs ys
+
+-- P holds of a number of the rules, unless it is 0, which is none
+abbrev pub Fault : (ℕ → Type 0) → ℕ → Type 0
+Fault P n = (n ≡ 0 → ⊥) → P n

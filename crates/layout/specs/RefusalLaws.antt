@@ -1,0 +1,56 @@
+-- Which numbers a layout gives.
+-- Assumes nothing.
+use Prim.Native.Nat.{ℕ, _/_}
+use native.Mathlib.Omega.{arith}
+use mathlib.Core.Path.{_≡_, refl, ap}
+use mathlib.Core.Bool.{Bool, true, false, cond}
+use mathlib.Core.List.{List}
+use lib.ListN.{length}
+use lib.Dec.{leb}
+use Rattle.codec.specs.Codec.{Res, ok, refuse, whole}
+use Rattle.codec.specs.Refusals.{Gives, In}
+use Rattle.codec.specs.RefusalLaws.{in-more, gives-is, gives-then, gives-by, gives-whole}
+use Rattle.text.specs.Utf8.{utf8}
+use Rattle.wire.specs.Formats
+use Rattle.wire.specs.Reader.{nameNumbers, sectionNumbers}
+use Rattle.wire.specs.RefusalLaws.{name-numbers, section-numbers}
+use Rattle.layout.specs.Layout.{Layout, label, labelBody, labelDef, entry, fields, recordBody, recordL, structBody, structL, groups, parts, toLayout, readLayout}
+use Rattle.layout.specs.LayoutOf.{D, layoutOf}
+use Rattle.layout.specs.Rows.{rows}
+use Rattle.layout.specs.Answers.{wireNumbers, layoutNumbers, judge, Answers}
+use Rattle.layout.specs.declared.Answer.the-variants.{Read, Short, Refused}
+
+module _ (P : ℕ → Type 0) (h : (k : ℕ) → In wireNumbers k → P k) (utf8 : List ℕ → Bool) (D : ℕ) where
+  pub parts-numbers : parts utf8 D .numbers P
+  unfolding label labelDef entry fields recordL structL groups parts
+  parts-numbers =
+      let name = name-numbers P utf8 (λ k i. h k (in-more nameNumbers wireNumbers refl k i)) in
+      let boxed : (k : ℕ) → In sectionNumbers k → P k = λ k i. h k (in-more sectionNumbers wireNumbers refl k i) in
+      let cut = h 50 refl in
+      let all : P 50 × ((n : ℕ) → P 50 × Formats.name utf8 .numbers P) = (cut, λ n. (cut, name)) in
+      let records = section-numbers P (recordBody utf8 D) boxed (cut, (cut, (cut, (cut, (name, all))))) in
+      let structs = section-numbers P (structBody utf8 D) boxed (cut, (name, all)) in
+      let defs = section-numbers P (labelBody utf8) boxed (name, (cut, λ n. ((cut, name), h 55 refl))) in
+      (cut, ((cut, λ n. records), ((cut, λ n. structs), (cut, λ n. defs))))
+
+pub layout-gives : (s : List ℕ) → Gives (In layoutNumbers) (layoutOf s)
+unfolding layoutOf readLayout
+layout-gives s =
+    gives-by (In layoutNumbers) (leb (length s) 4294967295) (readLayout utf8 D s) (refuse 13)
+    (gives-then (In layoutNumbers) (whole (parts utf8 D .codec) 0 s) (λ z j. ok (toLayout z) j)
+    (gives-whole (In layoutNumbers) (parts utf8 D .codec) (parts utf8 D .refuses (In layoutNumbers) (parts-numbers (In layoutNumbers) (in-more wireNumbers layoutNumbers refl) utf8 D)) 0 s)
+    (λ z j. tt))
+    refl
+
+pub judge-refused : (cap : ℕ) (r : Res Layout) {k : ℕ} → Refused k ≡ judge cap r → r ≡ refuse k
+unfolding judge
+judge-refused cap (ok l j) {k} e = absurd (go (leb (length (rows l)) cap) e)
+  where
+    go : (b : Bool) → Refused k ≡ cond b (Read (l .version) (length (rows l))) (Short (l .version) (length (rows l))) → ⊥
+    go true e = let z : _≡_ {A = ℕ} 0 1 = cc in omega arith
+    go false e = let z : _≡_ {A = ℕ} 0 1 = cc in omega arith
+judge-refused cap (refuse j) {k} e = let q : j ≡ k = cc in ap refuse q
+
+-- what the reader's answer refuses with
+pub layout-refuses : (s t t′ : List ℕ) (k : ℕ) → Answers s t t′ (Refused k) → In layoutNumbers k
+layout-refuses s t t′ k a = gives-is (In layoutNumbers) (layout-gives s) (judge-refused (length t / 9) (layoutOf s) (a .is))

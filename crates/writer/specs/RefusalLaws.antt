@@ -1,0 +1,47 @@
+-- Which numbers the writer gives.
+-- Assumes nothing.
+use Prim.Native.Nat.{ℕ}
+use native.Mathlib.Omega.{arith}
+use mathlib.Core.Path.{_≡_, refl, sym, subst}
+use mathlib.Core.Bool.{Bool, true, false, cond}
+use mathlib.Core.List.{List}
+use lib.ListN.{length}
+use lib.Dec.{leb, eqb}
+use borrow.Author.Tests.{eqb-false}
+use Rattle.codec.specs.Refusals.{In, Fault}
+use Rattle.codec.specs.RefusalLaws.{in-more}
+use Rattle.rules.specs.Rules.{ruleNumbers}
+use Rattle.rules.specs.RowRules.{rowsRules}
+use Rattle.rules.specs.RefusalLaws.{rows-fault}
+use Rattle.rows_check.specs.Check.{rowNumbers, fault, printed}
+use Rattle.rows_check.specs.RefusalLaws.{check-fault}
+use Rattle.writer.specs.Write.{whole, ruled, roomy, writeNumbers, writeLayout, Writes}
+use Rattle.writer.specs.declared.Written.{Written}
+use Rattle.writer.specs.declared.Written.the-variants.{Length, Refused}
+
+-- by a number that is no refusal where it is 0
+judged-refuses : (n : ℕ) (x : Written) {k : ℕ} → Fault (In writeNumbers) n → (x ≡ Refused k → In writeNumbers k) → cond (eqb 0 n) x (Refused n) ≡ Refused k → In writeNumbers k
+judged-refuses n x {k} f h e = go (eqb 0 n) refl e
+  where
+    go : (b : Bool) → eqb 0 n ≡ b → cond b x (Refused n) ≡ Refused k → In writeNumbers k
+    go true z e = h e
+    go false z e = let q : n ≡ k = cc in subst (In writeNumbers) q (f (λ i. eqb-false 0 n z (sym i)))
+
+module _ (sheet : List ℕ) (width version : ℕ) (rows text : List ℕ) where
+  pub answer-refuses : (room : ℕ) {k : ℕ} → writeLayout sheet width version rows text room ≡ Refused k → In writeNumbers k
+  unfolding writeLayout
+  answer-refuses room {k} e =
+      judged-refuses (fault rows text) (ruled sheet width rows inner) (λ n. in-more rowNumbers writeNumbers refl (fault rows text) (check-fault rows text n))
+      (λ e. judged-refuses (rowsRules sheet width rows) inner (rows-fault (In writeNumbers) (in-more ruleNumbers writeNumbers refl) sheet width rows refl) (roomy-refuses (leb (length (printed version rows text)) room)) e)
+      e
+    where
+      inner : Written
+      inner = roomy (printed version rows text) room (Length (length (printed version rows text)))
+
+      roomy-refuses : (b : Bool) → cond b (Length (length (printed version rows text))) (Refused 96) ≡ Refused k → In writeNumbers k
+      roomy-refuses true e = let z : _≡_ {A = ℕ} 0 1 = cc in absurd (omega arith)
+      roomy-refuses false e = let q : 96 ≡ k = cc in subst (In writeNumbers) q refl
+
+  -- what the writer's answer refuses with
+  pub write-refuses : (out out′ : List ℕ) {k : ℕ} → Writes sheet width version rows text out out′ (Refused k) → In writeNumbers k
+  write-refuses out out′ p = answer-refuses (length out) (sym (p .is))
