@@ -8,6 +8,7 @@ use lib.ListN.{length, drop, length-append, length-drop}
 use lib.Seq.{drop-append-seam}
 use borrow.Author.Tests.{leb-true, le-leb}
 use Rattle.codec.specs.Codec.{Res, ok, refuse, _>>=_}
+use Rattle.codec.specs.CaseLaws.{both-true}
 use Rattle.table.specs.Table.{flat}
 use Rattle.layout.specs.ReadLaws.{rows-flat}
 use Rattle.symbology.specs.ReadLaws.{symbology-flat}
@@ -63,10 +64,6 @@ module _ (rs : List (List ℕ)) (w : ℕ) (wide : length (flat rs) ≡ w * lengt
   over-again = ap (λ n. flat rs ++ drop n (over rs w t)) (sym wide) ∙ ap (λ x. flat rs ++ x) (drop-append-seam (flat rs) (drop (w * length rs) t))
 
 -- both tests hold
-pub and-true : (a b : Bool) → (a && b) ≡ true → (a ≡ true) × (b ≡ true)
-and-true true b e = (refl, e)
-and-true false b e = absurd (let y : _≡_ {A = ℕ} 0 1 = cc in omega arith)
-
 again-of : (v : MetadataLengths) (r : Res (Block × List ℕ)) (s l : List ℕ)
     → (answerOf v r (length (symbologyAfter r s l)) (length (layoutAfter r s l)) ≡ answerOf v r (length s) (length l))
     × (symbologyAfter r (symbologyAfter r s l) (layoutAfter r s l) ≡ symbologyAfter r s l)
@@ -80,7 +77,7 @@ again-of v (ok z j) s l = go (roomy (z .0) (length s) (length l)) refl
         × (symbologyAfter (ok z j) (symbologyAfter (ok z j) s l) (layoutAfter (ok z j) s l) ≡ symbologyAfter (ok z j) s l)
         × (layoutAfter (ok z j) (symbologyAfter (ok z j) s l) (layoutAfter (ok z j) s l) ≡ layoutAfter (ok z j) s l)
     go true q =
-        let (a, b) = and-true _ _ q in
+        let (a, b) = both-true _ _ q in
         let ha : length (fives (z .0)) ≤ length s / 5 = leb-true _ _ a in
         let hb : length (nines (z .0)) ≤ length l / 9 = leb-true _ _ b in
         let ws = symbology-flat (z .0 .symbology) in

@@ -2,25 +2,21 @@
 -- Assumes nothing.
 use Prim.Native.Nat.{ℕ, zero, suc, _+_, _-_, _/_}
 use mathlib.Core.Path.{_≡_, refl, sym, subst}
-use mathlib.Core.Bool.{Bool, true, false, not, _&&_, _||_, cond}
+use mathlib.Core.Bool.{Bool, true, false, not, _||_, cond}
 use mathlib.Core.List.{List, [], _∷_}
 use lib.ListN.{length, take, drop}
-use lib.Dec.{T, leb, eqb}
+use lib.Dec.{leb, eqb}
 use Rattle.codec.specs.Codec.{Res, ok, refuse, _>>=_, need, Codec, value, raw, skip, padded, num, byte, _then_, _on_, named, checked, judged, asks, placed, sized, among, timesParse, times, distinctParse, distinct, limited, whole, boxed, isNil, full, remainder}
-use Rattle.codec.specs.CaseLaws.{by-eqb}
+use Rattle.codec.specs.CaseLaws.{no-true, both-true, by-eqb}
 use Rattle.codec.specs.Refusals.{Gives, Only, In, allAmong, Fault}
 
 -- ---- lists of numbers
 
-and-true : (a b : Bool) → (a && b) ≡ true → (a ≡ true) × (b ≡ true)
-and-true true b e = (refl, e)
-and-true false b e = absurd (subst T (sym e) tt)
-
 -- a number of one list is one of another that has all of it
 pub in-more : (xs ys : List ℕ) → allAmong xs ys ≡ true → (k : ℕ) → In xs k → In ys k
-in-more [] ys h k i = absurd (subst T (sym i) tt)
+in-more [] ys h k i = absurd (no-true (sym i))
 in-more (x ∷ xs) ys h k i =
-    let (a, b) = and-true (among x ys) (allAmong xs ys) h in
+    let (a, b) = both-true (among x ys) (allAmong xs ys) h in
     by-eqb k x (λ e q. subst (λ (n : ℕ). In ys n) (sym q) a) (λ e q. in-more xs ys b k (subst (λ (t : Bool). (t || among k xs) ≡ true) e i))
 
 -- ---- what reading gives

@@ -10,6 +10,7 @@ use lib.ListN.{length, replicate, length-replicate}
 use lib.Dec.{leb, ltb}
 use borrow.Author.Tests.{leb-true, ltb-true}
 use Rattle.codec.specs.Codec.{Bytes, ok, raw, padded, skip, num, byte, named, checked, judged, placed, asks, sized, limited, times, distinct, whole, boxed, full, _then_, _on_, remainder}
+use Rattle.codec.specs.CaseLaws.{both-true}
 use Rattle.codec.specs.Edits.{Marked, kept, free, _and_, box, bytesOf, Edit, keep, fill, pair, grow, put}
 use Rattle.codec.specs.Format.{raw-edits, num-edits, byte-edits}
 use Rattle.codec.specs.EditLaws.{edits-kept, edits-still, edits-skip, edits-padded, edits-then, edits-on, edits-named, edits-checked, edits-judged, edits-asks, edits-placed, edits-sized, edits-times, edits-distinct, edits-apart, edits-boxed}
@@ -27,7 +28,7 @@ use Rattle.rules.specs.Rules.{rulesOf, seqsFault, structsFault, recordsFault, s
 use Rattle.prelude.specs.Prelude.{magic, prelude, preludeOf}
 use Rattle.block.specs.Block.{Block, lengths, header, layoutPart, symbologyPart, block, blockOf}
 use Rattle.block.specs.Fields.{fieldsWith, fieldsOf}
-use Rattle.block.specs.ReadLaws.{gist, given, read-given, and-true}
+use Rattle.block.specs.ReadLaws.{gist, given, read-given}
 use Rattle.block.specs.Examples.{zeroFields}
 use Rattle.block.specs.declared.Fields.{Fields}
 use Rattle.block.specs.declared.Optional.the-variants.{Absent, Present}
@@ -186,10 +187,10 @@ filling (suc n) (suc k) = filling n k
 unfoldable pub filled-edit : (m : Marked) → fit m ≡ true → Edit m (filled m)
 filled-edit (kept x) e = keep x
 filled-edit (free x) e = fill x (replicate (length x) 170) (length-replicate (length x) 170) (filling (length x))
-filled-edit (a and b) e = pair a (filled a) b (filled b) (filled-edit a (and-true (fit a) (fit b) e .0)) (filled-edit b (and-true (fit a) (fit b) e .1))
+filled-edit (a and b) e = pair a (filled a) b (filled b) (filled-edit a (both-true (fit a) (fit b) e .0)) (filled-edit b (both-true (fit a) (fit b) e .1))
 filled-edit (box w own m r) e =
-    let (ew, e1) = and-true (leb 1 w) _ e in
-    let (el, em) = and-true (ltb (own + length (bytesOf (filled m) ++ replicate (length r + 2) 170)) (256 ^ w)) (fit m) e1 in
+    let (ew, e1) = both-true (leb 1 w) _ e in
+    let (el, em) = both-true (ltb (own + length (bytesOf (filled m) ++ replicate (length r + 2) 170)) (256 ^ w)) (fit m) e1 in
     grow w own m (filled m) r (replicate (length r + 2) 170) (leb-true 1 w ew) (filled-edit m em) (omega (arith, length-replicate {A = ℕ} (length r + 2) 170)) (filling (length r + 2)) (ltb-true _ _ el)
 
 -- the block's bytes by what may become of them
@@ -221,8 +222,8 @@ octets (x ∷ xs) = ltb x 256 && octets xs
 -- it says so
 octets-bytes : (s : List ℕ) → octets s ≡ true → Bytes s
 octets-bytes [] e k = omega arith
-octets-bytes (x ∷ xs) e zero = ltb-true x 256 (and-true (ltb x 256) (octets xs) e .0)
-octets-bytes (x ∷ xs) e (suc k) = octets-bytes xs (and-true (ltb x 256) (octets xs) e .1) k
+octets-bytes (x ∷ xs) e zero = ltb-true x 256 (both-true (ltb x 256) (octets xs) e .0)
+octets-bytes (x ∷ xs) e (suc k) = octets-bytes xs (both-true (ltb x 256) (octets xs) e .1) k
 
 -- demand 3 speaks of that edit: it is read as the block was
 pub edit-same : SameRead sheet plain (treeWith 0 0) edited (put edit)

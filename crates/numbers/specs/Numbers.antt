@@ -52,3 +52,8 @@ le32 b i = le16 b i + 65536 * le16 b (i + 2)
 
 abbrev pub le64 : List ℕ → ℕ → ℕ
 le64 b i = le32 b i + 4294967296 * le32 b (i + 4)
+
+-- the number of document 01: 0 for what was read
+abbrev pub gotNumber : Got → ℕ
+gotNumber (Value v p) = 0
+gotNumber (Refused k) = k

@@ -6,6 +6,7 @@ use mathlib.Core.Bool.{Bool, true, false, _&&_, cond}
 use mathlib.Core.List.{List}
 use lib.ListN.{length}
 use lib.Dec.{eqb}
+use Rattle.text.specs.AndLaws.{and-true}
 use Rattle.plain_text.specs.Plain.{plain}
 use Rattle.plain_text.specs.PlainLaws.{plain-utf8}
 use Rattle.wire.specs.NameLaws.{plain-nul}
@@ -26,10 +27,6 @@ unfolding both
 and-both true true b = refl
 and-both true false b = refl
 and-both false a b = refl
-
-and-true : (x : Bool) → (x && true) ≡ x
-and-true true = refl
-and-true false = refl
 
 module _ (f : ℕ → Bool) (j : ℕ) (x : Bool) where
   pub fit-next : j < 9 → (x && every f j (9 - j)) ≡ ((x && f j) && every f (j + 1) (9 - (j + 1)))

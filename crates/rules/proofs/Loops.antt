@@ -9,7 +9,7 @@ use lib.ListN.{length}
 use lib.Dec.{eqb, lit<}
 use borrow.Author.Tests.{eq-eqb, ne-eqb}
 use Rattle.codec.specs.Codec.{among}
-use Rattle.codec.specs.CaseLaws.{by-bool}
+use Rattle.codec.specs.CaseLaws.{no-true, by-bool}
 use Rattle.marks.specs.Marks.{marked, withMark, Marks, Only, wiped}
 use Rattle.marks.specs.MarkLaws.{marks-more, only-next, only-end}
 use Rattle.fields.specs.Sheet.{idOf, offOf, endOf, isPadding, pastBase, memberAlign}
@@ -25,9 +25,6 @@ use Rattle.rules.specs.Ids.{idsOf, notedMarks}
 use Rattle.plain_tiling.specs.Owners.{Placed}
 use Rattle.rules.specs.Engines.{Passed}
 use Rattle.rules.proofs.Search.{walk-sorted, find-none, find-has}
-
-pub no-true : true ≡ false → ⊥
-no-true q = subst lib.Dec.T q tt
 
 -- ---- the side of the base
 

@@ -2,19 +2,20 @@
 -- Assumes nothing.
 use Prim.Native.Nat.{ℕ, _%_, _/_}
 use native.Mathlib.Omega.{arith}
-use mathlib.Core.Path.{_≡_, refl}
+use mathlib.Core.Path.{_≡_, refl, subst}
 use mathlib.Core.Bool.{Bool, true, false, not, cond}
 use mathlib.Core.List.{List, [], _∷_, map}
 use lib.ListN.{length, getD}
 use lib.Dec.{ltb, eqb}
-use Rattle.codec.specs.Codec.{Res, ok, refuse, _>>=_, need, among}
+use borrow.Author.Tests.{eqb-false}
+use Rattle.codec.specs.Codec.{ok, _>>=_, need, among}
 use Rattle.codec.specs.Refusals.{Gives, In, Fault}
 use Rattle.codec.specs.RefusalLaws.{in-more, gives-more, gives-is, gives-then, gives-judged, fault-by}
 use Rattle.fields.specs.Field.{fieldNumbers, fieldFault}
 use Rattle.fields.specs.RefusalLaws.{field-fault}
 use Rattle.fields.specs.Sheet.{idOf}
 use Rattle.plain_tiling.specs.Tile.{Span, sorted, walk}
-use Rattle.layout.specs.Layout.{Layout, Parts, fromLayout}
+use Rattle.layout.specs.Layout.{Parts, fromLayout}
 use Rattle.layout.specs.LayoutOf.{layoutOf}
 use Rattle.layout.specs.Answers.{layoutNumbers, verdict}
 use Rattle.layout.specs.AnswerLaws.{verdict-no}
@@ -22,7 +23,7 @@ use Rattle.layout.specs.RefusalLaws.{layout-gives}
 use Rattle.layout.specs.declared.Verdict.the-variants.{Accepted, Refused}
 use Rattle.rules.specs.Rules.{first, ruleNumbers, Seq, noted, spans, baseFault, extFault, tilingFault, structAlign, fieldsFault, seqFault, structFault, recordFault, structsFault, recordsFault, alignsOf, seqsFault, structSeq, recordSeq, rulesOf, ruledNumbers, ruledOf}
 use Rattle.rules.specs.RowRules.{rowsOf, seqsIn, kindRows, rowRuleNumbers, rowsRules}
-use Rattle.rules.specs.Check.{asVerdict, ruling}
+use Rattle.rules.specs.Check.{asVerdict, checkNumbers, ruling}
 
 module _ (P : ℕ → Type 0) where
   first-fault : (a b : ℕ) → Fault P a → Fault P b → Fault P (first a b)
@@ -126,3 +127,20 @@ module _ (sheet : List ℕ) (width : ℕ) where
   -- the number of rows that are refused
   pub rows-refuse : (t : List ℕ) → Fault (In rowRuleNumbers) (rowsRules sheet width t)
   rows-refuse t = rows-fault (In rowRuleNumbers) (in-more ruleNumbers rowRuleNumbers refl) sheet width t refl
+
+-- a number that is a refusal
+verdict-refused : (n : ℕ) {k : ℕ} → Refused k ≡ asVerdict n → (n ≡ 0 → ⊥) × (n ≡ k)
+unfolding asVerdict
+verdict-refused n {k} e = go (eqb n 0) refl e
+  where
+    go : (b : Bool) → eqb n 0 ≡ b → Refused k ≡ cond b (Accepted 0 0) (Refused n) → (n ≡ 0 → ⊥) × (n ≡ k)
+    go true z e = let q : _≡_ {A = ℕ} 0 1 = cc in absurd (omega arith)
+    go false z e = let q : n ≡ k = cc in (eqb-false n 0 z, q)
+
+-- what the one public function refuses with
+pub check-refuses : (sheet : List ℕ) (width : ℕ) (s t : List ℕ) (ofRows : Bool) {k : ℕ} → Refused k ≡ ruling sheet width s t ofRows → In checkNumbers k
+unfolding ruling
+check-refuses sheet width s t true {k} e =
+    let (n, q) = verdict-refused (rowsRules sheet width t) e in
+    in-more rowRuleNumbers checkNumbers refl k (subst (In rowRuleNumbers) q (rows-refuse sheet width t n))
+check-refuses sheet width s t false {k} e = in-more ruledNumbers checkNumbers refl k (ruled-refuses sheet width s e)

@@ -3,7 +3,7 @@ use mathlib.Core.Path.{sym}
 use native.Mathlib.Omega.{arith}
 use borrow.Author.Needs.{needs}
 use Rattle.rules.specs.EngineLaws.{markable-all, markable-below}
-use Rattle.rules.proofs.Loops.{no-true}
+use Rattle.codec.specs.CaseLaws.{no-true}
 use Rattle.rules.proofs.Painting.{Ending, ending-on, ending-end}
 use Rattle.rules.proofs.by_marks.too_few.Statement.{statement}
 use Rattle.rules.proofs.by_marks.too_few.Tie as tie
