@@ -29,7 +29,7 @@ use Rattle.symbology.specs.declared.SectionAnswer.the-variants as SectionAnswer
 use Rattle.rules.specs.Rules.{rulesOf, ruledOf}
 use Rattle.rules.specs.RuleLaws.{ruled-is}
 use Rattle.block.specs.Block.{noItems, layoutPart, symbologyPart}
-use Rattle.block.specs.Parts.{spanOf, spanAt, Within, within, outside, sectionAt, layoutTable, LayoutReads, lays, lays-no, SymbologyReads}
+use Rattle.block.specs.Parts.{spanOf, spanAt, SpanInside, within, outside, sectionAt, layoutTable, LayoutReads, lays, lays-no, SymbologyReads}
 use Rattle.layout.specs.AnswerLaws.{verdict-ok, verdict-no, leave-ok, leave-anywhere}
 use Rattle.engines.specs.VerdictLaws.{ruled-layout}
 use Rattle.block.specs.declared.Span.{Span}
@@ -53,23 +53,23 @@ module _ (why : ℕ) (b : List ℕ) (at : ℕ) where
     unfolding spanAt
     span-part g = rw (num-got why 4 0 b at h, ← e, raw-got why n 0 b (at + 4) g)
 
-pub within-at : {b : List ℕ} {at p n : ℕ} {r : Span} → Within b at r → r ≡ Part p n → (at ≤ p) × (p + n ≤ length b)
+pub within-at : {b : List ℕ} {at p n : ℕ} {r : Span} → SpanInside b at r → r ≡ Part p n → (at ≤ p) × (p + n ≤ length b)
 within-at {b} {at} {p} {n} h e = go (rw e at h)
   where
-    go : Within b at (Part p n) → (at ≤ p) × (p + n ≤ length b)
+    go : SpanInside b at (Part p n) → (at ≤ p) × (p + n ≤ length b)
     go (within x y) = (x, y)
 
-pub within-mk : {b : List ℕ} {at p n : ℕ} → at ≤ p → p + n ≤ length b → Within b at (Part p n)
+pub within-mk : {b : List ℕ} {at p n : ℕ} → at ≤ p → p + n ≤ length b → SpanInside b at (Part p n)
 within-mk {p = p} {n} x y = within {p = p} {n = n} x y
 
-pub outside-mk : {b : List ℕ} {at k : ℕ} → Within b at (Span'.Refused k)
+pub outside-mk : {b : List ℕ} {at k : ℕ} → SpanInside b at (Span'.Refused k)
 outside-mk {k = k} = outside {k = k}
 
 -- the bytes from p up to p + n
 slice : (p n : ℕ) (b : List ℕ) → take (p + n - p) (drop p b) ≡ take n (drop p b)
 slice p n b = let z : p + n - p ≡ n = omega arith in rw z
 
-pub within-back : {b : List ℕ} {at : ℕ} {r : Span} → Within b (at + 4) r → Within b at r
+pub within-back : {b : List ℕ} {at : ℕ} {r : Span} → SpanInside b (at + 4) r → SpanInside b at r
 within-back (within {p = p} {n = n} x y) = within {p = p} {n = n} (omega arith) y
 within-back (outside {k = k}) = outside {k = k}
 

@@ -48,9 +48,9 @@ unfoldable pub spanAt : ℕ → List ℕ → ℕ → Span
 spanAt k b at = spanOf (num k 4 .parse 0 b at >>= λ n p. raw k n .parse 0 b p >>= λ x j. ok n p)
 
 -- a part within b, from `at` on
-pub data Within (b : List ℕ) (at : ℕ) : Span → Type 0 where
-  within : {p n : ℕ} → at ≤ p → p + n ≤ length b → Within b at (Part p n)
-  outside : {k : ℕ} → Within b at (Span'.Refused k)
+pub data SpanInside (b : List ℕ) (at : ℕ) : Span → Type 0 where
+  within : {p n : ℕ} → at ≤ p → p + n ≤ length b → SpanInside b at (Part p n)
+  outside : {k : ℕ} → SpanInside b at (Span'.Refused k)
 
 -- version 4: u32 length and that many bytes; below: the rest
 abbrev pub sectionAt : Bool → List ℕ → ℕ → Span

@@ -20,7 +20,21 @@ use Rattle.block.specs.declared.BlockAnswer.{BlockAnswer}
 use Rattle.block.specs.declared.BlockAnswer.the-variants.{Read}
 use Rattle.block.specs.Read.{fives, nines, roomy, answerOf, over, symbologyAfter, layoutAfter, blockAnswer, blockSymbology, blockLayout, Promise}
 
--- ---- an accepted block
+-- ---- tables that are long enough
+
+-- an accepted block whose rows the tables hold: its fields, and the rows over the front of both tables
+pub record Held (v : ℕ) (z : Block) (s l : List ℕ) (r : BlockAnswer) (s′ l′ : List ℕ) : Type 0 where
+  pub answer : r ≡ Read (fieldsOf (lengths v) z)
+  pub symbology : s′ ≡ over (fives z) 5 s
+  pub layout : l′ ≡ over (nines z) 9 l
+
+pub held : {v : ℕ} {b t s l : List ℕ} {r : BlockAnswer} {s′ l′ : List ℕ} (z : Block × List ℕ) (k : ℕ) → Promise v b t s l r s′ l′ → blockOf v t b ≡ ok z k
+    → length (fives (z .0)) ≤ length s / 5 → length (nines (z .0)) ≤ length l / 9 → Held v (z .0) s l r s′ l′
+unfolding blockAnswer blockSymbology blockLayout answerOf symbologyAfter layoutAfter
+held {s = s} {l = l} z k p e m n =
+    let a = le-leb (length (fives (z .0))) (length s / 5) m in
+    let b = le-leb (length (nines (z .0))) (length l / 9) n in
+    record { answer = rw (e, a, b) at (p .answer); symbology = rw (e, a, b) at (p .symbology); layout = rw (e, a, b) at (p .layout) }
 
 -- of what was read: the fields, the symbology rows and the layout rows
 abbrev pub gist : MetadataLengths → Res (Block × List ℕ) → Res (Fields × (List (List ℕ) × List (List ℕ)))
@@ -33,7 +47,6 @@ given v t b = gist (lengths v) (blockOf v t b)
 -- both tables are long enough: the fields are answered, the rows stand at the front of the tables, the rest of them is as it was
 pub read-given : (v : ℕ) (b t s l : List ℕ) (f : Fields) (five nine : List (List ℕ)) (k : ℕ) → given v t b ≡ ok (f, (five, nine)) k
     → length five ≤ length s / 5 → length nine ≤ length l / 9 → Promise v b t s l (Read f) (over five 5 s) (over nine 9 l)
-unfolding blockAnswer blockSymbology blockLayout answerOf symbologyAfter layoutAfter
 read-given v b t s l f five nine k e hs hl = go (blockOf v t b) refl e
   where
     go : (r : Res (Block × List ℕ)) → blockOf v t b ≡ r → gist (lengths v) r ≡ ok (f, (five, nine)) k
@@ -41,12 +54,17 @@ read-given v b t s l f five nine k e hs hl = go (blockOf v t b) refl e
     go (refuse n) q e = absurd (let y : _≡_ {A = ℕ} 0 1 = cc in omega arith)
     go (ok z j) q e =
         let x : _≡_ {A = Fields × (List (List ℕ) × List (List ℕ))} (fieldsOf (lengths v) (z .0), (fives (z .0), nines (z .0))) (f, (five, nine)) = cc in
-        let ef : fieldsOf (lengths v) (z .0) ≡ f = ap (λ y. y .0) x in
         let e5 : fives (z .0) ≡ five = ap (λ y. y .1 .0) x in
         let e9 : nines (z .0) ≡ nine = ap (λ y. y .1 .1) x in
-        let h5 = le-leb (length five) (length s / 5) hs in
-        let h9 = le-leb (length nine) (length l / 9) hl in
-        record { answer = simp (q, ef, e5, e9, h5, h9); symbology = simp (q, e5, e9, h5, h9); layout = simp (q, e5, e9, h5, h9) }
+        let h5 : length (fives (z .0)) ≤ length s / 5 = rw e5 hs in
+        let h9 : length (nines (z .0)) ≤ length l / 9 = rw e9 hl in
+        let p : Promise v b t s l (blockAnswer v b t s l) (blockSymbology v b t s l) (blockLayout v b t s l) = record { answer = refl; symbology = refl; layout = refl } in
+        let h = held z j p q h5 h9 in
+        record {
+          answer = sym (h .answer ∙ ap (λ y. Read (y .0)) x);
+          symbology = sym (h .symbology ∙ ap (λ (rs : List (List ℕ)). over rs 5 s) e5);
+          layout = sym (h .layout ∙ ap (λ (rs : List (List ℕ)). over rs 9 l) e9);
+        }
 
 -- ---- reading it again
 
@@ -63,7 +81,7 @@ module _ (rs : List (List ℕ)) (w : ℕ) (wide : length (flat rs) ≡ w * lengt
   over-again : over rs w (over rs w t) ≡ over rs w t
   over-again = ap (λ n. flat rs ++ drop n (over rs w t)) (sym wide) ∙ ap (λ x. flat rs ++ x) (drop-append-seam (flat rs) (drop (w * length rs) t))
 
--- both tests hold
+-- the answer and both tables, by what was read
 again-of : (v : MetadataLengths) (r : Res (Block × List ℕ)) (s l : List ℕ)
     → (answerOf v r (length (symbologyAfter r s l)) (length (layoutAfter r s l)) ≡ answerOf v r (length s) (length l))
     × (symbologyAfter r (symbologyAfter r s l) (layoutAfter r s l) ≡ symbologyAfter r s l)
@@ -90,19 +108,3 @@ again-of v (ok z j) s l = go (roomy (z .0) (length s) (length l)) refl
 pub again : (v : ℕ) (b t s l : List ℕ) → Again v b t s l
 unfolding blockAnswer blockSymbology blockLayout
 again v b t s l = let h = again-of (lengths v) (blockOf v t b) s l in record { answer = h .0; symbology = h .1; layout = h .2 }
-
--- ---- tables that are long enough
-
--- an accepted block whose rows the tables hold: its fields, and the rows over the front of both tables
-pub record Held (v : ℕ) (z : Block) (s l : List ℕ) (r : BlockAnswer) (s′ l′ : List ℕ) : Type 0 where
-  pub answer : r ≡ Read (fieldsOf (lengths v) z)
-  pub symbology : s′ ≡ over (fives z) 5 s
-  pub layout : l′ ≡ over (nines z) 9 l
-
-pub held : {v : ℕ} {b t s l : List ℕ} {r : BlockAnswer} {s′ l′ : List ℕ} (z : Block × List ℕ) (k : ℕ) → Promise v b t s l r s′ l′ → blockOf v t b ≡ ok z k
-    → length (fives (z .0)) ≤ length s / 5 → length (nines (z .0)) ≤ length l / 9 → Held v (z .0) s l r s′ l′
-unfolding blockAnswer blockSymbology blockLayout answerOf symbologyAfter layoutAfter
-held {s = s} {l = l} z k p e m n =
-    let a = le-leb (length (fives (z .0))) (length s / 5) m in
-    let b = le-leb (length (nines (z .0))) (length l / 9) n in
-    record { answer = rw (e, a, b) at (p .answer); symbology = rw (e, a, b) at (p .symbology); layout = rw (e, a, b) at (p .layout) }

@@ -12,7 +12,7 @@ use Rattle.codec.specs.Laws.{need-ok, whole-back}
 use Rattle.text.specs.Utf8.{utf8}
 use Rattle.dates.specs.Date.{isDate}
 use Rattle.prelude.specs.Prelude.{isVersion}
-use Rattle.table.specs.EachLaws.{Each, Lies, Within, part-within}
+use Rattle.table.specs.EachLaws.{Each, RowInside, PartInside, part-inside}
 use Rattle.symbology.specs.Symbology.{Symbology, symbology}
 use Rattle.symbology.specs.SpanLaws.{symbology-lies}
 use Rattle.layout.specs.Layout.{Layout}
@@ -42,15 +42,15 @@ block-whole version sheet b z k e =
     need-ok (leb (length b) 4294967295) 13 0 _ z k e2 .1
 
 -- every symbology row of an accepted block, of any version, is of kind 0 to 4, and its text lies within the block
-pub fives-lie : (version : ℕ) (sheet b : List ℕ) (z : Block × List ℕ) (k : ℕ) → Bytes b → blockOf version sheet b ≡ ok z k → Each (Lies 0 4 (length b)) (fives (z .0))
+pub fives-lie : (version : ℕ) (sheet b : List ℕ) (z : Block × List ℕ) (k : ℕ) → Bytes b → blockOf version sheet b ≡ ok z k → Each (RowInside 0 4 (length b)) (fives (z .0))
 fives-lie version sheet b z k bs e =
     let v = lengths version in
     let F = block sheet v in
     let w = whole-back (F .codec) (F .law) 0 b z k bs (block-whole version sheet b z k e) in
-    let h : F .codec .each (Within (length b)) (F .codec .locate 0 (z .0)) =
-    F .law .spotted (Within (length b)) 0 (z .0) (λ n u q. subst (λ a. Within (length a) (0 + n) u) (sym (w .bytes)) (part-within (z .1) q)) in
+    let h : F .codec .each (PartInside (length b)) (F .codec .locate 0 (z .0)) =
+    F .law .spotted (PartInside (length b)) 0 (z .0) (λ n u q. subst (λ a. PartInside (length a) (0 + n) u) (sym (w .bytes)) (part-inside (z .1) q)) in
     symbology-lies utf8 isDate (widthOf v (z .0 .header)) (length b) (z .0 .symbology)
-    (symbology-each sheet v (Within (length b)) (z .0) (subst (F .codec .each (Within (length b))) (w .located) h))
+    (symbology-each sheet v (PartInside (length b)) (z .0) (subst (F .codec .each (PartInside (length b))) (w .located) h))
 
 -- the layout's part of a version without a layout has no rows
 part-rows : (x : Bool) (sheet : List ℕ) (w p : ℕ) (l : Layout) → x ≡ false → rows (layoutPart x sheet w .codec .locate p l) ≡ []

@@ -6,7 +6,7 @@ use symbology::SectionAnswer;
 ghost use mathlib.Core.Path.{_≡_};
 ghost use Prim.Native.Nat.{_+_, _-_, _≤_};
 ghost use lib.ListN.{length, take, drop};
-ghost use Rattle.block.specs.Parts.{spanAt, Within, sectionAt, layoutTable, LayoutReads, SymbologyReads};
+ghost use Rattle.block.specs.Parts.{spanAt, SpanInside, sectionAt, layoutTable, LayoutReads, SymbologyReads};
 
 // The layout part at byte 100: read and ruled on in version 4, empty below.
 pub(crate) fn layout_part(
@@ -84,7 +84,7 @@ pub(crate) fn put_layout(block: &[u8], has_layout: bool, end: usize, table: &mut
 // The bytes of the symbology from `at` on: a section in version 4, the rest below.
 fn section_at(block: &[u8], at: usize, has_layout: bool) -> Span
     requires { ⌜ at ≤ length (now block) ⌝ }
-    ensures { λ r. ⌜ (r ≡ sectionAt «has_layout» (now (block .entry)) at) × Within (now (block .entry)) at r ⌝ }
+    ensures { λ r. ⌜ (r ≡ sectionAt «has_layout» (now (block .entry)) at) × SpanInside (now (block .entry)) at r ⌝ }
 {
     if has_layout {
         return span_at(block, at, refusal::SYMBOLOGY_PAST_END);
@@ -98,7 +98,7 @@ fn section_at(block: &[u8], at: usize, has_layout: bool) -> Span
 // Where the bytes stand that a u32 length at `at` announces; `why` where they run past the end.
 fn span_at(block: &[u8], at: usize, why: u32) -> Span
     requires { ⌜ at ≤ length (now block) ⌝ }
-    ensures { λ r. ⌜ (r ≡ spanAt why (now (block .entry)) at) × Within (now (block .entry)) (at + 4) r ⌝ }
+    ensures { λ r. ⌜ (r ≡ spanAt why (now (block .entry)) at) × SpanInside (now (block .entry)) (at + 4) r ⌝ }
 {
     if block.len() - at < 4 {
         return Span::Refused(why);

@@ -21,7 +21,7 @@ use Rattle.layout.specs.TextLaws.{rowText, texts, texts-bare, row-texts}
 use Rattle.layout.specs.Rows.{rows}
 use Rattle.symbology.specs.Symbology.{Symbology, symbology}
 use Rattle.symbology.specs.SymbologyRows.{symbologyRows}
-use Rattle.table.specs.EachLaws.{Each, Lies}
+use Rattle.table.specs.EachLaws.{Each, RowInside}
 use Rattle.layout.specs.SpanLaws.{read-lies}
 use Rattle.block.specs.SpanLaws.{block-whole}
 use Rattle.block.specs.Block.{Header, Block, v4, lengths, header, widthOf, layoutPart, symbologyPart, block, blockOf}
@@ -235,17 +235,17 @@ module _ (sheet : List ℕ) where
   block-back b z k bs e = whole-back B4 (block sheet v4 .law) 0 b z k bs (block-whole 4 sheet b z k e)
 
   -- the rows of a legal block's layout lie within it
-  located-lie : (x : Block) (r : List ℕ) → B4 .legal x → Each (Lies 10 15 (length (layoutIn (B4 .print x ++ r)))) (nines (B4 .locate 0 x))
+  located-lie : (x : Block) (r : List ℕ) → B4 .legal x → Each (RowInside 10 15 (length (layoutIn (B4 .print x ++ r)))) (nines (B4 .locate 0 x))
   unfolding LegalLayout locateLayout
   located-lie x r lg =
       let t = x .layout in
       let lt : LegalLayout utf8 D t = (layout-legal x lg, rest-bytes x lg) in
       let h = read-lies utf8 D (printLayout utf8 D t) (locateLayout utf8 D t) (length (printLayout utf8 D t)) (layout-octets utf8 D t lt) (parse-print utf8 D t lt) in
-      subst (λ (v : List ℕ). Each (Lies 10 15 (length v)) (nines (B4 .locate 0 x))) (sym (layout-bytes x r lg)) (subst (λ l. Each (Lies 10 15 (length (printLayout utf8 D t))) (rows l)) (sym (layout-at x)) h)
+      subst (λ (v : List ℕ). Each (RowInside 10 15 (length v)) (nines (B4 .locate 0 x))) (sym (layout-bytes x r lg)) (subst (λ l. Each (RowInside 10 15 (length (printLayout utf8 D t))) (rows l)) (sym (layout-at x)) h)
 
   -- every layout row of an accepted block is of kind 10 to 15, and its text, where it is no field, lies within the layout
-  pub nines-lie : (b : List ℕ) (z : Block × List ℕ) (k : ℕ) → Bytes b → blockOf 4 sheet b ≡ ok z k → Each (Lies 10 15 (length (layoutIn b))) (nines (z .0))
+  pub nines-lie : (b : List ℕ) (z : Block × List ℕ) (k : ℕ) → Bytes b → blockOf 4 sheet b ≡ ok z k → Each (RowInside 10 15 (length (layoutIn b))) (nines (z .0))
   nines-lie b z k bs e =
       let w = block-back b z k bs e in
-      subst (λ (x : Block). Each (Lies 10 15 (length (layoutIn b))) (nines x)) (w .located)
-      (subst (λ (v : List ℕ). Each (Lies 10 15 (length (layoutIn v))) (nines (B4 .locate 0 (z .0)))) (sym (w .bytes)) (located-lie (z .0) (z .1) (w .legal)))
+      subst (λ (x : Block). Each (RowInside 10 15 (length (layoutIn b))) (nines x)) (w .located)
+      (subst (λ (v : List ℕ). Each (RowInside 10 15 (length (layoutIn v))) (nines (B4 .locate 0 (z .0)))) (sym (w .bytes)) (located-lie (z .0) (z .1) (w .legal)))

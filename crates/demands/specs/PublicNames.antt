@@ -14,7 +14,7 @@ use Rattle.codec.specs.Codec.{ok, Bytes}
 use Rattle.codec.specs.Laws.{bind-ok, need-ok}
 use Rattle.table.specs.Table.{flat}
 use Rattle.table.specs.TableLaws.{Wide, flat-length}
-use Rattle.table.specs.EachLaws.{Each, each-at, row-number, Lies}
+use Rattle.table.specs.EachLaws.{Each, each-at, row-number, RowInside}
 use Rattle.layout.specs.Layout.{Layout, fromLayout}
 use Rattle.layout.specs.LayoutOf.{layoutOf}
 use Rattle.layout.specs.Rows.{rows}
@@ -62,7 +62,7 @@ pub record Named (width : ℕ) (hasText : ℕ → Bool) (b table : List ℕ) (rs
 
 -- rows of w numbers, of kinds from low to high, all of which but a field have a text
 module _ (w : ℕ) (three : 3 ≤ w) (hasText : ℕ → Bool) (low high : ℕ) (texted : (k : ℕ) → (leb low k && leb k high) ≡ true → hasText k ≡ not (eqb k 11))
-    (b : List ℕ) (rs : List (List ℕ)) (rest : List ℕ) (wide : Wide w rs) (lie : Each (Lies low high (length b)) rs) where
+    (b : List ℕ) (rs : List (List ℕ)) (rest : List ℕ) (wide : Wide w rs) (lie : Each (RowInside low high (length b)) rs) where
   abbrev table : List ℕ
   table = flat rs ++ rest
 
@@ -87,10 +87,10 @@ module _ (w : ℕ) (three : 3 ≤ w) (hasText : ℕ → Bool) (low high : ℕ) (
 
   -- it has a text where it is no field, which lies within the bytes
   text-at : (i : ℕ) → i < length rs → hasText (kindOf rs i) ≡ not (eqb (kindOf rs i) 11)
-  text-at i h = texted (kindOf rs i) (each-at (Lies low high (length b)) rs lie i h .kind)
+  text-at i h = texted (kindOf rs i) (each-at (RowInside low high (length b)) rs lie i h .kind)
 
   inside-at : (i : ℕ) → i < length rs → eqb (kindOf rs i) 11 ≡ false → startOf rs i + lengthOf rs i ≤ length b
-  inside-at i h e = each-at (Lies low high (length b)) rs lie i h .inside e
+  inside-at i h e = each-at (RowInside low high (length b)) rs lie i h .inside e
 
   -- so asking for it gives its start and length, 90 for a field, and in both cases the bytes of its text
   given : (i : ℕ) → i < length rs → eqb (kindOf rs i) 11 ≡ false → spanOf w hasText (length b) table i ≡ Part (startOf rs i) (lengthOf rs i)
@@ -157,7 +157,7 @@ symbology-named version sheet b z k t bs e =
 -- all of them have a text
 pub symbology-texted : (version : ℕ) (sheet b : List ℕ) (z : Block × List ℕ) (k : ℕ) → Bytes b → blockOf version sheet b ≡ ok z k
     → (i : ℕ) → i < length (fives (z .0)) → symbolText (kindOf (fives (z .0)) i) ≡ true
-symbology-texted version sheet b z k bs e i h = symbol-text (kindOf (fives (z .0)) i) (each-at (Lies 0 4 (length b)) (fives (z .0)) (fives-lie version sheet b z k bs e) i h .kind)
+symbology-texted version sheet b z k bs e i h = symbol-text (kindOf (fives (z .0)) i) (each-at (RowInside 0 4 (length b)) (fives (z .0)) (fives-lie version sheet b z k bs e) i h .kind)
 
 -- the layout rows of an accepted version 4 block, over the front of a table; below 4 there are none
 pub block-layout-named : (sheet b : List ℕ) (z : Block × List ℕ) (k : ℕ) (t : List ℕ) → Bytes b → blockOf 4 sheet b ≡ ok z k

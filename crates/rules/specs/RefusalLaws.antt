@@ -129,9 +129,9 @@ module _ (sheet : List ℕ) (width : ℕ) where
   rows-refuse t = rows-fault (In rowRuleNumbers) (in-more ruleNumbers rowRuleNumbers refl) sheet width t refl
 
 -- a number that is a refusal
-verdict-refused : (n : ℕ) {k : ℕ} → Refused k ≡ asVerdict n → (n ≡ 0 → ⊥) × (n ≡ k)
+refused-number : (n : ℕ) {k : ℕ} → Refused k ≡ asVerdict n → (n ≡ 0 → ⊥) × (n ≡ k)
 unfolding asVerdict
-verdict-refused n {k} e = go (eqb n 0) refl e
+refused-number n {k} e = go (eqb n 0) refl e
   where
     go : (b : Bool) → eqb n 0 ≡ b → Refused k ≡ cond b (Accepted 0 0) (Refused n) → (n ≡ 0 → ⊥) × (n ≡ k)
     go true z e = let q : _≡_ {A = ℕ} 0 1 = cc in absurd (omega arith)
@@ -141,6 +141,6 @@ verdict-refused n {k} e = go (eqb n 0) refl e
 pub check-refuses : (sheet : List ℕ) (width : ℕ) (s t : List ℕ) (ofRows : Bool) {k : ℕ} → Refused k ≡ ruling sheet width s t ofRows → In checkNumbers k
 unfolding ruling
 check-refuses sheet width s t true {k} e =
-    let (n, q) = verdict-refused (rowsRules sheet width t) e in
+    let (n, q) = refused-number (rowsRules sheet width t) e in
     in-more rowRuleNumbers checkNumbers refl k (subst (In rowRuleNumbers) q (rows-refuse sheet width t n))
 check-refuses sheet width s t false {k} e = in-more ruledNumbers checkNumbers refl k (ruled-refuses sheet width s e)

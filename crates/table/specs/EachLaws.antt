@@ -17,6 +17,7 @@ abbrev pub Each : (List ℕ → Type 0) → List (List ℕ) → Type 0
 Each Q [] = Unit {0}
 Each Q (r ∷ rs) = Q r × Each Q rs
 
+-- what holds of every row of two lists holds of both together
 pub each-append : (Q : List ℕ → Type 0) (a b : List (List ℕ)) → Each Q a → Each Q b → Each Q (a ++ b)
 each-append Q [] b g h = h
 each-append Q (r ∷ a) b g h = (g .0, each-append Q a b (g .1) h)
@@ -50,14 +51,14 @@ row-number w (r ∷ rs) rest h (suc i) j l m =
     ∙ getD-append-add r (flat rs ++ rest) (w * i + j) 0 ∙ row-number w rs rest (h .1) i j (omega arith) m
 
 -- a row of a kind from low to high; where it is no field (11), its text lies within n bytes
-pub record Lies (low high n : ℕ) (r : List ℕ) : Type 0 where
+pub record RowInside (low high n : ℕ) (r : List ℕ) : Type 0 where
   pub kind : (leb low (getD r 0 0) && leb (getD r 0 0) high) ≡ true
   pub inside : eqb (getD r 0 0) 11 ≡ false → getD r 1 0 + getD r 2 0 ≤ n
 
 -- bytes from n on lie within m bytes
-abbrev pub Within : ℕ → ℕ → List ℕ → Type 0
-Within m n u = n + length u ≤ m
+abbrev pub PartInside : ℕ → ℕ → List ℕ → Type 0
+PartInside m n u = n + length u ≤ m
 
 -- a part lies within the bytes that begin with what it is a part of
-pub part-within : {a u : List ℕ} {n : ℕ} (b : List ℕ) → Part a n u → Within (length (a ++ b)) (0 + n) u
-part-within {a} {u} {n} b q = omega (arith, length-append a b, ap length (q .bytes), length-append (q .pre) (u ++ q .post), length-append u (q .post), q .from)
+pub part-inside : {a u : List ℕ} {n : ℕ} (b : List ℕ) → Part a n u → PartInside (length (a ++ b)) (0 + n) u
+part-inside {a} {u} {n} b q = omega (arith, length-append a b, ap length (q .bytes), length-append (q .pre) (u ++ q .post), length-append u (q .post), q .from)
