@@ -15,3 +15,4 @@ pub mod Single
 pub mod ReadLaws
 pub mod PlaceLaws
 pub mod SpanLaws
+pub mod NameCountLaws

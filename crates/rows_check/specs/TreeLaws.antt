@@ -11,6 +11,7 @@ use Rattle.entry.specs.EntryLaws.{row-numbers}
 use Rattle.layout.specs.Rows.{entryRow, nameRow, fieldRows, recordRows, structRows, labelRow, labelDefRows, rows}
 use Rattle.layout.specs.Layout.{fromLayout, toLayout}
 use Rattle.layout.specs.PlaceLaws.{rows-parts}
+use Rattle.layout.specs.NameCountLaws.{AllOf, Even, NamesMatch}
 use Rattle.table.specs.Table.{flat, allRows}
 use Rattle.rows_check.specs.Tree.{cell, rowCount, from, after, cells, rowsIn, nameOf, entryOf, labelOf, fieldsOf, recordOf, structOf, labelDefOf, countOf, namesFrom, nextSection, skip, kinds, structsFrom, labelsFrom, treeOf}
 use Rattle.rows_check.specs.Check.{rowFits, limitOf, nameKind}
@@ -235,3 +236,21 @@ tree-version version table text = refl
 pub tree-whole : (version : ℕ) (table text : List ℕ) → toLayout (fromLayout (treeOf version table text) .0, []) ≡ treeOf version table text
 unfolding treeOf
 tree-whole version table text = refl
+
+-- ---- names and entries
+
+fields-even : (table text : List ℕ) (q n : ℕ) → Even (fieldsOf table text q n)
+fields-even table text q n = length-from after (nameOf table text) n (q + n) ∙ sym (length-from after (entryOf table) n q)
+
+all-from : {A : Type 0} (P : A → Type 0) (next : ℕ → ℕ) (f : ℕ → A) → ((q : ℕ) → P (f q)) → (k q : ℕ) → AllOf P (from next f q k)
+unfolding from
+all-from P next f h zero q = tt
+all-from P next f h (suc k) q = (h q, all-from P next f h k (next q))
+
+-- EVERY layout that rows stand for, whichever they are, has as many names as entries in each record and struct
+pub tree-names-match : (version : ℕ) (table text : List ℕ) → NamesMatch (treeOf version table text)
+unfolding treeOf
+tree-names-match version table text = record {
+  records = all-from _ (nextSection 10 table) (recordOf table text) (λ q. fields-even table text (q + 1) (cell table q 6)) (kinds table 10) 0;
+  structs = all-from _ (nextSection 13 table) (structOf table text) (λ q. fields-even table text (q + 1) (cell table q 4)) (kinds table 13) (structsFrom table);
+}
