@@ -41,7 +41,8 @@
 extern "C" {
 #endif
 
-/* The refusals: name, number and sentence. The names come out as DBN_REFUSED_MAGIC and so on. */
+/* The refusals: name, number and sentence. The names come out as DBN_REFUSED_MAGIC and so on. Number 70 (names and fields differ in
+ * number) is retired: it never came, and it is not used again. */
 #define DBN_REFUSALS(X) \
     X(HELD_BEYOND, 1, "more bytes are held than the store or the whole block has")                 \
     X(STORE_SHORT, 2, "the store is too short for the prelude or for the block")                   \
@@ -81,7 +82,6 @@ extern "C" {
     X(RTYPE_RESERVED, 62, "an rtype's low byte is 4E")                                             \
     X(BASE_BELOW_HEADER, 63, "a base size is below the header's")                                  \
     X(BASE_NOT_OF_8, 64, "a base size is not a multiple of 8")                                     \
-    X(NAMES_AND_FIELDS, 70, "names and fields differ in number")                                   \
     X(ID_TWICE, 71, "a field id stands twice")                                                     \
     X(STRUCT_IN_STRUCT, 72, "a struct within a struct")                                            \
     X(DEF_INDEX, 73, "a def index is out of range")                                                \

@@ -322,7 +322,6 @@ fn layout_number(text: &str) -> Option<u32> {
         ("is reserved: its low byte", 62),
         ("smaller than the header", 63),
         ("not a multiple of 8", 64),
-        ("fields but", 70),
         ("duplicate field id", 71),
         ("nests a struct", 72),
         ("out of range for", 73),

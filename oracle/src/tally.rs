@@ -22,7 +22,7 @@ pub enum Kind {
     Unexplained(String),
 }
 
-/// The numbers that the crate can give, and those that the plain program alone gives. 70 cannot come from a reader or a writer.
+/// The numbers that the crate can give, and those that the plain program alone gives.
 const OF_CRATE: [std::ops::RangeInclusive<u32>; 6] = [10..=12, 20..=28, 30..=40, 50..=55, 60..=64, 71..=83];
 const OF_PAPER: [std::ops::RangeInclusive<u32>; 3] = [1..=3, 13..=13, 90..=96];
 

@@ -16,7 +16,7 @@ fn marked_out<const N: usize>(r: &mut Rng) -> [u64; N] {
 
 /// Counts an answer: 0 with nothing needed, 0 with bytes needed, or a refusal, whose number must be of the table.
 fn tell(count: &mut Count, number: u32, needed: u64) {
-    let table = [0..=3, 10..=13, 20..=28, 30..=40, 50..=55, 60..=64, 70..=83, 90..=96];
+    let table = [0..=3, 10..=13, 20..=28, 30..=40, 50..=55, 60..=64, 71..=83, 90..=96];
     assert!(table.iter().any(|numbers| numbers.contains(&number)), "{number} is no number of the table");
     count.calls += 1;
     match (number, needed) {

@@ -6,7 +6,7 @@ macro_rules! refusals {
         /// Why something was refused, by name. [`Refusal::number`] is the number of the table of refusals, and
         /// [`Refusal::sentence`] says it in a few words.
         ///
-        /// Numbers below 100 are the library's, as `include/dbn_start.h` lists them. Those from 200 on are this package's own.
+        /// Numbers below 100 are the library's, as `include/dbn_start.h` lists them; 70 is retired. Those from 200 on are this package's own.
         #[derive(Debug, Clone, Copy, PartialEq, Eq, PartialOrd, Ord, Hash)]
         #[non_exhaustive]
         #[repr(u32)]
@@ -70,7 +70,6 @@ refusals! {
     RtypeReserved 62 "an rtype's low byte is 4E"
     BaseBelowHeader 63 "a base size is below the header's"
     BaseNotOf8 64 "a base size is not a multiple of 8"
-    NamesAndFields 70 "names and fields differ in number"
     IdTwice 71 "a field id stands twice"
     StructInStruct 72 "a struct within a struct"
     DefIndex 73 "a def index is out of range"
@@ -134,7 +133,7 @@ mod tests {
 
     #[test]
     fn every_number_of_the_table_has_one_name_and_one_sentence() {
-        let ranges = [1..=3, 10..=13, 20..=28, 30..=40, 50..=55, 60..=64, 70..=83, 90..=96, 200..=201];
+        let ranges = [1..=3, 10..=13, 20..=28, 30..=40, 50..=55, 60..=64, 71..=83, 90..=96, 200..=201];
         let numbers: Vec<u32> = ranges.into_iter().flatten().collect();
         assert_eq!(Refusal::ALL.iter().map(|refusal| refusal.number()).collect::<Vec<_>>(), numbers);
         assert!(Refusal::ALL

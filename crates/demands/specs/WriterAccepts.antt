@@ -2,6 +2,7 @@
 -- Assumes nothing.
 use Prim.Native.Nat.{ℕ, _≤_}
 use mathlib.Core.Path.{_≡_, refl}
+use mathlib.Core.Bool.{true}
 use mathlib.Core.List.{List, [], _∷_, _++_}
 use lib.ListN.{length, replicate}
 use Rattle.codec.specs.Codec.{raw, padded, num, byte, named, checked, placed, sized, times, distinct, boxed, _then_}
@@ -12,13 +13,13 @@ use Rattle.layout.specs.LayoutOf.{D}
 use Rattle.entry.specs.Entry.{cutBytes, rowBytes}
 use Rattle.fields.specs.Sheet.{alignOf, defOf, idOf, isDecimal, isExtension, isPadding, isStruct, isSymbol, memberAlign, namesLabel, offOf, pastBase, sizeOf, typeOf}
 use Rattle.fields.specs.Field.{breaks71, breaks72, breaks73, breaks74, breaks76, breaks77, breaks79, breaks80, fieldFault}
-use Rattle.rules.specs.Rules.{seqsFault, structsFault, recordsFault, structFault, recordFault, seqFault, fieldsFault, baseFault, extFault, tilingFault, spans, structAlign, largest}
-use Rattle.rules.specs.RowRules.{rowsRules, rowsOf, rowCount, rowSeq, seqsIn, kindRows}
+use Rattle.rules.specs.Rules.{rulesOf, seqsFault, structsFault, recordsFault, structFault, recordFault, seqFault, fieldsFault, baseFault, extFault, tilingFault, spans, structAlign, largest}
+use Rattle.rules.specs.RowRules.{rowsRules}
 use Rattle.writer.specs.Write.{writeLayout}
 use Rattle.writer.specs.RoundTripLaws.{accepts}
 use Rattle.writer.specs.declared.Written.the-variants.{Length}
 use Rattle.rows_check.specs.Tree.{countKind, countOf, from, namesFrom, skip, treeOf}
-use Rattle.rows_check.specs.Check.{fault, wellFormed, both, every, rowTest, rowFits, limitOf, inOrder, walk, sectionInPlace, nameKind, countsFit, groupsFit, countFits, nameShort, nameClean, clean, sectionsFit, fitsAll, printedSection, printed, risesAt}
+use Rattle.rows_check.specs.Check.{fitFault, fault, wellFormed, both, every, rowTest, rowFits, limitOf, inOrder, walk, sectionInPlace, nameKind, countsFit, groupsFit, countFits, nameShort, nameClean, clean, sectionsFit, fitsAll, printedSection, printed, risesAt}
 
 -- a type sheet of zeros: no type has a natural size, and type 1 is no struct, symbol, decimal or padding
 abbrev pub sheet : List ℕ
@@ -37,12 +38,12 @@ table =
     ++ (15 ∷ 0 ∷ 1 ∷ 5 ∷ 0 ∷ 0 ∷ 0 ∷ 0 ∷ 0 ∷ [])
 
 -- neither 90 to 95 nor a rule refuses it
-pub well-formed : fault table (65 ∷ []) ≡ 0
-unfolding fault wellFormed both every rowTest rowFits limitOf inOrder walk sectionInPlace nameKind countsFit groupsFit countFits nameShort nameClean clean sectionsFit fitsAll printedSection printed risesAt countKind countOf from namesFrom skip treeOf cutBytes rowBytes utf8 printLayout parts groups recordL structL labelDef label fields entry padded named _then_ sized times distinct num raw byte section boxed name text textOf checked placed D
+pub well-formed : fault true table (65 ∷ []) ≡ 0
+unfolding fault fitFault wellFormed both every rowTest rowFits limitOf inOrder walk sectionInPlace nameKind countsFit groupsFit countFits nameShort nameClean clean sectionsFit fitsAll printedSection printed risesAt countKind countOf from namesFrom skip treeOf cutBytes rowBytes utf8 printLayout parts groups recordL structL labelDef label fields entry padded named _then_ sized times distinct num raw byte section boxed name text textOf checked placed D
 well-formed = refl
 
-pub ruled : rowsRules sheet 71 table ≡ 0
-unfolding rowsRules rowsOf cutBytes rowBytes rowCount rowSeq seqsIn kindRows seqsFault structsFault recordsFault structFault recordFault seqFault fieldsFault baseFault extFault tilingFault spans structAlign largest fieldFault breaks71 breaks72 breaks73 breaks74 breaks76 breaks77 breaks79 breaks80 alignOf defOf idOf isDecimal isExtension isPadding isStruct isSymbol memberAlign namesLabel offOf pastBase sizeOf typeOf
+pub ruled : rowsRules sheet 71 table (65 ∷ []) ≡ 0
+unfolding rowsRules rulesOf countKind countOf from namesFrom skip treeOf cutBytes rowBytes seqsFault structsFault recordsFault structFault recordFault seqFault fieldsFault baseFault extFault tilingFault spans structAlign largest fieldFault breaks71 breaks72 breaks73 breaks74 breaks76 breaks77 breaks79 breaks80 alignOf defOf idOf isDecimal isExtension isPadding isStruct isSymbol memberAlign namesLabel offOf pastBase sizeOf typeOf
 ruled = refl
 
 -- so it is written, wherever the output has room for it

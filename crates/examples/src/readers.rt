@@ -73,7 +73,7 @@ pub(crate) fn layout(s: &[u8], sheet: &[u16; 520]) {
     let n = read_rows(layout, &mut table);
     show::rules(given);
     rules_of_bytes(layout, width, sheet);
-    rules_of_rows(rows::front(&table, n), width, sheet);
+    rules_of_rows(rows::front(&table, n), layout, width, sheet);
     show::rows(layout, &table, 9, n);
 }
 
@@ -101,10 +101,10 @@ fn rules_of_bytes(layout: &[u8], width: u16, sheet: &[u16; 520]) {
     show::say_number(verdict_number(engines::check_layout_plain(layout, width, sheet)));
 }
 
-// What the rules say of rows, by search and marked.
-fn rules_of_rows(rows: &[u32], width: u16, sheet: &[u16; 520]) {
-    show::say_number(engines::check_rows(rows, width, sheet));
-    show::say_number(engines::check_rows_plain(rows, width, sheet));
+// What the rules say of rows whose texts are in `text`, by search and marked.
+fn rules_of_rows(rows: &[u32], text: &[u8], width: u16, sheet: &[u16; 520]) {
+    show::say_number(engines::check_rows(rows, text, width, sheet));
+    show::say_number(engines::check_rows_plain(rows, text, width, sheet));
     show::end();
 }
 

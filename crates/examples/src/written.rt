@@ -31,7 +31,7 @@ fn low16(n: usize) -> u16 {
     (n % 65536) as u16
 }
 
-// The rows of a case, written and read again.
+// The rows of a case: written and read again; then what the rules say of them, by search and marked.
 pub(crate) fn rows(s: &[u8], sheet: &[u16; 520]) {
     let width = bytes::u16_at(s, 0);
     let version = bytes::u16_at(s, 2);
@@ -43,14 +43,12 @@ pub(crate) fn rows(s: &[u8], sheet: &[u16; 520]) {
     let mut table = rows::space();
     let mut out = [7u8; 4096];
     rows::load(numbers, &mut table, n);
-    write(
-        rows::front(&table, n),
-        bytes::front(bytes::from(s, 10), texts),
-        version,
-        width,
-        sheet,
-        &mut out[0..room],
-    );
+    let rows = rows::front(&table, n);
+    let text = bytes::front(bytes::from(s, 10), texts);
+    write(rows, text, version, width, sheet, &mut out[0..room]);
+    show::rules(engines::check_rows(rows, text, width, sheet));
+    show::say_number(engines::check_rows_plain(rows, text, width, sheet));
+    show::end();
 }
 
 // Writes rows whose texts are in `text`, and says what came of it. The output is full of sevens.

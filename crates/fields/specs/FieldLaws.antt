@@ -1,12 +1,16 @@
 -- What a field without fault is: it has a size, and ends at 65535 and in its place at the latest. Assumes nothing.
-use Prim.Native.Nat.{ℕ, _≤_}
-use mathlib.Core.Path.{_≡_, refl, sym, subst}
+use Prim.Native.Nat.{ℕ, _≤_, _<_, min}
+use mathlib.Core.Path.{_≡_, refl, sym, subst, _∙_}
 use mathlib.Core.Bool.{Bool, true, false, not, _&&_, cond}
 use mathlib.Core.List.{List}
-use lib.ListN.{length}
-use lib.Dec.{T, ltb, eqb}
-use borrow.Author.Tests.{eq-eqb, eqb-false, ltb-false, leb-true}
-use Rattle.fields.specs.Sheet.{sizeOf, offOf, endOf, pastBase}
+use lib.ListN.{length, getD, take, length-take}
+use lib.Seq.{getD-take}
+use lib.Dec.{T, leb, ltb, eqb}
+use native.Mathlib.Omega.{arith}
+use Rattle.codec.specs.CaseLaws.{by-le}
+use Rattle.codec.specs.Codec.{Bytes}
+use borrow.Author.Tests.{eq-eqb, eqb-false, ltb-false, leb-true, le-leb, lt-leb}
+use Rattle.fields.specs.Sheet.{sizeOf, defOf, offOf, endOf, pastBase, alignOf}
 use Rattle.fields.specs.Field.{faultIf, breaks71, breaks72, breaks73, breaks74, breaks76, breaks77, breaks79, breaks80, fieldFault}
 
 module _ (sheet : List ℕ) (width labels : ℕ) (aligns : List ℕ) (isRecord : Bool) (base : ℕ) where
@@ -62,3 +66,28 @@ pub past-from : (isRecord : Bool) (base : ℕ) (e : List ℕ) → pastBase isRec
 unfolding pastBase
 past-from true base e h = leb-true base (offOf e) h
 past-from false base e h = absurd (subst T (sym h) tt)
+
+-- ---- no def index names a struct past the first n, where it is below n
+
+module _ (aligns : List ℕ) (n : ℕ) (e : List ℕ) (small : defOf e < n) where
+  length-cut : leb (length (take n aligns)) (defOf e) ≡ leb (length aligns) (defOf e)
+  length-cut =
+      let l : length (take n aligns) ≡ min n (length aligns) = simp length-take in
+      by-le (length aligns) (defOf e)
+      (λ h. le-leb (length (take n aligns)) (defOf e) (omega arith) ∙ sym (le-leb (length aligns) (defOf e) h))
+      (λ h. lt-leb (length (take n aligns)) (defOf e) (omega arith) ∙ sym (lt-leb (length aligns) (defOf e) h))
+
+  align-cut : (sheet : List ℕ) → alignOf sheet (take n aligns) e ≡ alignOf sheet aligns e
+  unfolding alignOf
+  align-cut sheet = rw (getD-take n aligns (defOf e) 0 small)
+
+  -- so the alignments of the first n structs say as much of a field as all
+  pub fault-cut : (sheet : List ℕ) (width labels : ℕ) (isRecord : Bool) (base : ℕ) (seen : Bool)
+      → fieldFault sheet width labels (take n aligns) isRecord base seen e ≡ fieldFault sheet width labels aligns isRecord base seen e
+  unfolding fieldFault breaks73 breaks74
+  fault-cut sheet width labels isRecord base seen = rw (length-cut, align-cut sheet)
+
+-- a def index is two bytes
+pub def-small : (e : List ℕ) → Bytes e → defOf e < 65536
+unfolding defOf
+def-small e b = let x = b 8 in let y = b 9 in omega arith

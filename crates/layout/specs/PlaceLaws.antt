@@ -441,14 +441,14 @@ map-bare : {A B : Type 0} (c : Codec A) (f : A → B) → ((x : A) → f (c .bar
 map-bare c f h [] = refl
 map-bare c f h (x ∷ xs) = ap₂ _∷_ (h x) (map-bare c f h xs)
 
--- what a view of rtype, base, names' number and heads sees of the fields of a bare layout is what it sees of the layout
-module _ {B : Type 0} (view : ℕ → ℕ → ℕ → List (List ℕ) → B) where
+-- what a view of rtype, base and heads sees of the fields of a bare layout is what it sees of the layout
+module _ {B : Type 0} (view : ℕ → ℕ → List (List ℕ) → B) where
   abbrev pub viewed : ℕ → ℕ → Fields → B
-  viewed rtype base f = view rtype base (length (f .names)) (map (λ e. e .head) (f .entries))
+  viewed rtype base f = view rtype base (map (λ e. e .head) (f .entries))
 
   fields-bare : (rtype base : ℕ) (f : Fields) → viewed rtype base (fields .bare f) ≡ viewed rtype base f
   unfolding Layout.fields named sized _then_ times Layout.entry padded
-  fields-bare rtype base f = ap₂ (view rtype base) (length-bare _ (Formats.name utf8 .law) (f .names)) (map-bare entry (λ e. e .head) (λ e. refl) (f .entries))
+  fields-bare rtype base f = ap (view rtype base) (map-bare entry (λ e. e .head) (λ e. refl) (f .entries))
 
   struct-bare : (s : StructL) → viewed 0 (structL .bare s .size) (structL .bare s .fields) ≡ viewed 0 (s .size) (s .fields)
   unfolding Layout.structL named _then_ num

@@ -82,7 +82,7 @@ pub const BASE_BELOW_HEADER: u32 = 63;
 
 pub const BASE_NOT_OF_8: u32 = 64;
 
-pub const NAMES_AND_FIELDS: u32 = 70;
+// 70 is retired and is not used again: no layout has more or fewer names than fields when its rules are tried.
 
 pub const ID_TWICE: u32 = 71;
 

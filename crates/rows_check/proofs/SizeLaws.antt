@@ -9,10 +9,10 @@ use lib.Dec.{eqb, leb}
 use borrow.Author.Tests.{leb-true, leb-false, le-leb, lt-leb, ne-eqb}
 use Rattle.layout.specs.LayoutOf.{D}
 use Rattle.rows_check.specs.Tree.{cell, rowCount, after, countOf, namesFrom, nextSection, kinds, structsFrom, labelsFrom}
-use Rattle.rows_check.specs.Check.{both, every, passes, wellFormed, countsFit, printedSection, fitsAll, sectionsFit, size, risesAt, fault}
+use Rattle.rows_check.specs.Check.{both, every, passes, wellFormed, countsFit, printedSection, fitsAll, sectionsFit, size, risesAt, fitFault, fault}
 use Rattle.rows_check.specs.Sections.{SectionRows, many, printedName, printedBody, printedGroup}
 use Rattle.rows_check.specs.SectionLaws.{many-none, many-next, section-is, layout-is, record-length, struct-length, label-def-length}
-use Rattle.rows_check.specs.Answers.{namelessSize, clip, sizeOf, sizedOf}
+use Rattle.rows_check.specs.Answers.{namelessSize, clip, sizeOf, made, sizedOf}
 use Rattle.rows_check.specs.declared.Sized.the-variants.{Length, Refused}
 
 -- ---- sizes
@@ -129,41 +129,46 @@ fit-no false n h = refl
 -- ---- the ways out: what was tested, and what the answer is then
 
 module _ (rows text : List ℕ) where
-  refused : (n : ℕ) → 0 < n → fault rows text ≡ n → Refused n ≡ sizedOf rows text
+  refused : (whole : Bool) (n : ℕ) → 0 < n → fault whole rows text ≡ n → Refused n ≡ sizedOf whole rows text
   unfolding sizedOf
-  refused n h e = rw (e, ne-eqb 0 n (λ z. omega arith))
+  refused whole n h e = rw (e, ne-eqb 0 n (λ z. omega arith))
 
-  pub exit-90 : wellFormed rows text ≡ false → Refused 90 ≡ sizedOf rows text
+  pub exit-90 : (whole : Bool) → wellFormed rows text ≡ false → Refused 90 ≡ sizedOf whole rows text
   unfolding fault
-  exit-90 a = refused 90 (omega arith) (rw a)
+  exit-90 whole a = refused whole 90 (omega arith) (rw a)
 
   module _ (a : wellFormed rows text ≡ true) where
-    pub exit-91 : countsFit rows text ≡ false → Refused 91 ≡ sizedOf rows text
-    unfolding fault
-    exit-91 b = refused 91 (omega arith) (rw (a, b))
+    -- 90 alone was asked for
+    pub formed-only : {r s l : ℕ} → r ≡ kinds rows 10 → s ≡ kinds rows 13 → l ≡ kinds rows 14 → Length 0 r s l ≡ sizedOf false rows text
+    unfolding fault sizedOf made
+    formed-only er es el = rw (er, es, el, a)
+
+    pub exit-91 : countsFit rows text ≡ false → Refused 91 ≡ sizedOf true rows text
+    unfolding fault fitFault
+    exit-91 b = refused true 91 (omega arith) (rw (a, b))
 
     module _ (b : countsFit rows text ≡ true) where
-      pub exit-92 : passes 92 rows text 0 (rowCount rows) ≡ false → Refused 92 ≡ sizedOf rows text
-      unfolding fault
-      exit-92 d = refused 92 (omega arith) (rw (a, b, d))
+      pub exit-92 : passes 92 rows text 0 (rowCount rows) ≡ false → Refused 92 ≡ sizedOf true rows text
+      unfolding fault fitFault
+      exit-92 d = refused true 92 (omega arith) (rw (a, b, d))
 
       module _ (d : passes 92 rows text 0 (rowCount rows) ≡ true) where
-        pub exit-93 : passes 93 rows text 0 (rowCount rows) ≡ false → Refused 93 ≡ sizedOf rows text
-        unfolding fault
-        exit-93 e = refused 93 (omega arith) (rw (a, b, d, e))
+        pub exit-93 : passes 93 rows text 0 (rowCount rows) ≡ false → Refused 93 ≡ sizedOf true rows text
+        unfolding fault fitFault
+        exit-93 e = refused true 93 (omega arith) (rw (a, b, d, e))
 
         module _ (e : passes 93 rows text 0 (rowCount rows) ≡ true) (n : ℕ) (f : n ≡ sizeOf (sectionsFit rows text) (size rows text)) where
-          pub exit-94 : 4294967296 ≤ n → Refused 94 ≡ sizedOf rows text
-          unfolding fault
-          exit-94 h = refused 94 (omega arith) (rw (a, b, d, e, fit-no _ _ (rw f at h)))
+          pub exit-94 : 4294967296 ≤ n → Refused 94 ≡ sizedOf true rows text
+          unfolding fault fitFault
+          exit-94 h = refused true 94 (omega arith) (rw (a, b, d, e, fit-no _ _ (rw f at h)))
 
           module _ (h : n < 4294967296) where
-            pub exit-95 : every (risesAt rows) 0 (rowCount rows - 1) ≡ false → Refused 95 ≡ sizedOf rows text
-            unfolding fault
-            exit-95 g = refused 95 (omega arith) (rw (a, b, d, e, fit-yes _ _ (rw f at h) .0, g))
+            pub exit-95 : every (risesAt rows) 0 (rowCount rows - 1) ≡ false → Refused 95 ≡ sizedOf true rows text
+            unfolding fault fitFault
+            exit-95 g = refused true 95 (omega arith) (rw (a, b, d, e, fit-yes _ _ (rw f at h) .0, g))
 
-            pub done : every (risesAt rows) 0 (rowCount rows - 1) ≡ true → (r s l : ℕ) → r ≡ kinds rows 10 → s ≡ kinds rows 13 → l ≡ kinds rows 14 → Length n r s l ≡ sizedOf rows text
-            unfolding fault sizedOf
+            pub done : every (risesAt rows) 0 (rowCount rows - 1) ≡ true → (r s l : ℕ) → r ≡ kinds rows 10 → s ≡ kinds rows 13 → l ≡ kinds rows 14 → Length n r s l ≡ sizedOf true rows text
+            unfolding fault fitFault sizedOf made
             done g r s l er es el =
                 let z : n ≡ size rows text = f ∙ fit-yes _ _ (rw f at h) .1 in
                 rw (er, es, el, z, a, b, d, e, fit-yes _ _ (rw f at h) .0, g)

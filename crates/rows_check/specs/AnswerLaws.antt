@@ -4,12 +4,13 @@ use mathlib.Core.Path.{_≡_, refl, sym, _∙_}
 use mathlib.Core.Bool.{Bool, true, false, cond}
 use mathlib.Core.List.{List}
 use Rattle.rows_check.specs.Tree.{rowCount, kinds}
-use Rattle.rows_check.specs.Check.{both, every, rowTest, size, fault}
-use Rattle.rows_check.specs.Answers.{rowGood, AllGood, sizedOf}
+use Rattle.rows_check.specs.Check.{both, every, rowTest, wellFormed, size, fitFault, fault}
+use Rattle.rows_check.specs.Answers.{rowGood, AllGood, made, unless, sizedOf, sizedNumber}
 use Rattle.rows_check.specs.CheckLaws.{both-left, both-right}
 use native.Mathlib.Omega.{arith}
 use lib.Dec.{eqb}
 use borrow.Author.Tests.{eqb-true, eqb-false}
+use Rattle.codec.specs.CaseLaws.{by-bool}
 use Rattle.rows_check.specs.declared.Sized.the-variants.{Length, Refused}
 
 -- ---- rows that pass 90 to 93 in one walk
@@ -47,28 +48,55 @@ module _ (rows text : List ℕ) (b : Bool) (e : b ≡ every (rowGood rows text) 
 
 -- ---- the whole answer
 
-pub record Fitted (rows text : List ℕ) (b r s l : ℕ) : Type 0 where
-  pub none : fault rows text ≡ 0
-  pub bytes : b ≡ size rows text
+pub record Fitted (whole : Bool) (rows text : List ℕ) (b r s l : ℕ) : Type 0 where
+  pub bytes : b ≡ cond whole (size rows text) 0
   pub records : r ≡ kinds rows 10
   pub structs : s ≡ kinds rows 13
   pub labels : l ≡ kinds rows 14
 
-module _ (rows text : List ℕ) where
-  pub sized-length : (b r s l : ℕ) → Length b r s l ≡ sizedOf rows text → Fitted rows text b r s l
-  unfolding sizedOf
-  sized-length b r s l e = go (eqb 0 (fault rows text)) refl e
+pub made-is : {whole : Bool} {rows text : List ℕ} {b r s l : ℕ} → Fitted whole rows text b r s l → Length b r s l ≡ made whole rows text
+unfolding made
+made-is v = rw (v .bytes, v .records, v .structs, v .labels)
+
+module _ (k : ℕ) (whole : Bool) (rows text : List ℕ) where
+  -- what the rows make is told where no number refuses them
+  pub made-told : (b r s l : ℕ) → Length b r s l ≡ unless k (made whole rows text) → (k ≡ 0) × Fitted whole rows text b r s l
+  unfolding made
+  made-told b r s l e = go (eqb 0 k) refl e
     where
-      go : (a : Bool) → eqb 0 (fault rows text) ≡ a → Length b r s l ≡ cond a (Length (size rows text) (kinds rows 10) (kinds rows 13) (kinds rows 14)) (Refused (fault rows text)) → Fitted rows text b r s l
-      go true z e = record { none = sym (eqb-true 0 (fault rows text) z); bytes = cc; records = cc; structs = cc; labels = cc }
+      go : (a : Bool) → eqb 0 k ≡ a → Length b r s l ≡ cond a (made whole rows text) (Refused k) → (k ≡ 0) × Fitted whole rows text b r s l
+      go true z e = (sym (eqb-true 0 k z), record { bytes = cc; records = cc; structs = cc; labels = cc })
       go false z e = let o : _≡_ {A = ℕ} 0 1 = cc in absurd (omega arith)
 
-  pub sized-fault : (k : ℕ) → Refused k ≡ sizedOf rows text → (k ≡ 0 → ⊥) × (fault rows text ≡ k)
-  unfolding sizedOf
-  sized-fault k e = go (eqb 0 (fault rows text)) refl e
+  pub refused-told : (n : ℕ) → Refused n ≡ unless k (made whole rows text) → (n ≡ 0 → ⊥) × (k ≡ n)
+  unfolding made
+  refused-told n e = go (eqb 0 k) refl e
     where
-      go : (a : Bool) → eqb 0 (fault rows text) ≡ a → Refused k ≡ cond a (Length (size rows text) (kinds rows 10) (kinds rows 13) (kinds rows 14)) (Refused (fault rows text)) → (k ≡ 0 → ⊥) × (fault rows text ≡ k)
+      go : (a : Bool) → eqb 0 k ≡ a → Refused n ≡ cond a (made whole rows text) (Refused k) → (n ≡ 0 → ⊥) × (k ≡ n)
       go true z e = let o : _≡_ {A = ℕ} 0 1 = cc in absurd (omega arith)
       go false z e =
-          let f : fault rows text ≡ k = cc in
-          ((λ n. eqb-false 0 (fault rows text) z (sym (f ∙ n))), f)
+          let f : k ≡ n = cc in
+          ((λ m. eqb-false 0 k z (sym (f ∙ m))), f)
+
+  -- the number of the answer is the one that refuses them
+  pub made-number : sizedNumber (unless k (made whole rows text)) ≡ k
+  unfolding made
+  made-number = by-bool (eqb 0 k) (λ q. rw q (eqb-true 0 k q)) (λ q. rw q)
+
+module _ (whole : Bool) (rows text : List ℕ) where
+  pub sized-length : (b r s l : ℕ) → Length b r s l ≡ sizedOf whole rows text → (fault whole rows text ≡ 0) × Fitted whole rows text b r s l
+  unfolding sizedOf
+  sized-length b r s l e = made-told (fault whole rows text) whole rows text b r s l e
+
+  pub sized-fault : (n : ℕ) → Refused n ≡ sizedOf whole rows text → (n ≡ 0 → ⊥) × (fault whole rows text ≡ n)
+  unfolding sizedOf
+  sized-fault n e = refused-told (fault whole rows text) whole rows text n e
+
+  -- rows that pass are well formed
+  pub fault-formed : fault whole rows text ≡ 0 → wellFormed rows text ≡ true
+  unfolding fault
+  fault-formed e = go (wellFormed rows text) e
+    where
+      go : (a : Bool) → cond a (cond whole (fitFault rows text) 0) 90 ≡ 0 → a ≡ true
+      go true e = refl
+      go false e = absurd (omega arith)

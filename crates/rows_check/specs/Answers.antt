@@ -30,10 +30,17 @@ clip n = min 4294967296 n
 unfoldable pub sizeOf : Bool → ℕ → ℕ
 sizeOf b n = cond b (min 4294967296 n) 4294967296
 
--- the length of the layout and the counts of its records, structs and label defs, or the number that refuses the rows
-unfoldable pub sizedOf : List ℕ → List ℕ → Sized
-sizedOf rows text =
-    cond (eqb 0 (fault rows text)) (Length (size rows text) (kinds rows 10) (kinds rows 13) (kinds rows 14)) (Refused (fault rows text))
+-- the length of a `whole` layout, else 0, and the counts of its records, structs and label defs
+unfoldable pub made : Bool → List ℕ → List ℕ → Sized
+made whole rows text = Length (cond whole (size rows text) 0) (kinds rows 10) (kinds rows 13) (kinds rows 14)
+
+-- x, or the number that refuses it
+abbrev pub unless : ℕ → Sized → Sized
+unless k x = cond (eqb 0 k) x (Refused k)
+
+-- what the rows make, or the number that refuses them
+unfoldable pub sizedOf : Bool → List ℕ → List ℕ → Sized
+sizedOf whole rows text = unless (fault whole rows text) (made whole rows text)
 
 -- the number of document 01: 0 for rows that pass
 abbrev pub sizedNumber : Sized → ℕ

@@ -153,17 +153,24 @@ labelsRise rows = every (risesAt rows) 0 (rowCount rows - 1)
 abbrev pub rowNumbers : List ℕ
 rowNumbers = 90 ∷ 91 ∷ 92 ∷ 93 ∷ 94 ∷ 95 ∷ []
 
+-- of a `whole` layout, or of rows that need only stand in their places
+abbrev pub faultNumbers : Bool → List ℕ
+faultNumbers whole = cond whole rowNumbers (90 ∷ [])
+
 abbrev pub sizesFit : List ℕ → List ℕ → Bool
 sizesFit rows text = both (sectionsFit rows text) (leb (size rows text) 4294967295)
 
-unfoldable pub fault : List ℕ → List ℕ → ℕ
-fault rows text =
-    cond (wellFormed rows text)
-    (cond (countsFit rows text)
+-- 91 to 95
+unfoldable pub fitFault : List ℕ → List ℕ → ℕ
+fitFault rows text =
+    cond (countsFit rows text)
     (cond (passes 92 rows text 0 (rowCount rows))
     (cond (passes 93 rows text 0 (rowCount rows))
     (cond (sizesFit rows text) (cond (labelsRise rows) 0 95) 94)
     93)
     92)
-    91)
-    90
+    91
+
+-- 90; for a `whole` layout 91 to 95 after it
+unfoldable pub fault : Bool → List ℕ → List ℕ → ℕ
+fault whole rows text = cond (wellFormed rows text) (cond whole (fitFault rows text) 0) 90

@@ -82,6 +82,11 @@ unfoldable pub Places : ℕ → List ℕ → ℕ → ℕ → Type 0
 Places kind rows q zero = Unit {0}
 Places kind rows q (suc k) = InPlace kind rows q × Places kind rows (nextSection kind rows q) k
 
+-- the first of some sections, and the others
+pub places-next : (kind : ℕ) (rows : List ℕ) (q k : ℕ) → Places kind rows q (suc k) → InPlace kind rows q × Places kind rows (nextSection kind rows q) k
+unfolding Places
+places-next kind rows q k p = p
+
 -- a test by a kind is the kind
 kind-of : (rows text : List ℕ) (w j : ℕ) → (w ≡ 11) ⊎ ((w ≡ 12) ⊎ (w ≡ 15)) → rowTest w rows text j ≡ true → cell rows j 0 ≡ w
 unfolding rowTest
@@ -187,3 +192,22 @@ module _ (rows text : List ℕ) where
         labels = rw (s1 .1) at (rw (s2 .1) at (s3 .0));
         all = rw (s1 .1) at (rw (s2 .1) at (sym (s3 .1) ∙ d));
       }
+
+module _ (rows text : List ℕ) (w : Formed rows text) (q : ℕ) where
+  -- the rtype and the base size of a record are two bytes each
+  pub record-fits : InPlace 10 rows q → (cell rows q 3 < 65536) × (cell rows q 5 < 65536)
+  unfolding limitOf
+  record-fits p =
+      let h = p .first in
+      let f = w .fits q (omega arith) in
+      let l3 : cell rows q 3 ≤ 65535 = number-le rows text q f 10 (p .head) 3 (omega arith) (omega arith) in
+      let l5 : cell rows q 5 ≤ 65535 = number-le rows text q f 10 (p .head) 5 (omega arith) (omega arith) in
+      (omega arith, omega arith)
+
+  -- and so is the size of a struct
+  pub struct-fits : InPlace 13 rows q → cell rows q 3 < 65536
+  unfolding limitOf
+  struct-fits p =
+      let h = p .first in
+      let l3 : cell rows q 3 ≤ 65535 = number-le rows text q (w .fits q (omega arith)) 13 (p .head) 3 (omega arith) (omega arith) in
+      omega arith

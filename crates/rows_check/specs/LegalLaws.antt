@@ -19,7 +19,7 @@ use Rattle.layout.specs.Layout.{LegalLayout}
 use Rattle.wire.specs.FormatLaws.{name-legal}
 use Rattle.layout.specs.PrintLaws.{label-legal, labelDef-legal, Rising, entry-legal, fields-legal, struct-legal, record-legal, layout-legal}
 use Rattle.rows_check.specs.Tree.{cell, rowCount, from, after, nameOf, entryOf, labelOf, fieldsOf, recordOf, structOf, labelDefOf, countOf, namesFrom, nextSection, kinds, structsFrom, labelsFrom, treeOf}
-use Rattle.rows_check.specs.Check.{both, every, limitOf, countFits, nameShort, clean, nameClean, rowTest, passes, nameKind, groupsFit, countsFit, printedSection, fitsAll, sectionsFit, size, risesAt, fault}
+use Rattle.rows_check.specs.Check.{both, every, limitOf, countFits, nameShort, clean, nameClean, rowTest, passes, nameKind, groupsFit, countsFit, printedSection, fitsAll, sectionsFit, size, risesAt, fitFault, fault}
 use Rattle.rows_check.specs.CheckLaws.{both-left, both-right, every-at, number-le, row-span, InPlace, Places, Formed, formed}
 use Rattle.rows_check.specs.TreeLaws.{length-from, name-len}
 
@@ -42,8 +42,8 @@ pub record Sound (rows text : List ℕ) : Type 0 where
   pub within : size rows text ≤ 4294967295
   pub rises : every (risesAt rows) 0 (rowCount rows - 1) ≡ true
 
-pub sound : (rows text : List ℕ) → fault rows text ≡ 0 → Sound rows text
-unfolding fault countsFit
+pub sound : (rows text : List ℕ) → fault true rows text ≡ 0 → Sound rows text
+unfolding fault fitFault countsFit
 sound rows text e =
     let a = pick-zero _ _ 90 (omega arith) e in
     let b = pick-zero _ _ 91 (omega arith) (a .1) in

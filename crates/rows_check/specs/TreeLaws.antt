@@ -19,6 +19,15 @@ use Rattle.rows_check.specs.CheckLaws.{number-le, row-span, InPlace, Pla
 
 -- ---- items one after the other
 
+module _ {A : Type 0} (next : ℕ → ℕ) (f : ℕ → A) (q : ℕ) where
+  pub from-none : from next f q 0 ≡ []
+  unfolding from
+  from-none = refl
+
+  pub from-next : (k : ℕ) → from next f q (suc k) ≡ f q ∷ from next f (next q) k
+  unfolding from
+  from-next k = refl
+
 pub length-from : {A : Type 0} (next : ℕ → ℕ) (f : ℕ → A) (k q : ℕ) → length (from next f q k) ≡ k
 unfolding from
 length-from next f zero q = refl
@@ -231,6 +240,20 @@ module _ (table text : List ℕ) where
 pub tree-version : (version : ℕ) (table text : List ℕ) → treeOf version table text .version ≡ version
 unfolding treeOf
 tree-version version table text = refl
+
+-- its records, structs and label defs
+module _ (version : ℕ) (table text : List ℕ) where
+  pub tree-records : treeOf version table text .records ≡ from (nextSection 10 table) (recordOf table text) 0 (kinds table 10)
+  unfolding treeOf
+  tree-records = refl
+
+  pub tree-structs : treeOf version table text .structs ≡ from (nextSection 13 table) (structOf table text) (structsFrom table) (kinds table 13)
+  unfolding treeOf
+  tree-structs = refl
+
+  pub tree-labels : length (treeOf version table text .labels) ≡ kinds table 14
+  unfolding treeOf
+  tree-labels = length-from (nextSection 14 table) (labelDefOf table text) (kinds table 14) (labelsFrom table)
 
 -- nothing is left over
 pub tree-whole : (version : ℕ) (table text : List ℕ) → toLayout (fromLayout (treeOf version table text) .0, []) ≡ treeOf version table text

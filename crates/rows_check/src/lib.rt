@@ -1,4 +1,4 @@
-// Whether rows of nine make a layout, and how long it is: document 01's numbers 90 to 95.
+// What rows of nine make: whether each stands in its place (90), whether they make a layout (91 to 95), and how long it is.
 mod cells;
 mod fits;
 pub mod kinds;
@@ -6,9 +6,13 @@ mod order;
 mod sizes;
 
 ghost use mathlib.Core.Path.{_≡_};
-ghost use Rattle.rows_check.specs.Answers.{sizedOf};
+ghost use mathlib.Core.Bool.{true};
+ghost use Rattle.rows_check.specs.Tree.{rowCount, kinds};
+ghost use Rattle.rows_check.specs.Check.{every, wellFormed};
+ghost use Rattle.rows_check.specs.Answers.{rowGood, sizedOf};
 
-// The length of the layout, and how many records, structs and label defs it has; or the number that refuses the rows.
+// The length of the layout, 0 where it was not asked for, and how many records, structs and label defs it has; or the number
+// that refuses the rows.
 pub enum Sized {
     Length {
         bytes: usize,
@@ -19,9 +23,9 @@ pub enum Sized {
     Refused(u32),
 }
 
-// What the layout of the rows takes, whose names are parts of the text; or 90 to 95.
-pub fn layout_size(rows: &[u32], text: &[u8]) -> Sized
-    ensures { λ r. ⌜ r ≡ sizedOf (now (rows .entry)) (now (text .entry)) ⌝ }
+// What the rows make, whose names are parts of the text; or 90. Where `whole` holds, how long the layout is; or 90 to 95.
+pub fn layout_size(rows: &[u32], text: &[u8], whole: bool) -> Sized
+    ensures { λ r. ⌜ r ≡ sizedOf whole (now (rows .entry)) (now (text .entry)) ⌝ }
 {
     let k = order::kinds_of(rows);
     let r = k.records;
@@ -31,6 +35,24 @@ pub fn layout_size(rows: &[u32], text: &[u8]) -> Sized
     if !order::well_formed(good, rows, text, r, s, l) {
         return Sized::Refused(refusal::ROWS_MALFORMED);
     }
+    if whole {
+        return whole_size(good, rows, text, r, s, l);
+    }
+    Sized::Length {
+        bytes: 0,
+        records: r,
+        structs: s,
+        labels: l,
+    }
+}
+
+// How long the layout is that well-formed rows make; or 91 to 95.
+fn whole_size(good: bool, rows: &[u32], text: &[u8], r: usize, s: usize, l: usize) -> Sized
+    requires { ⌜ (r ≡ kinds (now rows) 10) × ((s ≡ kinds (now rows) 13) × (l ≡ kinds (now rows) 14)) ⌝ }
+    requires { ⌜ good ≡ every (rowGood (now rows) (now text)) 0 (rowCount (now rows)) ⌝ }
+    requires { ⌜ wellFormed (now rows) (now text) ≡ true ⌝ }
+    ensures { λ x. ⌜ x ≡ sizedOf true (now (rows .entry)) (now (text .entry)) ⌝ }
+{
     if !order::counts_fit(good, rows, text, r, s, l) {
         return Sized::Refused(refusal::COUNT_LARGE);
     }

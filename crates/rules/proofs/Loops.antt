@@ -315,24 +315,19 @@ module _ (sheet : List ℕ) (width labels : ℕ) (aligns : List ℕ) (isRecord :
     }
 
   -- ---- the whole sequence
-  module _ (names : ℕ) (src : Source) where
+  module _ (src : Source) {f : ℕ} (said : f ≡ F [] src) where
     abbrev Q : ℕ
-    Q = seqFault sheet width labels aligns isRecord (judged base names (entriesOf l t src))
+    Q = seqFault sheet width labels aligns isRecord (judged base (entriesOf l t src))
 
-    pub seq-70 : (names ≡ src .count → ⊥) → 70 ≡ Q
+    parts : Q ≡ first f (tilingFault isRecord base (entriesOf l t src))
     unfolding seqFault
-    seq-70 n = rw (entries-length l t src, ne-eqb names (src .count) n)
+    parts = rw (← said)
 
-    module _ (even : names ≡ src .count) {f : ℕ} (said : f ≡ F [] src) where
-      parts : Q ≡ first f (tilingFault isRecord base (entriesOf l t src))
-      unfolding seqFault
-      parts = rw (entries-length l t src, eq-eqb names (src .count) even, ← said)
+    pub seq-fields : (f ≡ 0 → ⊥) → f ≡ Q
+    seq-fields n = sym (parts ∙ first-some f _ n)
 
-      pub seq-fields : (f ≡ 0 → ⊥) → f ≡ Q
-      seq-fields n = sym (parts ∙ first-some f _ n)
-
-      pub seq-tiling : f ≡ 0 → {x : ℕ} → x ≡ tilingFault isRecord base (entriesOf l t src) → x ≡ Q
-      seq-tiling z r = sym (parts ∙ first-none f _ z ∙ sym r)
+    pub seq-tiling : f ≡ 0 → {x : ℕ} → x ≡ tilingFault isRecord base (entriesOf l t src) → x ≡ Q
+    seq-tiling z r = sym (parts ∙ first-none f _ z ∙ sym r)
 
 -- ---- clearing
 

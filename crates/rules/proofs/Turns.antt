@@ -1,31 +1,27 @@
 -- What one turn of each loop over the records or structs does, over judged lists. Assumes nothing.
-use Prim.Native.Nat.{ℕ, zero, suc, _+_, _*_, _%_, _≤_, _<_}
+use Prim.Native.Nat.{ℕ, zero, suc, _+_, _%_, _≤_, _<_, min}
 use mathlib.Core.Path.{_≡_, refl, sym, ap, _∙_}
 use mathlib.Core.Bool.{Bool, true, false}
 use mathlib.Core.List.{List, [], _∷_, _++_, append-assoc, append-nil}
 use native.Mathlib.Omega.{arith}
-use native.Mathlib.Nat.{add-zero, zero-add}
+use native.Mathlib.Nat.{zero-add}
 use native.Mathlib.Numerals.{add-one}
-use lib.ListN.{length, getD, set, take, drop, length-set}
-use lib.Seq.{take-suc-set, take-all}
-use lib.Dec.{eqb}
+use lib.ListN.{length, getD, set, take, length-set, length-map}
+use lib.Seq.{take-suc-set, take-all, take-at}
 use borrow.Author.Tests.{eq-eqb, ne-eqb, lt-ltb, le-ltb}
 use Rattle.codec.specs.Codec.{among}
-use Rattle.codec.specs.CaseLaws.{by-bool}
+use Rattle.codec.specs.CaseLaws.{by-le}
 use Rattle.marks.specs.Marks.{marked, withMark, Marks}
 use Rattle.marks.specs.MarkLaws.{marks-more}
 use Rattle.rules.specs.declared.Place.{Place}
 use Rattle.rules.specs.declared.Item.{Item}
 use Rattle.rules.specs.declared.Next.{Next}
 use Rattle.rules.specs.declared.Next.the-variants.{Found, End}
-use Rattle.rules.specs.Rules.{Seq, judged, first, structAlign, seqFault, structFault, recordFault, structsFault, recordsFault, alignsOf, seqsFault}
-use Rattle.rules.specs.RowRules.{column, rowsOf, rowSeq, seqsIn}
+use Rattle.rules.specs.Rules.{Seq, judged, first, structAlign, seqFault, structFault, recordFault, structsFault, recordsFault, alignsOf}
 use Rattle.rules.specs.Entries.{entriesOf}
 use Rattle.rules.specs.Ids.{Clean}
-use Rattle.rules.specs.Items.{itemSeq, seqsBy, seqsFrom, Good, Step, Stepped, found, ended}
-use Rattle.rules.specs.LayoutRuleLaws.{sections-length}
+use Rattle.rules.specs.Items.{itemSeq, nextAt, seqsBy, seqsFrom, Good, Step, Stepped, found, ended, firstAligns, faultOf}
 use Rattle.rules.proofs.Loops.{first-none, first-some}
-use Rattle.rules.proofs.Walks.{rows-length}
 
 module _ {l t : List ℕ} {isRecord : Bool} {p : Place} {r : Next} (s : Stepped l t isRecord p r) where
   pub step-found : {i : Item} {p′ : Place} → r ≡ Found i p′ → Step l t isRecord p i p′
@@ -44,43 +40,14 @@ module _ {l t : List ℕ} {isRecord : Bool} {p : Place} {r : Next} (s : Stepped 
 pub step-less : {l t : List ℕ} {isRecord : Bool} {p : Place} {i : Item} {p′ : Place} → Step l t isRecord p i p′ → length (seqsFrom l t isRecord p′) < length (seqsFrom l t isRecord p)
 step-less {l} {t} {isRecord} {p′ = p′} v = rw (v .seqs) (let q : length (seqsFrom l t isRecord p′) < suc (length (seqsFrom l t isRecord p′)) = omega arith in q)
 
--- ---- the count
-
-seqs-few : (isRecord : Bool) (k : ℕ) (rs : List (List ℕ)) → length (seqsIn isRecord k rs) ≤ length rs
-unfolding seqsIn
-seqs-few isRecord zero [] = omega arith
-seqs-few isRecord (suc k) [] = omega arith
-seqs-few isRecord (suc k) (r ∷ rs) = let h = seqs-few isRecord k rs in omega arith
-seqs-few isRecord zero (r ∷ rs) =
-    let h = seqs-few isRecord (length (rowSeq isRecord r rs .entries) + rowSeq isRecord r rs .names) rs in
-    let g = seqs-few isRecord zero rs in
-    by-bool (eqb (getD r 0 0) (column isRecord 10 13)) (λ e. rw e (omega arith)) (λ e. rw e (omega arith))
-
-pub few : (l t : List ℕ) (isRecord : Bool) (p : Place) → length (seqsFrom l t isRecord p) ≤ p .left
+-- as many as are left
+seqs-length : (l t : List ℕ) (isRecord : Bool) (p : Place) → length (seqsFrom l t isRecord p) ≡ p .left
 unfolding seqsFrom
-few l t isRecord p = go (p .rows)
+seqs-length l t isRecord p = go (p .left) (p .at)
   where
-    go : (b : Bool) → length (seqsBy isRecord l t b (p .at) (p .left)) ≤ p .left
-    go true = let h = seqs-few isRecord 0 (rowsOf (p .left) (drop (9 * p .at) t)) in let g = rows-length (p .left) (drop (9 * p .at) t) in omega arith
-    go false = let h = sections-length isRecord l t (p .left) (p .at) in omega arith
-
-module _ (l t : List ℕ) (isRecord : Bool) where
-  pub record Counted (place p : Place) (n : ℕ) : Type 0 where
-    pub good : Good l t isRecord p
-    pub same : n + length (seqsFrom l t isRecord p) ≡ length (seqsFrom l t isRecord place)
-
-  pub count-on : {place p p′ : Place} {i : Item} {n : ℕ} → Counted place p n → Step l t isRecord p i p′ → Counted place p′ (n + 1)
-  count-on {place} {p} {p′} {i} {n} v s =
-      let h : length (seqsFrom l t isRecord p) ≡ suc (length (seqsFrom l t isRecord p′)) = ap length (s .seqs) in
-      record { good = s .good; same = omega (arith, v .same) }
-
-  pub count-room : {place p p′ : Place} {i : Item} {n : ℕ} → Counted place p n → Step l t isRecord p i p′ → n + 1 ≤ place .left
-  count-room {place} {p} {p′} {i} {n} v s =
-      let h : length (seqsFrom l t isRecord p) ≡ suc (length (seqsFrom l t isRecord p′)) = ap length (s .seqs) in
-      omega (arith, v .same, few l t isRecord place)
-
-  pub count-done : {place p : Place} {n : ℕ} → Counted place p n → seqsFrom l t isRecord p ≡ [] → n ≡ length (seqsFrom l t isRecord place)
-  count-done {place} {p} {n} v e = sym (add-zero n) ∙ (rw e at (v .same))
+    go : (n at : ℕ) → length (seqsBy isRecord l t (p .rows) at n) ≡ n
+    go zero at = refl
+    go (suc n) at = ap suc (go n (nextAt isRecord l t (p .rows) at))
 
 -- ---- the alignments
 
@@ -90,12 +57,12 @@ module _ (sheet l t : List ℕ) where
 
   pub record Filling (place p : Place) (k : ℕ) (xs : List ℕ) : Type 0 where
     pub good : Good l t false p
-    pub size : length xs ≡ length (seqsFrom l t false place)
-    pub left : k + length (seqsFrom l t false p) ≡ length xs
+    pub size : length xs ≡ min (place .left) 65536
+    pub left : k + length (seqsFrom l t false p) ≡ place .left
     pub same : take k xs ++ A p ≡ A place
 
-  pub filling : (place : Place) (xs : List ℕ) → Good l t false place → length xs ≡ length (seqsFrom l t false place) → Filling place place 0 xs
-  filling place xs g e = record { good = g; size = e; left = zero-add (length (seqsFrom l t false place)) ∙ sym e; same = refl }
+  pub filling : (place : Place) (xs : List ℕ) → Good l t false place → length xs ≡ min (place .left) 65536 → Filling place place 0 xs
+  filling place xs g e = record { good = g; size = e; left = zero-add (length (seqsFrom l t false place)) ∙ seqs-length l t false place; same = refl }
 
   pub fill-on : {place p p′ : Place} {i : Item} {k : ℕ} {xs xs′ : List ℕ} {a : ℕ} → Filling place p k xs → k < length xs → Step l t false p i p′
       → a ≡ structAlign sheet (entriesOf l t (i .entries)) → xs′ ≡ set xs k a → Filling place p′ (k + 1) xs′
@@ -109,20 +76,28 @@ module _ (sheet l t : List ℕ) where
         same = rw (w, add-one k, take-suc-set xs k a h, append-assoc) (rw (e) (rw (s .seqs) at (v .same)));
       }
 
-  pub fill-done : {place p : Place} {k : ℕ} {xs : List ℕ} → Filling place p k xs → length xs ≤ k → xs ≡ A place
-  fill-done {place} {p} {k} {xs} v h = go (seqsFrom l t false p) refl
+  pub fill-done : {place p : Place} {k : ℕ} {xs : List ℕ} → Filling place p k xs → length xs ≤ k → xs ≡ take 65536 (A place)
+  fill-done {place} {p} {k} {xs} v h =
+      let same : xs ++ A p ≡ A place = ap (λ (x : List ℕ). x ++ A p) (sym (take-all k xs h)) ∙ v .same in
+      let n : length (A p) ≡ length (seqsFrom l t false p) = length-map (seqsFrom l t false p) (λ (q : Seq). structAlign sheet (q .entries)) in
+      by-le (place .left) 65536
+      (λ few.
+      let none : length (A p) ≤ 0 = omega (arith, v .size, v .left) in
+      let all : xs ≡ A place = sym (append-nil xs) ∙ ap (λ (x : List ℕ). xs ++ x) (sym (nil-of (A p) none)) ∙ same in
+      all ∙ sym (take-all 65536 (A place) (omega (arith, ap length all, v .size))))
+      (λ many. sym (ap (take 65536) (sym same) ∙ take-at xs (A p) 65536 (omega (arith, v .size))))
     where
-      go : (qs : List Seq) → seqsFrom l t false p ≡ qs → xs ≡ A place
-      go [] e = sym (append-nil xs) ∙ ap (λ (x : List ℕ). x ++ []) (sym (take-all k xs h)) ∙ (rw e at (v .same))
-      go (q ∷ qs) e = absurd (let n : length (seqsFrom l t false p) ≡ suc (length qs) = ap length e in let z : ⊥ = omega (arith, v .left) in z)
+      nil-of : (x : List ℕ) → length x ≤ 0 → x ≡ []
+      nil-of [] h = refl
+      nil-of (y ∷ x) h = absurd (let z : ⊥ = omega arith in z)
 
-  pub fill-end : {place p : Place} {k : ℕ} {xs : List ℕ} → Filling place p k xs → seqsFrom l t false p ≡ [] → xs ≡ A place
-  fill-end {place} {p} {k} {xs} v e = fill-done v (let n : length (seqsFrom l t false p) ≡ 0 = ap length e in omega (arith, v .left))
+  pub fill-end : {place p : Place} {k : ℕ} {xs : List ℕ} → Filling place p k xs → seqsFrom l t false p ≡ [] → xs ≡ take 65536 (A place)
+  fill-end {place} {p} {k} {xs} v e = fill-done v (let n : length (seqsFrom l t false p) ≡ 0 = ap length e in omega (arith, v .left, v .size))
 
 -- ---- one struct, one record
 
 module _ (sheet : List ℕ) (width labels : ℕ) (aligns l t : List ℕ) where
-  seq-judged : (isRecord : Bool) (q : Seq) → seqFault sheet width labels aligns isRecord (judged (q .base) (q .names) (q .entries)) ≡ seqFault sheet width labels aligns isRecord q
+  seq-judged : (isRecord : Bool) (q : Seq) → seqFault sheet width labels aligns isRecord (judged (q .base) (q .entries)) ≡ seqFault sheet width labels aligns isRecord q
   unfolding seqFault
   seq-judged isRecord q = refl
 
@@ -131,7 +106,7 @@ module _ (sheet : List ℕ) (width labels : ℕ) (aligns l t : List ℕ) where
     unfolding structFault
     struct-60 n = rw (← al, ne-eqb (i .base % a) 0 n)
 
-    pub struct-is : i .base % a ≡ 0 → {r : ℕ} → r ≡ seqFault sheet width labels aligns false (judged (i .base) (i .names) (entriesOf l t (i .entries))) → r ≡ structFault sheet width labels aligns (itemSeq l t i)
+    pub struct-is : i .base % a ≡ 0 → {r : ℕ} → r ≡ seqFault sheet width labels aligns false (judged (i .base) (entriesOf l t (i .entries))) → r ≡ structFault sheet width labels aligns (itemSeq l t i)
     unfolding structFault
     struct-is z e = rw (← al, eq-eqb (i .base % a) 0 z) (e ∙ seq-judged false (itemSeq l t i))
 
@@ -155,7 +130,7 @@ module _ (sheet : List ℕ) (width labels : ℕ) (aligns l t : List ℕ) where
           unfolding recordFault
           record-64 h = rw (h1, ne-eqb (i .rtype % 256) 78 h2, le-ltb (i .base) (getD sheet 518 0) h3, ne-eqb (i .base % 8) 0 h)
 
-          pub record-is : i .base % 8 ≡ 0 → {r : ℕ} → r ≡ seqFault sheet width labels aligns true (judged (i .base) (i .names) (entriesOf l t (i .entries))) → r ≡ recordFault sheet width labels aligns twice (itemSeq l t i)
+          pub record-is : i .base % 8 ≡ 0 → {r : ℕ} → r ≡ seqFault sheet width labels aligns true (judged (i .base) (entriesOf l t (i .entries))) → r ≡ recordFault sheet width labels aligns twice (itemSeq l t i)
           unfolding recordFault
           record-is h e = rw (h1, ne-eqb (i .rtype % 256) 78 h2, le-ltb (i .base) (getD sheet 518 0) h3, eq-eqb (i .base % 8) 0 h) (e ∙ seq-judged true (itemSeq l t i))
 
@@ -222,11 +197,9 @@ module _ (sheet : List ℕ) (width labels : ℕ) (aligns l t : List ℕ) where
 
 -- ---- structs first, then records
 
-module _ (sheet : List ℕ) (width labels : ℕ) (structs records : List Seq) {aligns : List ℕ} (al : aligns ≡ alignsOf sheet structs) {a : ℕ} (e : a ≡ structsFault sheet width labels aligns structs) where
-  pub all-structs : (a ≡ 0 → ⊥) → a ≡ seqsFault sheet width structs records labels
-  unfolding seqsFault
+module _ (sheet : List ℕ) (width labels : ℕ) (structs records : List Seq) {aligns : List ℕ} (al : aligns ≡ firstAligns sheet structs) {a : ℕ} (e : a ≡ structsFault sheet width labels aligns structs) where
+  pub all-structs : (a ≡ 0 → ⊥) → a ≡ faultOf sheet width labels structs records
   all-structs n = sym (rw (← al, ← e) (first-some a _ n))
 
-  pub all-records : a ≡ 0 → {b : ℕ} → b ≡ recordsFault sheet width labels aligns [] records → b ≡ seqsFault sheet width structs records labels
-  unfolding seqsFault
+  pub all-records : a ≡ 0 → {b : ℕ} → b ≡ recordsFault sheet width labels aligns [] records → b ≡ faultOf sheet width labels structs records
   all-records z {b} q = sym (rw (← al, ← e, ← q) (first-none a b z))

@@ -19,6 +19,7 @@ use Rattle.plain_tiling.specs.Owners.{owners, Tiled, Placed}
 use Rattle.plain_tiling.specs.MarkingLaws.{placed-wide}
 use Rattle.plain_tiling.specs.PlainLaws.{base-walk, ext-walk, base-means, ext-means}
 use Rattle.rules.specs.Rules.{Seq, first, noted, spans, baseFault, extFault, tilingFault, fieldsFault, seqFault}
+use Rattle.rules.specs.RuleLaws.{halves}
 use Rattle.rules.specs.Engines.{Passed, Markable, EndBelow, Tiles, seqByMarks}
 
 module _ {isRecord : Bool} {base : ℕ} where
@@ -41,9 +42,6 @@ module _ {isRecord : Bool} {base : ℕ} where
           by-bool (pastBase isRecord base f)
           (λ d. rw d (let q = rw d at p in (record { from = q .0 .from; some = q .0 .some; to = omega (arith, b .0) }, high-to fs (q .1) (b .1))))
           (λ d. rw d (high-to fs (rw d at p) (b .1)))
-
-halves : (a b : ℕ) → first a b ≡ 0 → (a ≡ 0) × (b ≡ 0)
-halves a b h = by-bool (eqb a 0) (λ t. (eqb-true a 0 t, rw t at h)) (λ t. absurd (eqb-false a 0 t (rw t at h)))
 
 module _ (sheet : List ℕ) (width labels : ℕ) (aligns : List ℕ) (isRecord : Bool) (base : ℕ) where
   some-end : (seen : Bool) (e : List ℕ) → fieldFault sheet width labels aligns isRecord base seen e ≡ 0 → offOf e < endOf e
@@ -98,12 +96,12 @@ module _ (sheet : List ℕ) (width labels : ℕ) (aligns : List ℕ) where
       (λ t e. let i = passed sheet width labels aligns isRecord (q .base) [] (q .entries) small e in rw (base-engines i, ext-engines i))
       (λ t _. rw t)
 
-  -- THE MEANING of 81 to 83: a record or a struct that passed 70 to 80 has none of them exactly where its entries tile
-  pub seq-exactly : (isRecord : Bool) (q : Seq) → q .base < 65536 → q .names ≡ length (q .entries) → fieldsFault sheet width labels aligns isRecord (q .base) [] (q .entries) ≡ 0
+  -- THE MEANING of 81 to 83: a record or a struct that passed 71 to 80 has none of them exactly where its entries tile
+  pub seq-exactly : (isRecord : Bool) (q : Seq) → q .base < 65536 → fieldsFault sheet width labels aligns isRecord (q .base) [] (q .entries) ≡ 0
       → (seqFault sheet width labels aligns isRecord q ≡ 0) ↔ Tiles isRecord (q .base) (q .entries)
   unfolding seqFault tilingFault
-  seq-exactly isRecord q small even fine =
-      rw (eq-eqb (q .names) (length (q .entries)) even, eq-eqb (fieldsFault sheet width labels aligns isRecord (q .base) [] (q .entries)) 0 fine) (there, back)
+  seq-exactly isRecord q small fine =
+      rw (eq-eqb (fieldsFault sheet width labels aligns isRecord (q .base) [] (q .entries)) 0 fine) (there, back)
     where
       i : Passed isRecord (q .base) (q .entries)
       i = passed sheet width labels aligns isRecord (q .base) [] (q .entries) small fine

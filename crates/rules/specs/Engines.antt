@@ -35,10 +35,9 @@ pub record Tiles (isRecord : Bool) (base : ℕ) (es : List (List ℕ)) : Type 0 
   pub end : ℕ
   pub high : Tiled base end (spans isRecord base true es)
 
--- 70 to 83 with the marks for 81 to 83
+-- 71 to 83 with the marks for 81 to 83
 module _ (sheet : List ℕ) (width labels : ℕ) (aligns : List ℕ) where
   unfoldable pub seqByMarks : Bool → Seq → ℕ
   seqByMarks isRecord q =
-      faultIf (not (eqb (q .names) (length (q .entries)))) 70
-      (first (fieldsFault sheet width labels aligns isRecord (q .base) [] (q .entries))
-      (first (baseByMarks (q .base) (spans isRecord (q .base) false (q .entries))) (extByMarks (q .base) (spans isRecord (q .base) true (q .entries)))))
+      first (fieldsFault sheet width labels aligns isRecord (q .base) [] (q .entries))
+      (first (baseByMarks (q .base) (spans isRecord (q .base) false (q .entries))) (extByMarks (q .base) (spans isRecord (q .base) true (q .entries))))

@@ -2,24 +2,14 @@
 use Prim.Native.Nat.{ℕ, zero, suc, _+_, _-_, _*_, _≤_, _<_}
 use native.Mathlib.Nat.{mul-suc, add-comm}
 use native.Mathlib.Omega.{arith}
-use mathlib.Core.Path.{_≡_, refl, ap, ap₂, _∙_}
+use mathlib.Core.Path.{_≡_, refl, ap, _∙_}
 use mathlib.Core.Bool.{true, false, cond}
 use mathlib.Core.List.{List, [], _∷_}
 use lib.ListN.{length, take, drop}
-use lib.Seq.{drop-drop}
 use Rattle.rules.specs.declared.Source.{Source}
 use Rattle.entry.specs.Entry.{entryBytes, rowBytes}
 use Rattle.entry.specs.EntryLaws.{entry-bytes-alone, row-bytes-alone}
-use Rattle.rules.specs.RowRules.{rowsOf}
 use Rattle.rules.specs.Entries.{entryAt, entriesAt, entryOf, entriesOf, restOf, InSlice}
-
--- the first of n rows, and the rest
-pub rows-step : (t : List ℕ) (a n : ℕ) → 0 < n → rowsOf n (drop a t) ≡ take 9 (drop a t) ∷ rowsOf (n - 1) (drop (a + 9) t)
-unfolding rowsOf
-rows-step t a zero h = absurd (let z : ⊥ = omega arith in z)
-rows-step t a (suc n) h =
-    let k : n ≡ suc n - 1 = omega arith in
-    ap₂ (λ (u : List ℕ) (m : ℕ). take 9 (drop a t) ∷ rowsOf m u) (drop-drop 9 a t) k
 
 -- n entries are one and n - 1 more
 pub mul-step : (d n : ℕ) → 0 < n → d * n ≡ d + d * (n - 1)

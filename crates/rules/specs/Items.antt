@@ -1,28 +1,32 @@
--- Records and structs where they stand, one by one: in the sections of a layout, or in rows.
+-- Records and structs where they stand, one by one: in the sections of a layout, or in rows that are in their places.
 -- Assumes nothing.
-use Prim.Native.Nat.{ℕ, zero, suc, _+_, _-_, _*_, _%_, _≤_, _<_, min}
+use Prim.Native.Nat.{ℕ, zero, suc, _+_, _*_, _≤_, _<_}
 use mathlib.Core.Path.{_≡_}
 use mathlib.Core.Bool.{Bool, true, false, cond}
 use mathlib.Core.List.{List, [], _∷_}
-use lib.ListN.{length, getD, drop}
+use lib.ListN.{length, take}
 use Rattle.numbers.specs.Numbers.{le16}
 use Rattle.layout.specs.LayoutOf.{D}
+use Rattle.layout.specs.PlaceLaws.{countAt}
+use Rattle.rows_check.specs.Tree.{cell, nextSection}
 use Rattle.rules.specs.declared.Place.{Place}
 use Rattle.rules.specs.declared.Task.{Task}
 use Rattle.rules.specs.declared.Item.{Item}
 use Rattle.rules.specs.declared.Next.{Next}
 use Rattle.rules.specs.declared.Next.the-variants.{Found, End}
-use Rattle.rules.specs.Rules.{Seq, seqsFault}
-use Rattle.rules.specs.RowRules.{column, rowsOf, seqsIn}
+use Rattle.rules.specs.Rules.{Seq, first, structsFault, recordsFault, alignsOf}
 use Rattle.rules.specs.Entries.{entriesOf, InSlice}
-use Rattle.layout.specs.PlaceLaws.{countAt}
+
+-- what a record has, or else a struct
+abbrev pub column : Bool → ℕ → ℕ → ℕ
+column isRecord r s = cond isRecord r s
 
 abbrev pub kindOf : Bool → ℕ
 kindOf isRecord = column isRecord 10 13
 
 -- what an item is to the rules
 abbrev pub itemSeq : List ℕ → List ℕ → Item → Seq
-itemSeq l t i = record { rtype = i .rtype; base = i .base; names = i .names; entries = entriesOf l t (i .entries) }
+itemSeq l t i = record { rtype = i .rtype; base = i .base; entries = entriesOf l t (i .entries) }
 
 -- ---- sections
 
@@ -38,7 +42,6 @@ unfoldable pub sectionItem : Bool → List ℕ → ℕ → Item
 sectionItem isRecord s at = record {
   rtype = cond isRecord (le16 s (at + 2)) 0;
   base = le16 s (at + column isRecord 6 2);
-  names = le16 s (countIn isRecord s at);
   entries = record { rows = false; step = D; at = countIn isRecord s at + 2; count = le16 s (countIn isRecord s at) };
 }
 
@@ -47,44 +50,63 @@ pub record SectionInside (isRecord : Bool) (s : List ℕ) (at : ℕ) : Type 0 wh
   pub fields : countIn isRecord s at + 2 + D * le16 s (countIn isRecord s at) ≤ at + le16 s at
   pub inside : at + le16 s at ≤ length s
 
-module _ (isRecord : Bool) (l t : List ℕ) where
-  abbrev pub sectionSeqs : ℕ → ℕ → List Seq
-  sectionSeqs at zero = []
-  sectionSeqs at (suc n) = itemSeq l t (sectionItem isRecord l at) ∷ sectionSeqs (at + le16 l at) n
-
-  abbrev pub Stand : ℕ → ℕ → Type 0
-  Stand at zero = Unit {0}
-  Stand at (suc n) = SectionInside isRecord l at × Stand (at + le16 l at) n
-
 -- ---- rows
 
--- the record or struct of row q, of which, with the rows after it, there are `left`
-unfoldable pub rowItem : Bool → List ℕ → ℕ → ℕ → Item
-rowItem isRecord t q left =
-    let count = getD t (9 * q + column isRecord 6 4) 0 % 65536 in
-    record {
-      rtype = cond isRecord (getD t (9 * q + 3) 0 % 65536) 0;
-      base = getD t (9 * q + column isRecord 5 3) 0 % 65536;
-      names = min count (left - 1 - min count (left - 1));
-      entries = record { rows = true; step = 9; at = 9 * q + 9; count = min count (left - 1) };
-    }
+-- how many fields the record or struct of row q has
+abbrev pub fieldsIn : Bool → List ℕ → ℕ → ℕ
+fieldsIn isRecord t q = cell t q (column isRecord 6 4)
+
+-- the record or struct of row q
+unfoldable pub rowItem : Bool → List ℕ → ℕ → Item
+rowItem isRecord t q = record {
+  rtype = cond isRecord (cell t q 3) 0;
+  base = cell t q (column isRecord 5 3);
+  entries = record { rows = true; step = 9; at = 9 * q + 9; count = fieldsIn isRecord t q };
+}
+
+-- its rows and those of its fields and names lie within t, and its numbers fit
+pub record RowInside (isRecord : Bool) (t : List ℕ) (q : ℕ) : Type 0 where
+  pub rtype : cond isRecord (cell t q 3) 0 < 65536
+  pub base : cell t q (column isRecord 5 3) < 65536
+  pub inside : 9 * nextSection (kindOf isRecord) t q ≤ length t
 
 -- ---- both
 
-abbrev pub seqsBy : Bool → List ℕ → List ℕ → Bool → ℕ → ℕ → List Seq
-seqsBy isRecord l t true at left = seqsIn isRecord 0 (rowsOf left (drop (9 * at) t))
-seqsBy isRecord l t false at left = sectionSeqs isRecord l t at left
+module _ (isRecord : Bool) (l t : List ℕ) where
+  -- the record or struct at a place of the rows, or of the layout's bytes, and the place after it
+  abbrev pub itemAt : Bool → ℕ → Item
+  itemAt rows at = cond rows (rowItem isRecord t at) (sectionItem isRecord l at)
+
+  abbrev pub nextAt : Bool → ℕ → ℕ
+  nextAt rows at = cond rows (nextSection (kindOf isRecord) t at) (at + le16 l at)
+
+  abbrev pub InsideAt : Bool → ℕ → Type 0
+  InsideAt true at = RowInside isRecord t at
+  InsideAt false at = SectionInside isRecord l at
+
+  -- n of them from a place on
+  abbrev pub seqsBy : Bool → ℕ → ℕ → List Seq
+  seqsBy rows at zero = []
+  seqsBy rows at (suc n) = itemSeq l t (itemAt rows at) ∷ seqsBy rows (nextAt rows at) n
+
+  abbrev pub Stand : Bool → ℕ → ℕ → Type 0
+  Stand rows at zero = Unit {0}
+  Stand rows at (suc n) = InsideAt rows at × Stand rows (nextAt rows at) n
+
+  -- the place after n of them
+  abbrev pub endBy : Bool → ℕ → ℕ → ℕ
+  endBy rows at zero = at
+  endBy rows at (suc n) = endBy rows (nextAt rows at) n
 
 unfoldable pub seqsFrom : List ℕ → List ℕ → Bool → Place → List Seq
 seqsFrom l t isRecord p = seqsBy isRecord l t (p .rows) (p .at) (p .left)
 
-abbrev pub GoodBy : Bool → List ℕ → List ℕ → Bool → ℕ → ℕ → Type 0
-GoodBy isRecord l t true at left = 9 * (at + left) ≤ length t
-GoodBy isRecord l t false at left = Stand isRecord l t at left
+unfoldable pub endFrom : List ℕ → List ℕ → Bool → Place → ℕ
+endFrom l t isRecord p = endBy isRecord l t (p .rows) (p .at) (p .left)
 
 -- all that is to come lies within its slice
 unfoldable pub Good : List ℕ → List ℕ → Bool → Place → Type 0
-Good l t isRecord p = GoodBy isRecord l t (p .rows) (p .at) (p .left)
+Good l t isRecord p = Stand isRecord l t (p .rows) (p .at) (p .left)
 
 -- one item, and what comes after it
 pub record Step (l t : List ℕ) (isRecord : Bool) (p : Place) (i : Item) (p′ : Place) : Type 0 where
@@ -97,12 +119,19 @@ pub data Stepped (l t : List ℕ) (isRecord : Bool) (p : Place) : Next → Type 
   found : {i : Item} {p′ : Place} → Step l t isRecord p i p′ → Stepped l t isRecord p (Found i p′)
   ended : seqsFrom l t isRecord p ≡ [] → Stepped l t isRecord p End
 
--- n structs and the records, all within their slices
-pub record Ready (l t : List ℕ) (structs : Place) (n : ℕ) (records : Place) : Type 0 where
+-- the structs and the records, all within their slices
+pub record Ready (l t : List ℕ) (structs records : Place) : Type 0 where
   pub structs-good : Good l t false structs
   pub records-good : Good l t true records
-  pub count : n ≡ length (seqsFrom l t false structs)
 
--- the number that a task gives: structs first, then records
+-- the alignments of the first 65,536 structs: no def index names a later one
+abbrev pub firstAligns : List ℕ → List Seq → List ℕ
+firstAligns sheet structs = take 65536 (alignsOf sheet structs)
+
+-- with these, the number that structs and records give, structs first
+abbrev pub faultOf : List ℕ → ℕ → ℕ → List Seq → List Seq → ℕ
+faultOf sheet width labels structs records =
+    first (structsFault sheet width labels (firstAligns sheet structs) structs) (recordsFault sheet width labels (firstAligns sheet structs) [] records)
+
 abbrev pub taskFault : List ℕ → List ℕ → List ℕ → Task → ℕ
-taskFault sheet l t k = seqsFault sheet (k .how .width) (seqsFrom l t false (k .structs)) (seqsFrom l t true (k .records)) (k .how .labels)
+taskFault sheet l t k = faultOf sheet (k .how .width) (k .how .labels) (seqsFrom l t false (k .structs)) (seqsFrom l t true (k .records))

@@ -1,7 +1,8 @@
 pub mod Rules
 pub mod RuleLaws
 pub mod RowRules
-pub mod RowFit
+pub mod RowRuleLaws
+pub mod AlignLaws
 pub mod RowLaws
 pub mod Entries
 pub mod EntryLaws
@@ -14,7 +15,5 @@ pub mod Tried
 pub mod TriedLaws
 pub mod Engines
 pub mod EngineLaws
-pub mod Check
-pub mod CheckLaws
 pub mod RefusalLaws
 pub mod Single

@@ -1,13 +1,11 @@
 -- Which numbers the rules give, of a layout and of rows.
 -- Assumes nothing.
-use Prim.Native.Nat.{ℕ, _%_, _/_}
-use native.Mathlib.Omega.{arith}
-use mathlib.Core.Path.{_≡_, refl, subst}
+use Prim.Native.Nat.{ℕ, _%_}
+use mathlib.Core.Path.{_≡_, refl, sym, subst, _∙_}
 use mathlib.Core.Bool.{Bool, true, false, not, cond}
 use mathlib.Core.List.{List, [], _∷_, map}
 use lib.ListN.{length, getD}
 use lib.Dec.{ltb, eqb}
-use borrow.Author.Tests.{eqb-false}
 use Rattle.codec.specs.Codec.{ok, _>>=_, need, among}
 use Rattle.codec.specs.Refusals.{Gives, In, Fault}
 use Rattle.codec.specs.RefusalLaws.{in-more, gives-more, gives-is, gives-then, gives-judged, fault-by}
@@ -20,10 +18,14 @@ use Rattle.layout.specs.LayoutOf.{layoutOf}
 use Rattle.layout.specs.Answers.{layoutNumbers, verdict}
 use Rattle.layout.specs.AnswerLaws.{verdict-no}
 use Rattle.layout.specs.RefusalLaws.{layout-gives}
-use Rattle.layout.specs.declared.Verdict.the-variants.{Accepted, Refused}
+use Rattle.layout.specs.declared.Verdict.the-variants.{Refused}
+use Rattle.rows_check.specs.Tree.{treeOf}
+use Rattle.rows_check.specs.Check.{faultNumbers, fault}
+use Rattle.rows_check.specs.RefusalLaws.{check-fault}
+use Rattle.rows_check.specs.AnswerLaws.{refused-told}
+use Rattle.rows_check.specs.declared.Sized.the-variants as Sized'
 use Rattle.rules.specs.Rules.{first, ruleNumbers, Seq, noted, spans, baseFault, extFault, tilingFault, structAlign, fieldsFault, seqFault, structFault, recordFault, structsFault, recordsFault, alignsOf, seqsFault, structSeq, recordSeq, rulesOf, ruledNumbers, ruledOf}
-use Rattle.rules.specs.RowRules.{rowsOf, seqsIn, kindRows, rowRuleNumbers, rowsRules}
-use Rattle.rules.specs.Check.{asVerdict, checkNumbers, ruling}
+use Rattle.rules.specs.RowRules.{rowRuleNumbers, rowsRules, rowsFault, ruledRows}
 
 module _ (P : ℕ → Type 0) where
   first-fault : (a b : ℕ) → Fault P a → Fault P b → Fault P (first a b)
@@ -60,9 +62,8 @@ module _ (P : ℕ → Type 0) where
       seq-fault : (isRecord : Bool) (q : Seq) → Fault P (seqFault sheet width labels aligns isRecord q)
       unfolding seqFault
       seq-fault isRecord q =
-          broken-fault (not (eqb (q .names) (length (q .entries)))) 70 (first (fieldsFault sheet width labels aligns isRecord (q .base) [] (q .entries)) (tilingFault isRecord (q .base) (q .entries))) (h 70 refl)
-          (first-fault (fieldsFault sheet width labels aligns isRecord (q .base) [] (q .entries)) (tilingFault isRecord (q .base) (q .entries))
-          (fields-fault isRecord (q .base) [] (q .entries)) (tiling-fault isRecord (q .base) (q .entries)))
+          first-fault (fieldsFault sheet width labels aligns isRecord (q .base) [] (q .entries)) (tilingFault isRecord (q .base) (q .entries))
+          (fields-fault isRecord (q .base) [] (q .entries)) (tiling-fault isRecord (q .base) (q .entries))
 
       struct-fault : (q : Seq) → Fault P (structFault sheet width labels aligns q)
       unfolding structFault
@@ -102,13 +103,9 @@ module _ (P : ℕ → Type 0) where
     unfolding rulesOf
     rules-fault sheet width t = seqs-fault sheet width (map structSeq (t .1 .1 .0)) (map recordSeq (t .1 .0)) (length (t .1 .1 .1))
 
-    pub rows-fault : (sheet : List ℕ) (width : ℕ) (t : List ℕ) → P 91 → Fault P (rowsRules sheet width t)
+    pub rows-fault : (sheet : List ℕ) (width : ℕ) (rows text : List ℕ) → Fault P (rowsRules sheet width rows text)
     unfolding rowsRules
-    rows-fault sheet width t p =
-        let rs = rowsOf (length t / 9) t in
-        let structs = seqsIn false 0 rs in
-        let records = seqsIn true 0 rs in
-        broken-fault (ltb 65535 (length structs)) 91 (seqsFault sheet width structs records (kindRows 14 rs)) p (seqs-fault sheet width structs records (kindRows 14 rs))
+    rows-fault sheet width rows text = rules-fault sheet width (fromLayout (treeOf 0 rows text) .0)
 
 module _ (sheet : List ℕ) (width : ℕ) where
   pub ruled-gives : (s : List ℕ) → Gives (In ruledNumbers) (ruledOf sheet width s)
@@ -125,22 +122,24 @@ module _ (sheet : List ℕ) (width : ℕ) where
   ruled-refuses s e = gives-is (In ruledNumbers) (ruled-gives s) (verdict-no (ruledOf sheet width s) e)
 
   -- the number of rows that are refused
-  pub rows-refuse : (t : List ℕ) → Fault (In rowRuleNumbers) (rowsRules sheet width t)
-  rows-refuse t = rows-fault (In rowRuleNumbers) (in-more ruleNumbers rowRuleNumbers refl) sheet width t refl
+  pub rows-refuse : (whole : Bool) (rows text : List ℕ) → Fault (In (rowRuleNumbers whole)) (rowsFault sheet width whole rows text)
+  unfolding rowsFault
+  rows-refuse whole rows text =
+      first-fault (In (rowRuleNumbers whole)) (fault whole rows text) (rowsRules sheet width rows text)
+      (λ n. of-form whole (fault whole rows text) (check-fault whole rows text n))
+      (rows-fault (In (rowRuleNumbers whole)) (of-rules whole) sheet width rows text)
+    where
+      of-form : (whole : Bool) (k : ℕ) → In (faultNumbers whole) k → In (rowRuleNumbers whole) k
+      of-form true = in-more (faultNumbers true) (rowRuleNumbers true) refl
+      of-form false = in-more (faultNumbers false) (rowRuleNumbers false) refl
 
--- a number that is a refusal
-refused-number : (n : ℕ) {k : ℕ} → Refused k ≡ asVerdict n → (n ≡ 0 → ⊥) × (n ≡ k)
-unfolding asVerdict
-refused-number n {k} e = go (eqb n 0) refl e
-  where
-    go : (b : Bool) → eqb n 0 ≡ b → Refused k ≡ cond b (Accepted 0 0) (Refused n) → (n ≡ 0 → ⊥) × (n ≡ k)
-    go true z e = let q : _≡_ {A = ℕ} 0 1 = cc in absurd (omega arith)
-    go false z e = let q : n ≡ k = cc in (eqb-false n 0 z, q)
+      of-rules : (whole : Bool) (k : ℕ) → In ruleNumbers k → In (rowRuleNumbers whole) k
+      of-rules true = in-more ruleNumbers (rowRuleNumbers true) refl
+      of-rules false = in-more ruleNumbers (rowRuleNumbers false) refl
 
--- what the one public function refuses with
-pub check-refuses : (sheet : List ℕ) (width : ℕ) (s t : List ℕ) (ofRows : Bool) {k : ℕ} → Refused k ≡ ruling sheet width s t ofRows → In checkNumbers k
-unfolding ruling
-check-refuses sheet width s t true {k} e =
-    let (n, q) = refused-number (rowsRules sheet width t) e in
-    in-more rowRuleNumbers checkNumbers refl k (subst (In rowRuleNumbers) q (rows-refuse sheet width t n))
-check-refuses sheet width s t false {k} e = in-more ruledNumbers checkNumbers refl k (ruled-refuses sheet width s e)
+  -- what the verdict on rows refuses with
+  pub ruled-rows-refuses : (whole : Bool) (rows text : List ℕ) {k : ℕ} → Sized'.Refused k ≡ ruledRows sheet width whole rows text → In (rowRuleNumbers whole) k
+  unfolding ruledRows
+  ruled-rows-refuses whole rows text {k} e =
+      let (n, f) = refused-told (rowsFault sheet width whole rows text) whole rows text k e in
+      subst (In (rowRuleNumbers whole)) f (rows-refuse whole rows text (λ z. n (sym f ∙ z)))

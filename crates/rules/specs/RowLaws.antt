@@ -1,226 +1,127 @@
--- The rules over the rows of a layout are the rules of the layout. Assumes nothing.
-use Prim.Native.Nat.{ℕ, zero, suc, _+_, _*_, _/_, _%_, _≤_}
-use native.Mathlib.Nat.{zero-add, mod-eq-of-lt}
+-- Rows that are well formed: their records and structs stand where they are looked for, and the rules that are found there are those of
+-- the layout that the rows stand for. Assumes nothing.
+use Prim.Native.Nat.{ℕ, zero, suc, _+_, _-_, _*_, _≤_, _<_}
 use native.Mathlib.Omega.{arith}
 use mathlib.Core.Path.{_≡_, refl, sym, ap, ap₂, _∙_}
-use mathlib.Core.Bool.{Bool, true, false, cond}
-use mathlib.Core.List.{List, [], _∷_, _++_, map, append-assoc, append-nil}
-use lib.ListN.{length, getD, length-append, length-map}
-use lib.Seq.{take-at, drop-at, take-all}
-use lib.Dec.{eqb}
-use borrow.Author.Tests.{eq-eqb, ne-eqb, le-ltb}
-use Rattle.codec.specs.Codec.{Bytes}
-use Rattle.table.specs.Table.{flat, allRows}
-use Rattle.table.specs.TableLaws.{Wide, wide-append, wide-map, wide-all}
-use Rattle.layout.specs.Layout.{Entry, Fields, RecordL, StructL, LabelDef, Parts, toLayout}
-use Rattle.layout.specs.Rows.{headRow, entryRow, nameRow, fieldRows, recordRows, structRows, labelRow, labelDefRows, rows}
+use mathlib.Core.Bool.{Bool, true, false}
+use mathlib.Core.List.{List, [], _∷_, map}
+use lib.ListN.{length}
 use Rattle.entry.specs.Entry.{rowBytes}
-use Rattle.entry.specs.EntryLaws.{numbers-bytes}
-use Rattle.rules.specs.Rules.{Seq, seqOf, structSeq, recordSeq, rulesOf}
+use Rattle.entry.specs.EntryLaws.{row-bytes-small}
+use Rattle.fields.specs.Sheet.{defOf}
+use Rattle.fields.specs.FieldLaws.{def-small}
+use Rattle.layout.specs.Layout.{Entry}
+use Rattle.layout.specs.NameCountLaws.{AllOf}
+use Rattle.rows_check.specs.Tree.{cell, from, after, entryOf, recordOf, structOf, nextSection, skip, kinds, structsFrom, treeOf}
+use Rattle.rows_check.specs.CheckLaws.{InPlace, Places, places-next, Formed, record-fits, struct-fits}
+use Rattle.rows_check.specs.SectionLaws.{count-is, names-after, skip-none, skip-next}
+use Rattle.rows_check.specs.TreeLaws.{from-none, from-next, tree-records, tree-structs, tree-labels}
+use Rattle.rules.specs.declared.Place.{Place}
+use Rattle.rules.specs.Rules.{Seq, alignsOf, seqsFault, structSeq, recordSeq, rulesOf}
+use Rattle.rules.specs.RowRules.{rowsRules}
 use Rattle.rules.specs.RuleLaws.{seq-eq}
-use Rattle.rules.specs.RowFit.{AllOf, FitFields, FitRecord, FitStruct, FitParts}
-use Rattle.rules.specs.RowRules.{column, rowsOf, rowCount, rowSeq, seqsIn, kindRows, rowsRules}
-use Rattle.layout.specs.PlaceLaws.{bytes-11, rows-parts}
+use Rattle.rules.specs.AlignLaws.{DefsBelow, structs-cut, records-cut}
+use Rattle.rules.specs.Entries.{entryAt, entriesAt, entriesOf}
+use Rattle.rules.specs.Items.{kindOf, itemSeq, fieldsIn, rowItem, RowInside, seqsBy, Stand, endBy, seqsFrom, endFrom, Good, Ready, faultOf}
 
--- ---- rows of nine
+-- the row after a record or a struct is past its own, its fields' and their names'
+pub next-is : (isRecord : Bool) (t : List ℕ) (q : ℕ) → nextSection (kindOf isRecord) t q ≡ q + 1 + fieldsIn isRecord t q + fieldsIn isRecord t q
+next-is true t q = ap₂ _+_ (names-after 10 t q refl ∙ ap (λ (n : ℕ). q + 1 + n) (count-is 10 t q)) (count-is 10 t q)
+next-is false t q = ap₂ _+_ (names-after 13 t q refl ∙ ap (λ (n : ℕ). q + 1 + n) (count-is 13 t q)) (count-is 13 t q)
 
-rows-flat : (rs : List (List ℕ)) → Wide 9 rs → rowsOf (length rs) (flat rs) ≡ rs
-unfolding rowsOf
-rows-flat [] w = refl
-rows-flat (r ∷ rs) w = ap₂ _∷_ (take-at r (flat rs) 9 (w .0)) (ap (rowsOf (length rs)) (drop-at r (flat rs) 9 (w .0)) ∙ rows-flat rs (w .1))
+module _ (l t : List ℕ) where
+  -- ---- the records and structs of the layout
 
-flat-length : (rs : List (List ℕ)) → Wide 9 rs → length (flat rs) ≡ 9 * length rs
-flat-length [] w = refl
-flat-length (r ∷ rs) w = let h = flat-length rs (w .1) in let l = w .0 in length-append r (flat rs) ∙ omega arith
+  row-entries : (n j : ℕ) → map (λ (e : Entry). e .head) (from after (entryOf t) j n) ≡ entriesAt l t true 9 (9 * j) n
+  unfolding entriesAt entryAt
+  row-entries zero j = ap (map (λ (e : Entry). e .head)) (from-none after (entryOf t) j)
+  row-entries (suc n) j =
+      let nine : 9 * (j + 1) ≡ 9 * j + 9 = omega arith in
+      ap (map (λ (e : Entry). e .head)) (from-next after (entryOf t) j n)
+      ∙ ap (λ (es : List (List ℕ)). rowBytes t (9 * j) ∷ es) (row-entries n (j + 1) ∙ ap (λ (a : ℕ). entriesAt l t true 9 a n) nine)
 
-table-rows : (rs : List (List ℕ)) → Wide 9 rs → rowsOf (length (flat rs) / 9) (flat rs) ≡ rs
-table-rows rs w =
-    let h = flat-length rs w in
-    let n : length (flat rs) / 9 ≡ length rs = omega arith in
-    ap (λ (m : ℕ). rowsOf m (flat rs)) n ∙ rows-flat rs w
+  entries-of : (n q : ℕ) → entriesAt l t true 9 (9 * q + 9) n ≡ map (λ (e : Entry). e .head) (from after (entryOf t) (q + 1) n)
+  entries-of n q =
+      let nine : 9 * (q + 1) ≡ 9 * q + 9 = omega arith in
+      sym (row-entries n (q + 1) ∙ ap (λ (a : ℕ). entriesAt l t true 9 a n) nine)
 
-fields-wide : (f : Fields) → Wide 9 (fieldRows f)
-fields-wide f = wide-append 9 (map entryRow (f .entries)) (map nameRow (f .names)) (wide-map 9 entryRow (λ e. refl) (f .entries)) (wide-map 9 nameRow (λ n. refl) (f .names))
+  module _ (text : List ℕ) where
+    one-record : (q : ℕ) → itemSeq l t (rowItem true t q) ≡ recordSeq (recordOf t text q)
+    unfolding rowItem entriesOf
+    one-record q = seq-eq refl refl (entries-of (cell t q 6) q)
 
--- ---- an entry and its row
+    one-struct : (q : ℕ) → itemSeq l t (rowItem false t q) ≡ structSeq (structOf t text q)
+    unfolding rowItem entriesOf
+    one-struct q = seq-eq refl refl (entries-of (cell t q 4) q)
 
-head-back : (h : List ℕ) → length h ≡ 11 → Bytes h → rowBytes (headRow h) 0 ≡ h
-head-back h n b = numbers-bytes h b 11 0 ∙ bytes-11 h 0 (omega arith) ∙ take-all 11 h (omega arith)
+  seqs-are : {A : Type 0} (isRecord : Bool) (part : ℕ → A) (f : A → Seq) → ((q : ℕ) → itemSeq l t (rowItem isRecord t q) ≡ f (part q))
+      → (k q : ℕ) → seqsBy isRecord l t true q k ≡ map f (from (nextSection (kindOf isRecord) t) part q k)
+  seqs-are isRecord part f one zero q = sym (ap (map f) (from-none (nextSection (kindOf isRecord) t) part q))
+  seqs-are isRecord part f one (suc k) q =
+      ap₂ _∷_ (one q) (seqs-are isRecord part f one k (nextSection (kindOf isRecord) t q))
+      ∙ sym (ap (map f) (from-next (nextSection (kindOf isRecord) t) part q k))
 
-heads-back : (es : List Entry) → AllOf (λ (e : Entry). (length (e .head) ≡ 11) × Bytes (e .head)) es → map (λ (r : List ℕ). rowBytes r 0) (map entryRow es) ≡ map (λ e. e .head) es
-heads-back [] v = refl
-heads-back (e ∷ es) v = ap₂ _∷_ (head-back (e .head) (v .0 .0) (v .0 .1)) (heads-back es (v .1))
+  -- ---- their def indices
 
--- ---- rows passed over
+  entries-below : (d a n : ℕ) → AllOf (λ (e : List ℕ). defOf e < 65536) (entriesAt l t true d a n)
+  unfolding entriesAt entryAt
+  entries-below d a zero = tt
+  entries-below d a (suc n) = (def-small (rowBytes t a) (row-bytes-small t a), entries-below d (a + d) n)
 
-Other : ℕ → List ℕ → Type 0
-Other k r = getD r 0 0 ≡ k → ⊥
+  defs-below : (isRecord : Bool) (k q : ℕ) → DefsBelow 65536 (seqsBy isRecord l t true q k)
+  unfolding rowItem entriesOf
+  defs-below isRecord zero q = tt
+  defs-below isRecord (suc k) q = (entries-below 9 (9 * q + 9) (fieldsIn isRecord t q), defs-below isRecord k (nextSection (kindOf isRecord) t q))
 
-all-append : {A : Type 0} (P : A → Type 0) (a b : List A) → AllOf P a → AllOf P b → AllOf P (a ++ b)
-all-append P [] b v w = w
-all-append P (x ∷ a) b v w = (v .0, all-append P a b (v .1) w)
+  -- ---- where they stand
 
-all-map : {A B : Type 0} (P : B → Type 0) (f : A → B) → ((x : A) → P (f x)) → (xs : List A) → AllOf P (map f xs)
-all-map P f h [] = tt
-all-map P f h (x ∷ xs) = (h x, all-map P f h xs)
+  stand : (isRecord : Bool) → ((q : ℕ) → InPlace (kindOf isRecord) t q → RowInside isRecord t q) → (k q : ℕ) → Places (kindOf isRecord) t q k → Stand isRecord l t true q k
+  stand isRecord one zero q p = tt
+  stand isRecord one (suc k) q p =
+      let (a, b) = places-next (kindOf isRecord) t q k p in
+      (one q a, stand isRecord one k (nextSection (kindOf isRecord) t q) b)
 
-all-flat : {A : Type 0} (P : List ℕ → Type 0) (f : A → List (List ℕ)) → ((x : A) → AllOf P (f x)) → (xs : List A) → AllOf P (allRows f xs)
-all-flat P f h [] = tt
-all-flat P f h (x ∷ xs) = all-append P (f x) (allRows f xs) (h x) (all-flat P f h xs)
+  abbrev structsPlace : Place
+  structsPlace = record { rows = true; at = structsFrom t; left = kinds t 13 }
 
-apart : (m k : ℕ) → eqb m k ≡ false → m ≡ k → ⊥
-apart m k e = borrow.Author.Tests.eqb-false m k e
+  abbrev recordsPlace : Place
+  recordsPlace = record { rows = true; at = 0; left = kinds t 10 }
 
-module _ (k : ℕ) (e11 : eqb 11 k ≡ false) (e12 : eqb 12 k ≡ false) where
-  fields-other : (f : Fields) → AllOf (Other k) (fieldRows f)
-  unfolding Other
-  fields-other f = all-append (Other k) (map entryRow (f .entries)) (map nameRow (f .names))
-      (all-map (Other k) entryRow (λ _. apart 11 k e11) (f .entries)) (all-map (Other k) nameRow (λ _. apart 12 k e12) (f .names))
+  end-rows : (n q : ℕ) → endBy true l t true q n ≡ skip 10 t q n
+  end-rows zero q = sym (skip-none 10 t q 0 (omega arith))
+  end-rows (suc n) q =
+      let less : n ≡ suc n - 1 = omega arith in
+      end-rows n (nextSection 10 t q) ∙ ap (skip 10 t (nextSection 10 t q)) less ∙ sym (skip-next 10 t q (suc n) (omega arith))
 
-  structs-other : eqb 13 k ≡ false → (xs : List StructL) → AllOf (Other k) (allRows structRows xs)
-  unfolding Other
-  structs-other e xs = all-flat (Other k) structRows (λ x. (apart 13 k e, fields-other (x .fields))) xs
+  pub records-end : endFrom l t true recordsPlace ≡ structsFrom t
+  unfolding endFrom
+  records-end = end-rows (kinds t 10) 0
 
-  records-other : eqb 10 k ≡ false → (xs : List RecordL) → AllOf (Other k) (allRows recordRows xs)
-  unfolding Other
-  records-other e xs = all-flat (Other k) recordRows (λ x. (apart 10 k e, fields-other (x .fields))) xs
+  module _ (text : List ℕ) (w : Formed t text) where
+    record-inside : (q : ℕ) → InPlace 10 t q → RowInside true t q
+    record-inside q p =
+        let (a, b) = record-fits t text w q p in
+        record { rtype = a; base = b; inside = omega (arith, p .inside, w .nines) }
 
-labels-other : (k : ℕ) → eqb 14 k ≡ false → eqb 15 k ≡ false → (xs : List LabelDef) → AllOf (Other k) (allRows labelDefRows xs)
-unfolding Other
-labels-other k e f xs = all-flat (Other k) labelDefRows (λ x. (apart 14 k e, all-map (Other k) labelRow (λ _. apart 15 k f) (x .labels))) xs
+    struct-inside : (q : ℕ) → InPlace 13 t q → RowInside false t q
+    struct-inside q p = record { rtype = omega arith; base = struct-fits t text w q p; inside = omega (arith, p .inside, w .nines) }
 
--- ---- the sequences in rows
+    pub rows-ready : Ready l t structsPlace recordsPlace
+    unfolding Good
+    rows-ready = record {
+      structs-good = stand false struct-inside (kinds t 13) (structsFrom t) (w .structs);
+      records-good = stand true record-inside (kinds t 10) 0 (w .records);
+    }
 
-seqs-past : (isRecord : Bool) (a b : List (List ℕ)) (n : ℕ) → length a ≡ n → seqsIn isRecord n (a ++ b) ≡ seqsIn isRecord 0 b
-unfolding seqsIn
-seqs-past isRecord [] b zero e = refl
-seqs-past isRecord [] b (suc n) e = absurd (let z : ⊥ = omega arith in z)
-seqs-past isRecord (r ∷ a) b zero e = absurd (let z : ⊥ = omega arith in z)
-seqs-past isRecord (r ∷ a) b (suc n) e = seqs-past isRecord a b n (omega arith)
-
-seqs-pass : (isRecord : Bool) (a b : List (List ℕ)) → AllOf (Other (column isRecord 10 13)) a → seqsIn isRecord 0 (a ++ b) ≡ seqsIn isRecord 0 b
-unfolding seqsIn Other
-seqs-pass isRecord [] b v = refl
-seqs-pass isRecord (r ∷ a) b v = rw (ne-eqb (getD r 0 0) (column isRecord 10 13) (v .0)) (seqs-pass isRecord a b (v .1))
-
--- the rows of one sequence, and the rows after them
-module _ (isRecord : Bool) (r : List ℕ) (f : Fields) (v : FitFields f) (rtype base : ℕ) (kind : getD r 0 0 ≡ column isRecord 10 13)
-    (count : getD r (column isRecord 6 4) 0 ≡ length (f .entries)) (a : cond isRecord (getD r 3 0 % 65536) 0 ≡ rtype) (b : getD r (column isRecord 5 3) 0 % 65536 ≡ base) (rest : List (List ℕ)) where
-  abbrev E : List (List ℕ)
-  E = map entryRow (f .entries)
-
-  abbrev N : List (List ℕ)
-  N = map nameRow (f .names)
-
-  abbrev after : List (List ℕ)
-  after = E ++ (N ++ rest)
-
-  count-is : rowCount isRecord r ≡ length (f .entries)
-  unfolding rowCount
-  count-is = ap (λ (x : ℕ). x % 65536) count ∙ mod-eq-of-lt (v .few)
-
-  seq-is : rowSeq isRecord r after ≡ seqOf rtype base f
-  unfolding rowSeq
-  seq-is =
-      let l : length E ≡ length (f .entries) = length-map (f .entries) entryRow in
-      let m : length N ≡ length (f .entries) = length-map (f .names) nameRow ∙ v .even in
-      rw (count-is, take-at E (N ++ rest) (length (f .entries)) l, drop-at E (N ++ rest) (length (f .entries)) l, take-at N rest (length (f .entries)) m)
-      (seq-eq a b (length-map (f .names) nameRow) (heads-back (f .entries) (v .heads)))
-
-  pub one-seq : seqsIn isRecord 0 (r ∷ (fieldRows f ++ rest)) ≡ seqOf rtype base f ∷ seqsIn isRecord 0 rest
-  unfolding seqsIn
-  one-seq =
-      let n : length (map (λ (e : Entry). e .head) (f .entries)) + length (f .names) ≡ length (E ++ N) =
-      ap₂ _+_ (length-map (f .entries) (λ (e : Entry). e .head) ∙ sym (length-map (f .entries) entryRow)) (sym (length-map (f .names) nameRow)) ∙ sym (length-append E N) in
-      rw (append-assoc E N rest, eq-eqb (getD r 0 0) (column isRecord 10 13) kind, seq-is)
-      (ap (λ (qs : List Seq). seqOf rtype base f ∷ qs) (rw (← append-assoc E N rest) (seqs-past isRecord (E ++ N) rest _ (sym n))))
-
--- the records, or the structs, one after the other
-seqs-of : {A : Type 0} (isRecord : Bool) (Fit : A → Type 0) (f : A → List (List ℕ)) (g : A → Seq)
-    → ((x : A) → Fit x → (rest : List (List ℕ)) → seqsIn isRecord 0 (f x ++ rest) ≡ g x ∷ seqsIn isRecord 0 rest)
-    → (xs : List A) → AllOf Fit xs → (rest : List (List ℕ)) → seqsIn isRecord 0 (allRows f xs ++ rest) ≡ map g xs ++ seqsIn isRecord 0 rest
-seqs-of isRecord Fit f g one [] v rest = refl
-seqs-of isRecord Fit f g one (x ∷ xs) v rest =
-    rw (append-assoc (f x) (allRows f xs) rest)
-    (one x (v .0) (allRows f xs ++ rest) ∙ ap (λ (qs : List Seq). g x ∷ qs) (seqs-of isRecord Fit f g one xs (v .1) rest))
-
-records-in : (xs : List RecordL) → AllOf FitRecord xs → (rest : List (List ℕ)) → seqsIn true 0 (allRows recordRows xs ++ rest) ≡ map recordSeq xs ++ seqsIn true 0 rest
-records-in = seqs-of true FitRecord recordRows recordSeq (λ x v rest. one-seq true _ (x .fields) (v .fields) (x .rtype) (x .base) refl refl (mod-eq-of-lt (v .rtype)) (mod-eq-of-lt (v .base)) rest)
-
-structs-in : (xs : List StructL) → AllOf FitStruct xs → (rest : List (List ℕ)) → seqsIn false 0 (allRows structRows xs ++ rest) ≡ map structSeq xs ++ seqsIn false 0 rest
-structs-in = seqs-of false FitStruct structRows structSeq (λ x v rest. one-seq false _ (x .fields) (v .fields) 0 (x .size) refl refl refl (mod-eq-of-lt (v .size)) rest)
-
--- ---- label defs
-
-kinds-append : (k : ℕ) (a b : List (List ℕ)) → kindRows k (a ++ b) ≡ kindRows k a + kindRows k b
-unfolding kindRows
-kinds-append k [] b = sym (zero-add (kindRows k b))
-kinds-append k (r ∷ a) b = let h = kinds-append k a b in omega arith
-
-kinds-none : (k : ℕ) (a : List (List ℕ)) → AllOf (Other k) a → kindRows k a ≡ 0
-unfolding kindRows Other
-kinds-none k [] v = refl
-kinds-none k (r ∷ a) v = rw (ne-eqb (getD r 0 0) k (v .0), kinds-none k a (v .1))
-
-kinds-labels : (xs : List LabelDef) → kindRows 14 (allRows labelDefRows xs) ≡ length xs
-unfolding kindRows Other
-kinds-labels [] = refl
-kinds-labels (x ∷ xs) =
-    let h = kinds-labels xs in
-    let g = kinds-append 14 (map labelRow (x .labels)) (allRows labelDefRows xs) in
-    let n = kinds-none 14 (map labelRow (x .labels)) (all-map (Other 14) labelRow (λ _. apart 15 14 refl) (x .labels)) in
-    omega arith
-
--- ---- the whole table
-
-module _ (t : Parts) (v : FitParts t) where
-  abbrev Rr : List (List ℕ)
-  Rr = allRows recordRows (t .1 .0)
-
-  abbrev Rs : List (List ℕ)
-  Rs = allRows structRows (t .1 .1 .0)
-
-  abbrev Rl : List (List ℕ)
-  Rl = allRows labelDefRows (t .1 .1 .1)
-
-  all-rows : rowsOf (length (flat (rows (toLayout (t, [])))) / 9) (flat (rows (toLayout (t, [])))) ≡ Rr ++ (Rs ++ Rl)
-  all-rows =
-      ap (λ (rs : List (List ℕ)). rowsOf (length (flat rs) / 9) (flat rs)) (rows-parts t)
-      ∙ table-rows (Rr ++ (Rs ++ Rl)) (wide-append 9 Rr (Rs ++ Rl) (wide-all 9 recordRows (λ x. (refl, fields-wide (x .fields))) (t .1 .0))
-      (wide-append 9 Rs Rl (wide-all 9 structRows (λ x. (refl, fields-wide (x .fields))) (t .1 .1 .0))
-      (wide-all 9 labelDefRows (λ x. (refl, wide-map 9 labelRow (λ _. refl) (x .labels))) (t .1 .1 .1))))
-
-  the-records : seqsIn true 0 (Rr ++ (Rs ++ Rl)) ≡ map recordSeq (t .1 .0)
-  unfolding seqsIn
-  the-records =
-      records-in (t .1 .0) (v .records) (Rs ++ Rl)
-      ∙ ap (λ (qs : List Seq). map recordSeq (t .1 .0) ++ qs) (seqs-pass true Rs Rl (structs-other 10 refl refl refl (t .1 .1 .0))
-      ∙ rw (append-nil Rl) at (seqs-pass true Rl [] (labels-other 10 refl refl (t .1 .1 .1))))
-      ∙ append-nil (map recordSeq (t .1 .0))
-
-  the-structs : seqsIn false 0 (Rr ++ (Rs ++ Rl)) ≡ map structSeq (t .1 .1 .0)
-  unfolding seqsIn
-  the-structs =
-      seqs-pass false Rr (Rs ++ Rl) (records-other 13 refl refl refl (t .1 .0))
-      ∙ structs-in (t .1 .1 .0) (v .structs) Rl
-      ∙ ap (λ (qs : List Seq). map structSeq (t .1 .1 .0) ++ qs) (rw (append-nil Rl) at (seqs-pass false Rl [] (labels-other 13 refl refl (t .1 .1 .1))))
-      ∙ append-nil (map structSeq (t .1 .1 .0))
-
-  the-labels : kindRows 14 (Rr ++ (Rs ++ Rl)) ≡ length (t .1 .1 .1)
-  the-labels =
-      let a = kinds-append 14 Rr (Rs ++ Rl) in
-      let b = kinds-append 14 Rs Rl in
-      let c = kinds-none 14 Rr (records-other 14 refl refl refl (t .1 .0)) in
-      let d = kinds-none 14 Rs (structs-other 14 refl refl refl (t .1 .1 .0)) in
-      let e = kinds-labels (t .1 .1 .1) in
-      omega arith
-
-  rules-are : (sheet : List ℕ) (w : ℕ) → rowsRules sheet w (flat (rows (toLayout (t, [])))) ≡ rulesOf sheet w t
-  unfolding rowsRules rulesOf
-  rules-are sheet w =
-      let n : length (map structSeq (t .1 .1 .0)) ≤ 65535 = let l = length-map (t .1 .1 .0) structSeq in omega (arith, v .few) in
-      rw (all-rows, the-structs, the-records, the-labels, le-ltb 65535 (length (map structSeq (t .1 .1 .0))) n)
-
--- the rules over the rows of a layout are its rules
-pub rows-rules : (sheet : List ℕ) (w : ℕ) (t : Parts) → FitParts t → rowsRules sheet w (flat (rows (toLayout (t, [])))) ≡ rulesOf sheet w t
-rows-rules sheet w t v = rules-are t v sheet w
+  pub rows-are : (text sheet : List ℕ) (width : ℕ) {labels : ℕ} → labels ≡ kinds t 14 → {r : ℕ} → r ≡ faultOf sheet width labels (seqsFrom l t false structsPlace) (seqsFrom l t true recordsPlace)
+      → r ≡ rowsRules sheet width t text
+  unfolding rowsRules rulesOf seqsFault seqsFrom
+  rows-are text sheet width {labels} n e =
+      let S : List Seq = seqsBy false l t true (structsFrom t) (kinds t 13) in
+      let R : List Seq = seqsBy true l t true 0 (kinds t 10) in
+      let a = structs-cut sheet width labels (alignsOf sheet S) 65536 S (defs-below false (kinds t 13) (structsFrom t)) in
+      let b = records-cut sheet width labels (alignsOf sheet S) 65536 [] R (defs-below true (kinds t 10) 0) in
+      let s : S ≡ map structSeq (treeOf 0 t text .structs) = seqs-are false (structOf t text) structSeq (one-struct text) (kinds t 13) (structsFrom t) ∙ sym (ap (map structSeq) (tree-structs 0 t text)) in
+      let r : R ≡ map recordSeq (treeOf 0 t text .records) = seqs-are true (recordOf t text) recordSeq (one-record text) (kinds t 10) 0 ∙ sym (ap (map recordSeq) (tree-records 0 t text)) in
+      e ∙ rw (a, b) (ap₂ (λ (x y : List Seq). seqsFault sheet width x y labels) s r
+      ∙ ap (seqsFault sheet width (map structSeq (treeOf 0 t text .structs)) (map recordSeq (treeOf 0 t text .records))) (n ∙ sym (tree-labels 0 t text)))

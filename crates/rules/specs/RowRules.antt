@@ -1,58 +1,27 @@
--- The rules over a table of rows: what the writer is given before it has bytes. Any table of u32 is read.
+-- The rules over rows: they are tried as the writer tries them, then the rules of the layout that they stand for.
 -- Assumes nothing.
-use Prim.Native.Nat.{ℕ, zero, suc, _+_, _/_, _%_}
-use mathlib.Core.Bool.{Bool, true, false, cond}
-use mathlib.Core.List.{List, [], _∷_, map}
-use lib.ListN.{length, getD, take, drop}
-use lib.Dec.{ltb, eqb}
-use Rattle.entry.specs.Entry.{rowBytes}
-use Rattle.fields.specs.Field.{faultIf}
-use Rattle.rules.specs.Rules.{Seq, ruleNumbers, seqsFault}
+use Prim.Native.Nat.{ℕ}
+use mathlib.Core.Bool.{Bool}
+use mathlib.Core.List.{List, _++_}
+use Rattle.layout.specs.Layout.{fromLayout}
+use Rattle.rows_check.specs.Tree.{treeOf}
+use Rattle.rows_check.specs.Check.{faultNumbers, fault}
+use Rattle.rows_check.specs.Answers.{made, unless}
+use Rattle.rows_check.specs.declared.Sized.{Sized}
+use Rattle.rules.specs.Rules.{first, ruleNumbers, rulesOf}
 
--- n rows of nine numbers, from the front
-unfoldable pub rowsOf : ℕ → List ℕ → List (List ℕ)
-rowsOf zero t = []
-rowsOf (suc n) t = take 9 t ∷ rowsOf n (drop 9 t)
+-- the rules of the layout that rows stand for, whose version no rule sees
+unfoldable pub rowsRules : List ℕ → ℕ → List ℕ → List ℕ → ℕ
+rowsRules sheet width rows text = rulesOf sheet width (fromLayout (treeOf 0 rows text) .0)
 
--- a record's column, or a struct's: 10 record (name start, length, rtype, schema, base, field count, ..), 13 struct (start, length,
--- size, field count, ..)
-abbrev pub column : Bool → ℕ → ℕ → ℕ
-column isRecord r s = cond isRecord r s
+-- 90, for a `whole` layout 91 to 95, then the rules
+unfoldable pub rowsFault : List ℕ → ℕ → Bool → List ℕ → List ℕ → ℕ
+rowsFault sheet width whole rows text = first (fault whole rows text) (rowsRules sheet width rows text)
 
-module _ (isRecord : Bool) where
-  unfoldable pub rowCount : List ℕ → ℕ
-  rowCount r = getD r (column isRecord 6 4) 0 % 65536
+-- what refuses rows
+abbrev pub rowRuleNumbers : Bool → List ℕ
+rowRuleNumbers whole = faultNumbers whole ++ ruleNumbers
 
-  -- a row with the rows after it: a struct has rtype 0; its entries are the next count rows, its names the count rows after them, as far as there are rows
-  unfoldable pub rowSeq : List ℕ → List (List ℕ) → Seq
-  rowSeq r rs = record {
-    rtype = cond isRecord (getD r 3 0 % 65536) 0;
-    base = getD r (column isRecord 5 3) 0 % 65536;
-    names = length (take (rowCount r) (drop (rowCount r) rs));
-    entries = map (λ (e : List ℕ). rowBytes e 0) (take (rowCount r) rs);
-  }
-
-  -- the records, or the structs, in rows, the first `skip` rows passed over; so are the rows of one, and those of another kind
-  unfoldable pub seqsIn : ℕ → List (List ℕ) → List Seq
-  seqsIn skip [] = []
-  seqsIn (suc skip) (r ∷ rs) = seqsIn skip rs
-  seqsIn zero (r ∷ rs) =
-      cond (eqb (getD r 0 0) (column isRecord 10 13))
-      (rowSeq r rs ∷ seqsIn (length (rowSeq r rs .entries) + rowSeq r rs .names) rs)
-      (seqsIn zero rs)
-
--- how many rows are of a kind
-unfoldable pub kindRows : ℕ → List (List ℕ) → ℕ
-kindRows kind [] = 0
-kindRows kind (r ∷ rs) = cond (eqb (getD r 0 0) kind) 1 0 + kindRows kind rs
-
--- what refuses a table of rows
-abbrev pub rowRuleNumbers : List ℕ
-rowRuleNumbers = 91 ∷ ruleNumbers
-
--- the rules of a table in which records are rows of kind 10, structs of 13 and label defs of 14; 91 where there are more than 65,535 structs
-unfoldable pub rowsRules : List ℕ → ℕ → List ℕ → ℕ
-rowsRules sheet width t =
-    let rs = rowsOf (length t / 9) t in
-    let structs = seqsIn false 0 rs in
-    faultIf (ltb 65535 (length structs)) 91 (seqsFault sheet width structs (seqsIn true 0 rs) (kindRows 14 rs))
+-- what the rows make, or the number that refuses them
+unfoldable pub ruledRows : List ℕ → ℕ → Bool → List ℕ → List ℕ → Sized
+ruledRows sheet width whole rows text = unless (rowsFault sheet width whole rows text) (made whole rows text)

@@ -20,21 +20,19 @@ first a b = cond (eqb a 0) b a
 
 -- what refuses a layout that was read
 abbrev pub ruleNumbers : List ℕ
-ruleNumbers = 60 ∷ 61 ∷ 62 ∷ 63 ∷ 64 ∷ 70 ∷ 81 ∷ 82 ∷ 83 ∷ fieldNumbers
+ruleNumbers = 60 ∷ 61 ∷ 62 ∷ 63 ∷ 64 ∷ 81 ∷ 82 ∷ 83 ∷ fieldNumbers
 
 -- ---- one sequence of fields
 
--- what the rules see of a record or a struct: the rtype (0 in a struct), the base size or the size, how many names it has, and
--- its entries' first eleven bytes
+-- what the rules see of a record or a struct: the rtype (0 in a struct), the base size or the size, and its entries' first eleven bytes
 pub record Seq : Type 0 where
   pub rtype : ℕ
   pub base : ℕ
-  pub names : ℕ
   pub entries : List (List ℕ)
 
 -- a struct, or a record whose rtype is judged
-abbrev pub judged : ℕ → ℕ → List (List ℕ) → Seq
-judged base names es = record { rtype = 0; base = base; names = names; entries = es }
+abbrev pub judged : ℕ → List (List ℕ) → Seq
+judged base es = record { rtype = 0; base = base; entries = es }
 
 -- the ids seen so far, with this entry's unless it is padding
 abbrev pub noted : List ℕ → List ℕ → List ℕ → List ℕ
@@ -74,11 +72,9 @@ module _ (sheet : List ℕ) (width labels : ℕ) (aligns : List ℕ) where
   fieldsFault isRecord base ids (e ∷ es) =
       first (fieldFault sheet width labels aligns isRecord base (among (idOf e) ids) e) (fieldsFault isRecord base (noted sheet e ids) es)
 
-  -- 70, then the fields one by one, then 81 to 83
+  -- the fields one by one, then 81 to 83
   unfoldable pub seqFault : Bool → Seq → ℕ
-  seqFault isRecord q =
-      faultIf (not (eqb (q .names) (length (q .entries)))) 70
-      (first (fieldsFault isRecord (q .base) [] (q .entries)) (tilingFault isRecord (q .base) (q .entries)))
+  seqFault isRecord q = first (fieldsFault isRecord (q .base) [] (q .entries)) (tilingFault isRecord (q .base) (q .entries))
 
   -- 60: the size is no multiple of the alignment
   unfoldable pub structFault : Seq → ℕ
@@ -114,7 +110,7 @@ seqsFault sheet width structs records labels =
 -- ---- a layout
 
 abbrev pub seqOf : ℕ → ℕ → Fields → Seq
-seqOf rtype base f = record { rtype = rtype; base = base; names = length (f .names); entries = map (λ e. e .head) (f .entries) }
+seqOf rtype base f = record { rtype = rtype; base = base; entries = map (λ e. e .head) (f .entries) }
 
 abbrev pub structSeq : StructL → Seq
 structSeq s = seqOf 0 (s .size) (s .fields)

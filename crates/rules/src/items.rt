@@ -11,15 +11,15 @@ use crate::walk;
 ghost use mathlib.Core.Path.{_≡_};
 ghost use mathlib.Core.Bool.{true, false};
 ghost use mathlib.Core.List.{[]};
-ghost use Prim.Native.Nat.{_<_, _≤_};
+ghost use Prim.Native.Nat.{_<_, _≤_, min};
 ghost use lib.ListN.{length};
 ghost use Rattle.marks.specs.Marks.{Marks};
-ghost use Rattle.rules.specs.Rules.{structFault, recordFault, structsFault, recordsFault, alignsOf};
+ghost use Rattle.rules.specs.Rules.{structFault, recordFault, structsFault, recordsFault};
 ghost use Rattle.plain_tiling.specs.Places.{Unowned};
 ghost use Rattle.rules.specs.Tried.{Tried};
 ghost use Rattle.rules.specs.Entries.{InSlice};
 ghost use Rattle.rules.specs.Ids.{Clean};
-ghost use Rattle.rules.specs.Items.{itemSeq, seqsFrom, Good, Ready, taskFault};
+ghost use Rattle.rules.specs.Items.{itemSeq, seqsFrom, Good, Ready, firstAligns, taskFault};
 
 fn wide(x: u16) -> usize
     ensures { λ r. ⌜ r ≡ x ⌝ }
@@ -27,29 +27,11 @@ fn wide(x: u16) -> usize
     x as usize
 }
 
-// How many records or structs are to come.
-pub(crate) fn count(layout: &[u8], rows: &[u32], is_record: bool, place: Place) -> usize
-    requires { ⌜ Good (now layout) (now rows) «is_record» place ⌝ }
-    ensures { λ r. ⌜ r ≡ length (seqsFrom (now (layout .entry)) (now (rows .entry)) «is_record» place) ⌝ }
-{
-    let mut p = place;
-    let mut n: usize = 0;
-    loop {
-        match walk::next_item(layout, rows, is_record, p) {
-            Next::Found(_, after) => {
-                n += 1;
-                p = after;
-            }
-            Next::End => return n,
-        }
-    }
-}
-
-// The alignment of each struct.
+// The alignment of each struct, of the first 65,536.
 fn fill_aligns(sheet: &[u16; 520], layout: &[u8], rows: &[u32], place: Place, aligns: &mut [u16])
     requires { ⌜ Good (now layout) (now rows) false place ⌝ }
-    requires { ⌜ length (now aligns) ≡ length (seqsFrom (now layout) (now rows) false place) ⌝ }
-    ensures { λ _. ⌜ now (aligns .exit) ≡ alignsOf (now (sheet .entry)) (seqsFrom (now (layout .entry)) (now (rows .entry)) false place) ⌝ }
+    requires { ⌜ length (now aligns) ≡ min (place .left) 65536 ⌝ }
+    ensures { λ _. ⌜ now (aligns .exit) ≡ firstAligns (now (sheet .entry)) (seqsFrom (now (layout .entry)) (now (rows .entry)) false place) ⌝ }
 {
     let mut p = place;
     let mut k = 0;
@@ -67,7 +49,7 @@ fn fill_aligns(sheet: &[u16; 520], layout: &[u8], rows: &[u32], place: Place, al
     }
 }
 
-// The first of numbers 60 and 70 to 83 that a struct gives, or 0.
+// The first of numbers 60 and 71 to 83 that a struct gives, or 0.
 fn struct_fault(
     sheet: &[u16; 520],
     aligns: &[u16],
@@ -94,7 +76,7 @@ fn struct_fault(
     seq_fault(sheet, aligns, layout, rows, item, false, how, marks, owners)
 }
 
-// The first of numbers 61 to 64 and 70 to 83 that a record gives, or 0; `twice` says that its rtype came before.
+// The first of numbers 61 to 64 and 71 to 83 that a record gives, or 0; `twice` says that its rtype came before.
 fn record_fault(
     sheet: &[u16; 520],
     aligns: &[u16],
@@ -208,7 +190,7 @@ fn rules_in(
 ) -> u32
     requires { ⌜ Good (now layout) (now rows) false (task .structs) ⌝ }
     requires { ⌜ Good (now layout) (now rows) true (task .records) ⌝ }
-    requires { ⌜ length (now aligns) ≡ length (seqsFrom (now layout) (now rows) false (task .structs)) ⌝ }
+    requires { ⌜ length (now aligns) ≡ min (task .structs .left) 65536 ⌝ }
     requires { ⌜ Unowned (now owners) ⌝ }
     ensures { λ r. ⌜ Tried (now (owners .entry)) (taskFault (now (sheet .entry)) (now (layout .entry)) (now (rows .entry)) task) r ⌝ }
 {
@@ -221,7 +203,7 @@ fn rules_in(
     records_fault(sheet, aligns, layout, rows, task, &mut marks, owners)
 }
 
-// The rules, with the first numbers of a table for the alignments, as many as there are structs.
+// The rules, with the first numbers of a table for the alignments, as many as there are structs, or 65,536.
 fn rules_by(
     sheet: &[u16; 520],
     layout: &[u8],
@@ -230,18 +212,18 @@ fn rules_by(
     table: &mut [u16],
     owners: &mut [u16],
 ) -> u32
-    requires { ⌜ Ready (now layout) (now rows) (task .structs) (task .n) (task .records) ⌝ }
-    requires { ⌜ task .n ≤ length (now table) ⌝ }
+    requires { ⌜ Ready (now layout) (now rows) (task .structs) (task .records) ⌝ }
+    requires { ⌜ min (task .structs .left) 65536 ≤ length (now table) ⌝ }
     requires { ⌜ Unowned (now owners) ⌝ }
     ensures { λ r. ⌜ Tried (now (owners .entry)) (taskFault (now (sheet .entry)) (now (layout .entry)) (now (rows .entry)) task) r ⌝ }
 {
-    let n = task.n;
+    let n = walk::smaller(task.structs.left, 65536);
     rules_in(sheet, layout, rows, task, &mut table[..n], owners)
 }
 
 fn rules_64(sheet: &[u16; 520], layout: &[u8], rows: &[u32], task: Task, owners: &mut [u16]) -> u32
-    requires { ⌜ Ready (now layout) (now rows) (task .structs) (task .n) (task .records) ⌝ }
-    requires { ⌜ task .n ≤ 64 ⌝ }
+    requires { ⌜ Ready (now layout) (now rows) (task .structs) (task .records) ⌝ }
+    requires { ⌜ task .structs .left ≤ 64 ⌝ }
     requires { ⌜ Unowned (now owners) ⌝ }
     ensures { λ r. ⌜ Tried (now (owners .entry)) (taskFault (now (sheet .entry)) (now (layout .entry)) (now (rows .entry)) task) r ⌝ }
 {
@@ -257,8 +239,8 @@ fn rules_4096(
     task: Task,
     owners: &mut [u16],
 ) -> u32
-    requires { ⌜ Ready (now layout) (now rows) (task .structs) (task .n) (task .records) ⌝ }
-    requires { ⌜ task .n ≤ 4096 ⌝ }
+    requires { ⌜ Ready (now layout) (now rows) (task .structs) (task .records) ⌝ }
+    requires { ⌜ task .structs .left ≤ 4096 ⌝ }
     requires { ⌜ Unowned (now owners) ⌝ }
     ensures { λ r. ⌜ Tried (now (owners .entry)) (taskFault (now (sheet .entry)) (now (layout .entry)) (now (rows .entry)) task) r ⌝ }
 {
@@ -266,31 +248,30 @@ fn rules_4096(
     rules_by(sheet, layout, rows, task, &mut table, owners)
 }
 
-// The rules of at most 65,535 structs.
-fn rules_65535(
+// The rules of any number of structs, with the alignments of the first 65,536: no field names a later one.
+fn rules_65536(
     sheet: &[u16; 520],
     layout: &[u8],
     rows: &[u32],
     task: Task,
     owners: &mut [u16],
 ) -> u32
-    requires { ⌜ Ready (now layout) (now rows) (task .structs) (task .n) (task .records) ⌝ }
-    requires { ⌜ task .n ≤ 65535 ⌝ }
+    requires { ⌜ Ready (now layout) (now rows) (task .structs) (task .records) ⌝ }
     requires { ⌜ Unowned (now owners) ⌝ }
     ensures { λ r. ⌜ Tried (now (owners .entry)) (taskFault (now (sheet .entry)) (now (layout .entry)) (now (rows .entry)) task) r ⌝ }
 {
-    let mut table = [0u16; 65535];
+    let mut table = [0u16; 65536];
     rules_by(sheet, layout, rows, task, &mut table, owners)
 }
 
 // The rules of at most 4,096 structs. The table for the alignments is no larger than it must be, since it is cleared first.
 fn rules_few(sheet: &[u16; 520], layout: &[u8], rows: &[u32], task: Task, owners: &mut [u16]) -> u32
-    requires { ⌜ Ready (now layout) (now rows) (task .structs) (task .n) (task .records) ⌝ }
-    requires { ⌜ task .n ≤ 4096 ⌝ }
+    requires { ⌜ Ready (now layout) (now rows) (task .structs) (task .records) ⌝ }
+    requires { ⌜ task .structs .left ≤ 4096 ⌝ }
     requires { ⌜ Unowned (now owners) ⌝ }
     ensures { λ r. ⌜ Tried (now (owners .entry)) (taskFault (now (sheet .entry)) (now (layout .entry)) (now (rows .entry)) task) r ⌝ }
 {
-    if task.n <= 64 {
+    if task.structs.left <= 64 {
         return rules_64(sheet, layout, rows, task, owners);
     }
     rules_4096(sheet, layout, rows, task, owners)
@@ -298,8 +279,8 @@ fn rules_few(sheet: &[u16; 520], layout: &[u8], rows: &[u32], task: Task, owners
 
 // The rules by search alone, or that it gave up.
 fn rules_searched(sheet: &[u16; 520], layout: &[u8], rows: &[u32], task: Task) -> u32
-    requires { ⌜ Ready (now layout) (now rows) (task .structs) (task .n) (task .records) ⌝ }
-    requires { ⌜ task .n ≤ 4096 ⌝ }
+    requires { ⌜ Ready (now layout) (now rows) (task .structs) (task .records) ⌝ }
+    requires { ⌜ task .structs .left ≤ 4096 ⌝ }
     ensures { λ r. ⌜ Tried [] (taskFault (now (sheet .entry)) (now (layout .entry)) (now (rows .entry)) task) r ⌝ }
 {
     let mut none = [0u16; 0];
@@ -309,8 +290,8 @@ fn rules_searched(sheet: &[u16; 520], layout: &[u8], rows: &[u32], task: Task) -
 // The rules with an owner for each of the first 8,192 places, or that a record or a struct reaches past them. They are 16 KiB,
 // in a frame of their own.
 fn rules_near(sheet: &[u16; 520], layout: &[u8], rows: &[u32], task: Task) -> u32
-    requires { ⌜ Ready (now layout) (now rows) (task .structs) (task .n) (task .records) ⌝ }
-    requires { ⌜ task .n ≤ 4096 ⌝ }
+    requires { ⌜ Ready (now layout) (now rows) (task .structs) (task .records) ⌝ }
+    requires { ⌜ task .structs .left ≤ 4096 ⌝ }
     ensures { λ r. ⌜ Tried [] (taskFault (now (sheet .entry)) (now (layout .entry)) (now (rows .entry)) task) r ⌝ }
 {
     let mut owners = [0u16; 8192];
@@ -319,8 +300,8 @@ fn rules_near(sheet: &[u16; 520], layout: &[u8], rows: &[u32], task: Task) -> u3
 
 // A first try, without the large frames: by marks where the task says so, else by search.
 fn rules_tried(sheet: &[u16; 520], layout: &[u8], rows: &[u32], task: Task) -> u32
-    requires { ⌜ Ready (now layout) (now rows) (task .structs) (task .n) (task .records) ⌝ }
-    requires { ⌜ task .n ≤ 4096 ⌝ }
+    requires { ⌜ Ready (now layout) (now rows) (task .structs) (task .records) ⌝ }
+    requires { ⌜ task .structs .left ≤ 4096 ⌝ }
     ensures { λ r. ⌜ Tried [] (taskFault (now (sheet .entry)) (now (layout .entry)) (now (rows .entry)) task) r ⌝ }
 {
     if task.how.by_marks {
@@ -330,28 +311,26 @@ fn rules_tried(sheet: &[u16; 520], layout: &[u8], rows: &[u32], task: Task) -> u
 }
 
 // The rules with an owner for each place, which a record or a struct is marked with where the task says so or its search gives
-// up. This is the only frame that holds them all, 128 KiB; a table for 65,535 structs is as large again, in a frame of its own.
+// up. This is the only frame that holds them all, 128 KiB; a table for 65,536 structs is as large again, in a frame of its own.
 fn rules_marked(sheet: &[u16; 520], layout: &[u8], rows: &[u32], task: Task) -> u32
-    requires { ⌜ Ready (now layout) (now rows) (task .structs) (task .n) (task .records) ⌝ }
-    requires { ⌜ task .n ≤ 65535 ⌝ }
+    requires { ⌜ Ready (now layout) (now rows) (task .structs) (task .records) ⌝ }
     ensures { λ r. ⌜ r ≡ (taskFault (now (sheet .entry)) (now (layout .entry)) (now (rows .entry)) task) ⌝ }
 {
     let mut owners = [0u16; 65536];
-    if task.n <= 4096 {
+    if task.structs.left <= 4096 {
         return rules_few(sheet, layout, rows, task, &mut owners);
     }
-    rules_65535(sheet, layout, rows, task, &mut owners)
+    rules_65536(sheet, layout, rows, task, &mut owners)
 }
 
 // The rules of the structs and of the records. Where the task says so all of 81 to 83 are found by marks; else by search, and
 // by marks only for a record or a struct whose search gives up. Layouts of up to 4,096 structs whose search gives an answer, or
 // whose records and structs end below place 8,192 where the task says so, pay nothing for the large frames.
 pub(crate) fn rules(sheet: &[u16; 520], layout: &[u8], rows: &[u32], task: Task) -> u32
-    requires { ⌜ Ready (now layout) (now rows) (task .structs) (task .n) (task .records) ⌝ }
-    requires { ⌜ task .n ≤ 65535 ⌝ }
+    requires { ⌜ Ready (now layout) (now rows) (task .structs) (task .records) ⌝ }
     ensures { λ r. ⌜ r ≡ (taskFault (now (sheet .entry)) (now (layout .entry)) (now (rows .entry)) task) ⌝ }
 {
-    if task.n <= 4096 {
+    if task.structs.left <= 4096 {
         let v = rules_tried(sheet, layout, rows, task);
         if v != GAVE_UP {
             return v;

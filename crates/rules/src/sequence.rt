@@ -1,4 +1,4 @@
-// One record or struct: its alignment, and numbers 70 to 83.
+// One record or struct: its alignment, and numbers 71 to 83.
 use crate::GAVE_UP;
 use crate::How;
 use crate::Item;
@@ -138,7 +138,7 @@ fn tiling(
     by_marks::tiling_by_marks(layout, rows, src, frame, owners)
 }
 
-// The first of numbers 70 to 83 that a record or a struct gives, or 0, with 81 to 83 as `tiling` has them. The marks of ids
+// The first of numbers 71 to 83 that a record or a struct gives, or 0, with 81 to 83 as `tiling` has them. The marks of ids
 // are clear before, and after 0; the owners come back as they were lent.
 pub(crate) fn seq_fault(
     sheet: &[u16; 520],
@@ -155,14 +155,11 @@ pub(crate) fn seq_fault(
     requires { ⌜ Marks (now marks) [] ⌝ }
     requires { ⌜ item .base < 65536 ⌝ }
     requires { ⌜ Unowned (now owners) ⌝ }
-    ensures { λ r. ⌜ Tried (now (owners .entry)) (seqFault (now (sheet .entry)) (how .width) (how .labels) (now (aligns .entry)) «is_record» (judged (item .base) (item .names) (entriesOf (now (layout .entry)) (now (rows .entry)) (item .entries)))) r ⌝ }
+    ensures { λ r. ⌜ Tried (now (owners .entry)) (seqFault (now (sheet .entry)) (how .width) (how .labels) (now (aligns .entry)) «is_record» (judged (item .base) (entriesOf (now (layout .entry)) (now (rows .entry)) (item .entries)))) r ⌝ }
     ensures { λ r. ⌜ Clean r (now (marks .exit)) ⌝ }
     ensures { λ _. ⌜ now (owners .exit) ≡ now (owners .entry) ⌝ }
 {
     let src = item.entries;
-    if item.names != src.count {
-        return refusal::NAMES_AND_FIELDS;
-    }
     let frame = Frame {
         is_record,
         base: item.base,

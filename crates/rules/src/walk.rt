@@ -1,15 +1,15 @@
-// Records or structs one by one, from a layout's sections or from rows.
+// Records or structs one by one, from a layout's sections or from rows that are in their places.
 use crate::Item;
 use crate::Next;
 use crate::Place;
 use crate::Source;
 ghost use mathlib.Core.Path.{_≡_};
 ghost use mathlib.Core.Bool.{cond};
-ghost use Prim.Native.Nat.{_+_, _*_, _%_, _<_, _≤_, min};
-ghost use lib.ListN.{length, getD};
+ghost use Prim.Native.Nat.{_+_, _*_, _<_, _≤_, min};
+ghost use lib.ListN.{length};
 ghost use Rattle.numbers.specs.Numbers.{le16};
-ghost use Rattle.rules.specs.Items.{sectionItem, rowItem, SectionInside, Good, Stepped, kindOf};
-ghost use Rattle.rules.specs.RowRules.{column};
+ghost use Rattle.rows_check.specs.Tree.{cell};
+ghost use Rattle.rules.specs.Items.{column, sectionItem, SectionInside, fieldsIn, rowItem, RowInside, itemAt, nextAt, InsideAt, Good, Stepped, endFrom};
 
 // The u16 at `at`.
 pub(crate) fn half(s: &[u8], at: usize) -> usize
@@ -58,7 +58,6 @@ fn section_item(layout: &[u8], is_record: bool, at: usize) -> Item
     Item {
         rtype,
         base,
-        names: count,
         entries: Source {
             rows: false,
             step: layout::D,
@@ -68,38 +67,26 @@ fn section_item(layout: &[u8], is_record: bool, at: usize) -> Item
     }
 }
 
-fn next_section(layout: &[u8], rows: &[u32], is_record: bool, place: Place) -> Next
-    requires { ⌜ Good (now layout) (now rows) «is_record» place ⌝ }
-    requires { ⌜ place .rows ≡ mathlib.Core.Bool.false ⌝ }
-    ensures { λ r. ⌜ Stepped (now (layout .entry)) (now (rows .entry)) «is_record» place r ⌝ }
-{
-    if place.left == 0 {
-        return Next::End;
-    }
-    let at = place.at;
-    let item = section_item(layout, is_record, at);
-    let after = Place {
-        rows: false,
-        at: at + half(layout, at),
-        left: place.left - 1,
-    };
-    Next::Found(item, after)
-}
-
 // ---- rows
 
-// Number j of row q, modulo 65536.
+fn wide(x: u32) -> usize
+    ensures { λ r. ⌜ (r ≡ x) × (r < 4294967296) ⌝ }
+{
+    x as usize
+}
+
+// Number j of row q.
 fn cell(rows: &[u32], q: usize, j: usize) -> usize
     requires { ⌜ 9 * q + j < length (now rows) ⌝ }
-    ensures { λ r. ⌜ (r ≡ getD (now (rows .entry)) (9 * q + j) 0 % 65536) × (r < 65536) ⌝ }
+    ensures { λ r. ⌜ (r ≡ cell (now (rows .entry)) q j) × (r < 4294967296) ⌝ }
 {
-    (rows[9 * q + j] % 65536) as usize
+    wide(rows[9 * q + j])
 }
 
 // The rtype of the record of row q; a struct has 0.
 fn rtype_in(rows: &[u32], is_record: bool, q: usize) -> u16
-    requires { ⌜ 9 * q + 3 < length (now rows) ⌝ }
-    ensures { λ r. ⌜ r ≡ cond «is_record» (getD (now (rows .entry)) (9 * q + 3) 0 % 65536) 0 ⌝ }
+    requires { ⌜ RowInside «is_record» (now rows) q ⌝ }
+    ensures { λ r. ⌜ r ≡ cond «is_record» (cell (now (rows .entry)) q 3) 0 ⌝ }
 {
     if is_record {
         return cell(rows, q, 3) as u16;
@@ -107,59 +94,57 @@ fn rtype_in(rows: &[u32], is_record: bool, q: usize) -> u16
     0
 }
 
-// The record or struct of row q, where `left` rows are left from q on.
-fn row_item(rows: &[u32], is_record: bool, q: usize, left: usize) -> Item
-    requires { ⌜ (0 < left) × (9 * (q + left) ≤ length (now rows)) ⌝ }
-    ensures { λ r. ⌜ (r ≡ rowItem «is_record» (now (rows .entry)) q left) × (r .base < 65536) ⌝ }
+// How many fields the record or struct of row q has.
+fn fields_in(rows: &[u32], is_record: bool, q: usize) -> usize
+    requires { ⌜ RowInside «is_record» (now rows) q ⌝ }
+    ensures { λ r. ⌜ (r ≡ fieldsIn «is_record» (now (rows .entry)) q) × (r < 4294967296) ⌝ }
+{
+    cell(rows, q, column(is_record, 6, 4))
+}
+
+// The record or struct of row q.
+fn row_item(rows: &[u32], is_record: bool, q: usize) -> Item
+    requires { ⌜ RowInside «is_record» (now rows) q ⌝ }
+    ensures { λ r. ⌜ (r ≡ rowItem «is_record» (now (rows .entry)) q) × (r .base < 65536) ⌝ }
 {
     let rtype = rtype_in(rows, is_record, q);
     let base = cell(rows, q, column(is_record, 5, 3));
-    let count = cell(rows, q, column(is_record, 6, 4));
-    let fields = smaller(count, left - 1);
+    let count = fields_in(rows, is_record, q);
     Item {
         rtype,
         base,
-        names: smaller(count, left - 1 - fields),
         entries: Source {
             rows: true,
             step: 9,
             at: 9 * q + 9,
-            count: fields,
+            count,
         },
     }
 }
 
-fn kind(is_record: bool) -> u32
-    ensures { λ r. ⌜ r ≡ kindOf «is_record» ⌝ }
+// ---- both
+
+// The record or struct at a place of the rows, or of the layout's bytes.
+fn item_at(layout: &[u8], rows: &[u32], is_record: bool, in_rows: bool, at: usize) -> Item
+    requires { ⌜ InsideAt «is_record» (now layout) (now rows) «in_rows» at ⌝ }
+    ensures { λ r. ⌜ (r ≡ itemAt «is_record» (now (layout .entry)) (now (rows .entry)) «in_rows» at) × (r .base < 65536) ⌝ }
 {
-    if is_record { 10 } else { 13 }
+    if in_rows {
+        return row_item(rows, is_record, at);
+    }
+    section_item(layout, is_record, at)
 }
 
-fn next_row(layout: &[u8], rows: &[u32], is_record: bool, place: Place) -> Next
-    requires { ⌜ Good (now layout) (now rows) «is_record» place ⌝ }
-    requires { ⌜ place .rows ≡ mathlib.Core.Bool.true ⌝ }
-    ensures { λ r. ⌜ Stepped (now (layout .entry)) (now (rows .entry)) «is_record» place r ⌝ }
+// The place after it.
+fn next_at(layout: &[u8], rows: &[u32], is_record: bool, in_rows: bool, at: usize) -> usize
+    requires { ⌜ InsideAt «is_record» (now layout) (now rows) «in_rows» at ⌝ }
+    ensures { λ r. ⌜ r ≡ nextAt «is_record» (now (layout .entry)) (now (rows .entry)) «in_rows» at ⌝ }
 {
-    let sought = kind(is_record);
-    let mut q = place.at;
-    let mut left = place.left;
-    while 0 < left {
-        let k = 9 * q;
-        if rows[k] == sought {
-            let item = row_item(rows, is_record, q, left);
-            let fields = item.entries.count;
-            let used = 1 + fields + item.names;
-            let after = Place {
-                rows: true,
-                at: q + used,
-                left: left - used,
-            };
-            return Next::Found(item, after);
-        }
-        q += 1;
-        left -= 1;
+    if in_rows {
+        let n = fields_in(rows, is_record, at);
+        return at + 1 + n + n;
     }
-    Next::End
+    at + half(layout, at)
 }
 
 // The next record, where `is_record` holds, or the next struct.
@@ -167,8 +152,31 @@ pub(crate) fn next_item(layout: &[u8], rows: &[u32], is_record: bool, place: Pla
     requires { ⌜ Good (now layout) (now rows) «is_record» place ⌝ }
     ensures { λ r. ⌜ Stepped (now (layout .entry)) (now (rows .entry)) «is_record» place r ⌝ }
 {
-    if place.rows {
-        return next_row(layout, rows, is_record, place);
+    if place.left == 0 {
+        return Next::End;
     }
-    next_section(layout, rows, is_record, place)
+    let in_rows = place.rows;
+    let at = place.at;
+    let item = item_at(layout, rows, is_record, in_rows, at);
+    let after = Place {
+        rows: in_rows,
+        at: next_at(layout, rows, is_record, in_rows, at),
+        left: place.left - 1,
+    };
+    Next::Found(item, after)
+}
+
+// The place after all of them.
+pub(crate) fn end(layout: &[u8], rows: &[u32], is_record: bool, place: Place) -> usize
+    requires { ⌜ Good (now layout) (now rows) «is_record» place ⌝ }
+    ensures { λ r. ⌜ r ≡ endFrom (now (layout .entry)) (now (rows .entry)) «is_record» place ⌝ }
+{
+    let in_rows = place.rows;
+    let mut at = place.at;
+    let mut left = place.left;
+    while 0 < left {
+        at = next_at(layout, rows, is_record, in_rows, at);
+        left -= 1;
+    }
+    at
 }

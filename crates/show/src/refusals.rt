@@ -83,7 +83,6 @@ fn of_layouts(n: u32) {
 62: An rtype's low byte is 4E.
 63: A record's base size is below the header.
 64: A record's base size is not a multiple of 8.
-70: Names and fields differ in number.
 71: A field id comes twice.
 72: A struct holds a struct.
 73: A field's def index is out of range.

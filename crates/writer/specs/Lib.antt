@@ -1,6 +1,5 @@
 pub mod Output
 pub mod Write
-pub mod FitLaws
 pub mod RoundTripLaws
 pub mod RefusalLaws
 pub mod Single

@@ -10,12 +10,10 @@ use lib.Dec.{leb, eqb}
 use borrow.Author.Tests.{eqb-false}
 use Rattle.codec.specs.Refusals.{In, Fault}
 use Rattle.codec.specs.RefusalLaws.{in-more}
-use Rattle.rules.specs.Rules.{ruleNumbers}
-use Rattle.rules.specs.RowRules.{rowsRules}
-use Rattle.rules.specs.RefusalLaws.{rows-fault}
-use Rattle.rows_check.specs.Check.{rowNumbers, fault, printed}
-use Rattle.rows_check.specs.RefusalLaws.{check-fault}
-use Rattle.writer.specs.Write.{whole, ruled, roomy, writeNumbers, writeLayout, Writes}
+use Rattle.rules.specs.RowRules.{rowRuleNumbers, rowsFault}
+use Rattle.rules.specs.RefusalLaws.{rows-refuse}
+use Rattle.rows_check.specs.Check.{printed}
+use Rattle.writer.specs.Write.{roomy, writeNumbers, writeLayout, Writes}
 use Rattle.writer.specs.declared.Written.{Written}
 use Rattle.writer.specs.declared.Written.the-variants.{Length, Refused}
 
@@ -31,9 +29,9 @@ module _ (sheet : List ℕ) (width version : ℕ) (rows text : List ℕ) where
   pub answer-refuses : (room : ℕ) {k : ℕ} → writeLayout sheet width version rows text room ≡ Refused k → In writeNumbers k
   unfolding writeLayout
   answer-refuses room {k} e =
-      judged-refuses (fault rows text) (ruled sheet width rows inner) (λ n. in-more rowNumbers writeNumbers refl (fault rows text) (check-fault rows text n))
-      (λ e. judged-refuses (rowsRules sheet width rows) inner (rows-fault (In writeNumbers) (in-more ruleNumbers writeNumbers refl) sheet width rows refl) (roomy-refuses (leb (length (printed version rows text)) room)) e)
-      e
+      judged-refuses (rowsFault sheet width true rows text) inner
+      (λ n. in-more (rowRuleNumbers true) writeNumbers refl (rowsFault sheet width true rows text) (rows-refuse sheet width true rows text n))
+      (roomy-refuses (leb (length (printed version rows text)) room)) e
     where
       inner : Written
       inner = roomy (printed version rows text) room (Length (length (printed version rows text)))

@@ -12,23 +12,21 @@ use Rattle.codec.specs.Codec.{ok, Bytes}
 use Rattle.text.specs.Utf8.{utf8}
 use Rattle.layout.specs.Layout.{Layout, fromLayout, locateLayout, printLayout}
 use Rattle.layout.specs.LayoutOf.{D}
-use Rattle.table.specs.Table.{flat}
 use Rattle.layout.specs.Rows.{rows}
 use Rattle.layout.specs.RowLaws.{noStart}
 use Rattle.layout.specs.TextLaws.{rowText}
 use Rattle.layout.specs.PrintLaws.{reads, parts-still}
 use Rattle.rules.specs.Rules.{rulesOf, ruledOf}
 use Rattle.rules.specs.RuleLaws.{rules-blind, ruled-is}
-use Rattle.rules.specs.RowRules.{rowsRules}
-use Rattle.rules.specs.RowLaws.{rows-rules}
+use Rattle.rules.specs.RowRules.{rowsRules, rowsFault}
+use Rattle.rules.specs.RowRuleLaws.{rows-rules, fault-none, none-fault}
 use Rattle.rows_check.specs.Tree.{rowsIn, treeOf}
 use Rattle.rows_check.specs.Check.{fault, printed}
 use Rattle.rows_check.specs.LegalLaws.{sound, tree-legal}
-use Rattle.rows_check.specs.TreeLaws.{tree-rows, tree-flat, tree-version, tree-whole}
+use Rattle.rows_check.specs.TreeLaws.{tree-rows, tree-version}
 use Rattle.rows_check.specs.NameLaws.{tree-each}
 use Rattle.rows_check.specs.SectionLaws.{printed-is, printed-length}
 use Rattle.writer.specs.Write.{writeLayout, outAfter}
-use Rattle.writer.specs.FitLaws.{fit-parts}
 use Rattle.writer.specs.declared.Written.the-variants.{Length, Refused}
 
 pub record ReadsBack (sheet : List ℕ) (width version : ℕ) (table text : List ℕ) : Type 0 where
@@ -56,33 +54,33 @@ out-refused k bytes out = refl
 -- ---- what is accepted, and with which length
 
 pub record Accepts (sheet : List ℕ) (width version : ℕ) (table text : List ℕ) (room n : ℕ) : Type 0 where
-  pub whole : fault table text ≡ 0
-  pub ruled : rowsRules sheet width table ≡ 0
+  pub whole : fault true table text ≡ 0
+  pub ruled : rowsRules sheet width table text ≡ 0
   pub count : n ≡ length (printed version table text)
   pub fits : n ≤ room
 
 module _ (sheet : List ℕ) (width version : ℕ) (table text : List ℕ) (room : ℕ) where
   -- what neither 90 to 95 nor a rule nor 96 refuses is written
-  pub accepts : fault table text ≡ 0 → rowsRules sheet width table ≡ 0 → length (printed version table text) ≤ room
+  pub accepts : fault true table text ≡ 0 → rowsRules sheet width table text ≡ 0 → length (printed version table text) ≤ room
       → writeLayout sheet width version table text room ≡ Length (length (printed version table text))
   unfolding writeLayout
-  accepts f r h = rw (f, r, le-leb (length (printed version table text)) room h)
+  accepts f r h = rw (none-fault sheet width true table text f r, le-leb (length (printed version table text)) room h)
 
   -- and nothing else
   pub accepted : (n : ℕ) → writeLayout sheet width version table text room ≡ Length n → Accepts sheet width version table text room n
   unfolding writeLayout
-  accepted n e = go (eqb 0 (fault table text)) refl (eqb 0 (rowsRules sheet width table)) refl (leb (length (printed version table text)) room) refl e
+  accepted n e = go (eqb 0 (rowsFault sheet width true table text)) refl (leb (length (printed version table text)) room) refl e
     where
-      go : (a : Bool) → eqb 0 (fault table text) ≡ a → (b : Bool) → eqb 0 (rowsRules sheet width table) ≡ b → (c : Bool) → leb (length (printed version table text)) room ≡ c
-          → cond a (cond b (cond c (Length (length (printed version table text))) (Refused 96)) (Refused (rowsRules sheet width table))) (Refused (fault table text)) ≡ Length n
+      go : (b : Bool) → eqb 0 (rowsFault sheet width true table text) ≡ b → (c : Bool) → leb (length (printed version table text)) room ≡ c
+          → cond b (cond c (Length (length (printed version table text))) (Refused 96)) (Refused (rowsFault sheet width true table text)) ≡ Length n
           → Accepts sheet width version table text room n
-      go true x true y true z e =
+      go true y true z e =
           let m : n ≡ length (printed version table text) = cc in
           let l = leb-true (length (printed version table text)) room z in
-          record { whole = sym (eqb-true 0 (fault table text) x); ruled = sym (eqb-true 0 (rowsRules sheet width table) y); count = m; fits = omega arith }
-      go true x true y false z e = let o : _≡_ {A = ℕ} 0 1 = cc in absurd (omega arith)
-      go true x false y c z e = let o : _≡_ {A = ℕ} 0 1 = cc in absurd (omega arith)
-      go false x b y c z e = let o : _≡_ {A = ℕ} 0 1 = cc in absurd (omega arith)
+          let v = fault-none sheet width true table text (sym (eqb-true 0 (rowsFault sheet width true table text) y)) in
+          record { whole = v .0; ruled = v .1; count = m; fits = omega arith }
+      go true y false z e = let o : _≡_ {A = ℕ} 0 1 = cc in absurd (omega arith)
+      go false y c z e = let o : _≡_ {A = ℕ} 0 1 = cc in absurd (omega arith)
 
   -- ---- the round trip
 
@@ -97,8 +95,7 @@ module _ (sheet : List ℕ) (width version : ℕ) (table text : List ℕ) (room 
       let l : length (printLayout utf8 D t) ≤ 4294967295 = omega (arith, s .within, printed-length table text version, ap length p) in
       let b = reads t text lg l (tree-each table text version w) in
       let z : rulesOf sheet width (fromLayout (locateLayout utf8 D t) .0) ≡ 0 =
-      rules-still sheet width t ∙ sym (rows-rules sheet width (fromLayout t .0) (fit-parts t lg))
-      ∙ ap (λ (x : Layout). rowsRules sheet width (flat (rows x))) (tree-whole version table text) ∙ ap (rowsRules sheet width) (tree-flat table text version w) ∙ a .ruled in
+      rules-still sheet width t ∙ sym (rows-rules sheet width version table text) ∙ a .ruled in
       record {
         layout = locateLayout utf8 D t;
         accepted = rw p (ruled-is sheet width (printLayout utf8 D t) ∙ rw (b .accepted, z));

@@ -1,27 +1,22 @@
 -- What the writer answers and what it leaves of the output: 90 to 95, then the rules, then 96.
 -- Assumes nothing.
-use mathlib.Core.Bool.{cond}
+use mathlib.Core.Bool.{true, cond}
 use Prim.Native.Nat.{ℕ}
 use mathlib.Core.Path.{_≡_}
 use mathlib.Core.List.{List, [], _∷_, _++_}
 use lib.ListN.{length, drop}
 use lib.Dec.{leb, eqb}
-use Rattle.rules.specs.Rules.{ruleNumbers}
-use Rattle.rules.specs.RowRules.{rowsRules}
-use Rattle.rows_check.specs.Check.{rowNumbers, fault, printed}
+use Rattle.rules.specs.RowRules.{rowRuleNumbers, rowsFault}
+use Rattle.rows_check.specs.Check.{printed}
 use Rattle.rows_check.specs.Tree.{skip}
 use Rattle.rows_check.specs.Sections.{Spans, printedName, printedEntry, printedLabel}
 use Rattle.writer.specs.Output.{Wrote}
 use Rattle.writer.specs.declared.Written.{Written}
 use Rattle.writer.specs.declared.Written.the-variants.{Length, Refused}
 
--- 90 to 95, or x
-abbrev pub whole : List ℕ → List ℕ → Written → Written
-whole rows text x = cond (eqb 0 (fault rows text)) x (Refused (fault rows text))
-
--- 60 to 83, or x
-abbrev pub ruled : List ℕ → ℕ → List ℕ → Written → Written
-ruled sheet width rows x = cond (eqb 0 (rowsRules sheet width rows)) x (Refused (rowsRules sheet width rows))
+-- 90 to 95, then 60 to 83, or x
+abbrev pub ruled : List ℕ → ℕ → List ℕ → List ℕ → Written → Written
+ruled sheet width rows text x = cond (eqb 0 (rowsFault sheet width true rows text)) x (Refused (rowsFault sheet width true rows text))
 
 -- 96, or x
 abbrev pub roomy : List ℕ → ℕ → Written → Written
@@ -29,12 +24,12 @@ roomy bytes room x = cond (leb (length bytes) room) x (Refused 96)
 
 -- what refuses to write: the rows, their rules, the room
 abbrev pub writeNumbers : List ℕ
-writeNumbers = rowNumbers ++ (ruleNumbers ++ (96 ∷ []))
+writeNumbers = rowRuleNumbers true ++ (96 ∷ [])
 
 -- by the sheet, the symbol width, the layout version, the rows with their text, and how long the output is
 unfoldable pub writeLayout : List ℕ → ℕ → ℕ → List ℕ → List ℕ → ℕ → Written
 writeLayout sheet width version rows text room =
-    whole rows text (ruled sheet width rows (roomy (printed version rows text) room (Length (length (printed version rows text)))))
+    ruled sheet width rows text (roomy (printed version rows text) room (Length (length (printed version rows text))))
 
 -- the bytes stand at the front of the output, and the rest of it is as it was; a refusal leaves it as it was
 unfoldable pub outAfter : Written → List ℕ → List ℕ → List ℕ

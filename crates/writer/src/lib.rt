@@ -26,17 +26,13 @@ pub fn write_layout(
 ) -> Written
     ensures { λ r. ⌜ Writes (now (sheet .entry)) width version (now (rows .entry)) (now (text .entry)) (now (out .entry)) (now (out .exit)) r ⌝ }
 {
-    match rows_check::layout_size(rows, text) {
+    match rules::check_rows(rows, text, true, width, sheet, false) {
         Sized::Length {
             bytes,
             records,
             structs,
             labels,
         } => {
-            let why = engines::check_rows(rows, width, sheet);
-            if why != 0 {
-                return Written::Refused(why);
-            }
             if out.len() < bytes {
                 return Written::Refused(refusal::OUTPUT_SHORT);
             }

@@ -5,7 +5,7 @@ use Rattle.rules.proofs.items.rules.Statement.{statement}
 use Rattle.rules.proofs.items.rules.Tie as tie
 
 rules-tried-requires : tie.Need-rules-tried-requires
-rules-tried-requires c κs = (c .before .before .before .before .pre .0, c .if1 .taken)
+rules-tried-requires c κs = (c .before .before .before .before .pre, c .if1 .taken)
 
 returns : tie.Need-returns
 returns c = tried-is (c .before .rules-tried .ensures) (c .if2 .taken)

@@ -7,16 +7,16 @@ use Rattle.rules.proofs.items.rules_marked.Tie as tie
 use native.Mathlib.Omega.{arith}
 
 rules-few-requires : tie.Need-rules-few-requires
-rules-few-requires c κs = (c .before .before .before .before .before .pre .0, (c .before .if1 .taken, unowned 65536 (omega arith)))
+rules-few-requires c κs = (c .before .before .before .before .before .pre, (c .before .if1 .taken, unowned 65536 (omega arith)))
 
 returns : tie.Need-returns
 returns c = tried-all (c .before .rules-few .ensures) (search needs)
 
-rules-65535-requires : tie.Need-rules-65535-requires
-rules-65535-requires c κs = let pre = c .before .before .before .before .before .pre in (pre .0, (pre .1, unowned 65536 (omega arith)))
+rules-65536-requires : tie.Need-rules-65536-requires
+rules-65536-requires c κs = (c .before .before .before .before .before .pre, unowned 65536 (omega arith))
 
 returns-2 : tie.Need-returns-2
-returns-2 c = tried-all (c .before .rules-65535 .ensures) (search needs)
+returns-2 c = tried-all (c .before .rules-65536 .ensures) (search needs)
 
 pub rules-marked-spec : {M : Type 1} → statement M
 rules-marked-spec =
@@ -26,5 +26,5 @@ rules-marked-spec =
     rules-few-requires
     returns
     (λ c. search needs)
-    rules-65535-requires
+    rules-65536-requires
     returns-2)
