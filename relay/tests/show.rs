@@ -123,7 +123,7 @@ fn every_number_of_a_reader_has_a_sentence() {
     let sentences = std::fs::read_to_string(at("crates/show/src/refusals.rt")).expect("the sentences");
     let numbers = numbers.lines().filter_map(|line| line.split(" = ").nth(1)?.trim_end_matches(';').parse().ok());
     let of_readers: Vec<u32> = numbers.filter(|n| *n < 90).collect();
-    assert_eq!(of_readers.len(), 52);
+    assert_eq!(of_readers.len(), 51);
     for n in of_readers {
         assert!(sentences.contains(&format!("\n{n:02}: ")), "{n} has no sentence");
     }
