@@ -223,7 +223,7 @@ fn rules_by(
 
 fn rules_64(sheet: &[u16; 520], layout: &[u8], rows: &[u32], task: Task, owners: &mut [u16]) -> u32
     requires { ⌜ Ready (now layout) (now rows) (task .structs) (task .records) ⌝ }
-    requires { ⌜ task .structs .left ≤ 64 ⌝ }
+    requires { ⌜ min (task .structs .left) 65536 ≤ 64 ⌝ }
     requires { ⌜ Unowned (now owners) ⌝ }
     ensures { λ r. ⌜ Tried (now (owners .entry)) (taskFault (now (sheet .entry)) (now (layout .entry)) (now (rows .entry)) task) r ⌝ }
 {
@@ -240,7 +240,7 @@ fn rules_4096(
     owners: &mut [u16],
 ) -> u32
     requires { ⌜ Ready (now layout) (now rows) (task .structs) (task .records) ⌝ }
-    requires { ⌜ task .structs .left ≤ 4096 ⌝ }
+    requires { ⌜ min (task .structs .left) 65536 ≤ 4096 ⌝ }
     requires { ⌜ Unowned (now owners) ⌝ }
     ensures { λ r. ⌜ Tried (now (owners .entry)) (taskFault (now (sheet .entry)) (now (layout .entry)) (now (rows .entry)) task) r ⌝ }
 {
