@@ -1,7 +1,7 @@
 -- Something of each kind is there: a version 4 block with a record, a struct, a label def, a symbol and a mapping is accepted, an edit of
 -- it in the sense of demand 3 moves its rows, and a stream start that is fed whole is done.
 -- Assumes nothing.
-use Prim.Native.Nat.{ℕ, zero, suc, _+_, _*_, _^_}
+use Prim.Native.Nat.{ℕ, zero, suc, _+_, _-_, _*_, _^_}
 use native.Mathlib.Omega.{arith}
 use mathlib.Core.Path.{_≡_, refl, ap, _∙_, subst}
 use mathlib.Core.Bool.{Bool, true, false, _&&_}
@@ -41,19 +41,19 @@ use Rattle.demands.specs.WriterAccepts.{sheet}
 
 -- ---- a version 4 block
 
--- its bytes: every skipped byte is x, and the layout and each of its sections have n bytes x left over
+-- its bytes, for entries of D bytes, up to 96: every skipped byte is x, and the layout and each of its sections have n bytes x left over
 abbrev pub bytesWith : ℕ → ℕ → List ℕ
 bytesWith x n =
     -- dataset A, width 3, reserved
     (65 ∷ replicate 66 0) ++ (3 ∷ 0 ∷ []) ++ replicate 31 x
     -- layout length, version 1
-    ++ ((88 + 4 * n) ∷ 0 ∷ 0 ∷ 0 ∷ 1 ∷ 0 ∷ [])
+    ++ ((56 + 2 * D + 4 * n) ∷ 0 ∷ 0 ∷ 0 ∷ 1 ∷ 0 ∷ [])
     -- one record: rtype 1, schema 0, base 8, hash 0, name A; one field: id 1 of eight bytes, type 1, name B
-    ++ (1 ∷ 0 ∷ (40 + n) ∷ 0 ∷ 1 ∷ 0 ∷ 0 ∷ 0 ∷ 8 ∷ 0 ∷ []) ++ replicate 8 0 ++ (1 ∷ 65 ∷ 0 ∷ 1 ∷ 0 ∷ [])
-    ++ (1 ∷ 0 ∷ 0 ∷ 0 ∷ 8 ∷ 0 ∷ 1 ∷ 0 ∷ 0 ∷ 0 ∷ 0 ∷ []) ++ replicate 5 x ++ (1 ∷ 66 ∷ 0 ∷ []) ++ replicate n x
+    ++ (1 ∷ 0 ∷ (24 + D + n) ∷ 0 ∷ 1 ∷ 0 ∷ 0 ∷ 0 ∷ 8 ∷ 0 ∷ []) ++ replicate 8 0 ++ (1 ∷ 65 ∷ 0 ∷ 1 ∷ 0 ∷ [])
+    ++ (1 ∷ 0 ∷ 0 ∷ 0 ∷ 8 ∷ 0 ∷ 1 ∷ 0 ∷ 0 ∷ 0 ∷ 0 ∷ []) ++ replicate (D - 11) x ++ (1 ∷ 66 ∷ 0 ∷ []) ++ replicate n x
     -- one struct: size 4, name C; one field: id 1 of four bytes, type 1, name D
-    ++ (1 ∷ 0 ∷ (28 + n) ∷ 0 ∷ 4 ∷ 0 ∷ 1 ∷ 67 ∷ 0 ∷ 1 ∷ 0 ∷ [])
-    ++ (1 ∷ 0 ∷ 0 ∷ 0 ∷ 4 ∷ 0 ∷ 1 ∷ 0 ∷ 0 ∷ 0 ∷ 0 ∷ []) ++ replicate 5 x ++ (1 ∷ 68 ∷ 0 ∷ []) ++ replicate n x
+    ++ (1 ∷ 0 ∷ (12 + D + n) ∷ 0 ∷ 4 ∷ 0 ∷ 1 ∷ 67 ∷ 0 ∷ 1 ∷ 0 ∷ [])
+    ++ (1 ∷ 0 ∷ 0 ∷ 0 ∷ 4 ∷ 0 ∷ 1 ∷ 0 ∷ 0 ∷ 0 ∷ 0 ∷ []) ++ replicate (D - 11) x ++ (1 ∷ 68 ∷ 0 ∷ []) ++ replicate n x
     -- one label def: name E; one label: code 5, name F
     ++ (1 ∷ 0 ∷ (12 + n) ∷ 0 ∷ 1 ∷ 69 ∷ 0 ∷ 1 ∷ 0 ∷ 5 ∷ 0 ∷ 1 ∷ 70 ∷ 0 ∷ []) ++ replicate n x
     ++ replicate n x
@@ -74,25 +74,25 @@ treeWith x n = record {
       base = 8;
       hash = 0;
       name = record { start = 21; text = 65 ∷ [] };
-      fields = record { entries = record { head = 1 ∷ 0 ∷ 0 ∷ 0 ∷ 8 ∷ 0 ∷ 1 ∷ 0 ∷ 0 ∷ 0 ∷ 0 ∷ []; skipped = replicate 5 x } ∷ []; names = record { start = 42; text = 66 ∷ [] } ∷ [] };
+      fields = record { entries = record { head = 1 ∷ 0 ∷ 0 ∷ 0 ∷ 8 ∷ 0 ∷ 1 ∷ 0 ∷ 0 ∷ 0 ∷ 0 ∷ []; skipped = replicate (D - 11) x } ∷ []; names = record { start = 26 + D; text = 66 ∷ [] } ∷ [] };
       rest = replicate n x;
     } ∷ [];
     structs = record {
       size = 4;
-      name = record { start = 51 + n; text = 67 ∷ [] };
-      fields = record { entries = record { head = 1 ∷ 0 ∷ 0 ∷ 0 ∷ 4 ∷ 0 ∷ 1 ∷ 0 ∷ 0 ∷ 0 ∷ 0 ∷ []; skipped = replicate 5 x } ∷ []; names = record { start = 72 + n; text = 68 ∷ [] } ∷ [] };
+      name = record { start = 35 + D + n; text = 67 ∷ [] };
+      fields = record { entries = record { head = 1 ∷ 0 ∷ 0 ∷ 0 ∷ 4 ∷ 0 ∷ 1 ∷ 0 ∷ 0 ∷ 0 ∷ 0 ∷ []; skipped = replicate (D - 11) x } ∷ []; names = record { start = 40 + 2 * D + n; text = 68 ∷ [] } ∷ [] };
       rest = replicate n x;
     } ∷ [];
-    labels = record { name = record { start = 79 + 2 * n; text = 69 ∷ [] }; labels = record { code = 5; name = record { start = 86 + 2 * n; text = 70 ∷ [] } } ∷ []; rest = replicate n x } ∷ [];
+    labels = record { name = record { start = 47 + 2 * D + 2 * n; text = 69 ∷ [] }; labels = record { code = 5; name = record { start = 54 + 2 * D + 2 * n; text = 70 ∷ [] } } ∷ []; rest = replicate n x } ∷ [];
     rest = replicate n x;
   };
   symbology = record {
-    symbols = record { start = 200 + 4 * n; text = 83 ∷ 0 ∷ 0 ∷ [] } ∷ [];
+    symbols = record { start = 168 + 2 * D + 4 * n; text = 83 ∷ 0 ∷ 0 ∷ [] } ∷ [];
     partial = [];
     notFound = [];
     mappings = record {
-      rawSymbol = record { start = 215 + 4 * n; text = 77 ∷ 0 ∷ 0 ∷ [] };
-      intervals = record { from = 20240229; to = 20240301; symbol = record { start = 230 + 4 * n; text = 73 ∷ 0 ∷ 0 ∷ [] } } ∷ [];
+      rawSymbol = record { start = 183 + 2 * D + 4 * n; text = 77 ∷ 0 ∷ 0 ∷ [] };
+      intervals = record { from = 20240229; to = 20240301; symbol = record { start = 198 + 2 * D + 4 * n; text = 73 ∷ 0 ∷ 0 ∷ [] } } ∷ [];
     } ∷ [];
   };
 }
@@ -117,9 +117,9 @@ itsFields = record {
 -- its symbology rows
 abbrev pub fivesWith : ℕ → List (List ℕ)
 fivesWith n =
-    (0 ∷ (200 + 4 * n) ∷ 1 ∷ 0 ∷ 0 ∷ [])
-    ∷ (3 ∷ (215 + 4 * n) ∷ 1 ∷ 1 ∷ 0 ∷ [])
-    ∷ (4 ∷ (230 + 4 * n) ∷ 1 ∷ 20240229 ∷ 20240301 ∷ [])
+    (0 ∷ (168 + 2 * D + 4 * n) ∷ 1 ∷ 0 ∷ 0 ∷ [])
+    ∷ (3 ∷ (183 + 2 * D + 4 * n) ∷ 1 ∷ 1 ∷ 0 ∷ [])
+    ∷ (4 ∷ (198 + 2 * D + 4 * n) ∷ 1 ∷ 20240229 ∷ 20240301 ∷ [])
     ∷ []
 
 -- its layout rows
@@ -127,12 +127,12 @@ abbrev pub ninesWith : ℕ → List (List ℕ)
 ninesWith n =
     (10 ∷ 21 ∷ 1 ∷ 1 ∷ 0 ∷ 8 ∷ 1 ∷ 0 ∷ 0 ∷ [])
     ∷ (11 ∷ 1 ∷ 0 ∷ 8 ∷ 1 ∷ 0 ∷ 0 ∷ 0 ∷ 0 ∷ [])
-    ∷ (12 ∷ 42 ∷ 1 ∷ 0 ∷ 0 ∷ 0 ∷ 0 ∷ 0 ∷ 0 ∷ [])
-    ∷ (13 ∷ (51 + n) ∷ 1 ∷ 4 ∷ 1 ∷ 0 ∷ 0 ∷ 0 ∷ 0 ∷ [])
+    ∷ (12 ∷ (26 + D) ∷ 1 ∷ 0 ∷ 0 ∷ 0 ∷ 0 ∷ 0 ∷ 0 ∷ [])
+    ∷ (13 ∷ (35 + D + n) ∷ 1 ∷ 4 ∷ 1 ∷ 0 ∷ 0 ∷ 0 ∷ 0 ∷ [])
     ∷ (11 ∷ 1 ∷ 0 ∷ 4 ∷ 1 ∷ 0 ∷ 0 ∷ 0 ∷ 0 ∷ [])
-    ∷ (12 ∷ (72 + n) ∷ 1 ∷ 0 ∷ 0 ∷ 0 ∷ 0 ∷ 0 ∷ 0 ∷ [])
-    ∷ (14 ∷ (79 + 2 * n) ∷ 1 ∷ 1 ∷ 0 ∷ 0 ∷ 0 ∷ 0 ∷ 0 ∷ [])
-    ∷ (15 ∷ (86 + 2 * n) ∷ 1 ∷ 5 ∷ 0 ∷ 0 ∷ 0 ∷ 0 ∷ 0 ∷ [])
+    ∷ (12 ∷ (40 + 2 * D + n) ∷ 1 ∷ 0 ∷ 0 ∷ 0 ∷ 0 ∷ 0 ∷ 0 ∷ [])
+    ∷ (14 ∷ (47 + 2 * D + 2 * n) ∷ 1 ∷ 1 ∷ 0 ∷ 0 ∷ 0 ∷ 0 ∷ 0 ∷ [])
+    ∷ (15 ∷ (54 + 2 * D + 2 * n) ∷ 1 ∷ 5 ∷ 0 ∷ 0 ∷ 0 ∷ 0 ∷ 0 ∷ [])
     ∷ []
 
 -- the block with zeros and nothing left over
@@ -144,7 +144,7 @@ abbrev pub edited : List ℕ
 edited = bytesWith 170 2 ++ (187 ∷ [])
 
 -- both are read
-reads : (blockOf 4 sheet plain ≡ ok (treeWith 0 0, []) 233) × (blockOf 4 sheet edited ≡ ok (treeWith 170 2, 187 ∷ []) 242)
+reads : (blockOf 4 sheet plain ≡ ok (treeWith 0 0, []) (201 + 2 * D)) × (blockOf 4 sheet edited ≡ ok (treeWith 170 2, 187 ∷ []) (210 + 2 * D))
 unfolding blockOf lengths whole block header layoutPart symbologyPart named _then_ _on_ checked raw skip num sized utf8 symbology list symbol date interval mapping placed limited asks judged boxed parts groups times full padded byte distinct recordL structL labelDef label fields entry section name text textOf D isDate isDay daysIn isLeap rulesOf seqsFault structsFault recordsFault structFault recordFault seqFault fieldsFault baseFault extFault tilingFault spans structAlign largest fieldFault breaks71 breaks72 breaks73 breaks74 breaks76 breaks77 breaks79 breaks80 alignOf defOf idOf isDecimal isExtension isPadding isStruct isSymbol memberAlign namesLabel offOf pastBase sizeOf typeOf
 reads = (refl, refl)
 
@@ -154,12 +154,12 @@ unfolding lengths fieldsOf fieldsWith symbologyRows rows
 gives x n r k = refl
 
 -- the block is accepted, with a record, a struct, a label def, a symbol and a mapping
-pub accepted : given 4 sheet plain ≡ ok (itsFields, (fivesWith 0, ninesWith 0)) 233
-accepted = ap (gist (lengths 4)) (reads .0) ∙ gives 0 0 [] 233
+pub accepted : given 4 sheet plain ≡ ok (itsFields, (fivesWith 0, ninesWith 0)) (201 + 2 * D)
+accepted = ap (gist (lengths 4)) (reads .0) ∙ gives 0 0 [] (201 + 2 * D)
 
 -- so is the other, with the same fields and moved rows
-pub accepted-edited : given 4 sheet edited ≡ ok (itsFields, (fivesWith 2, ninesWith 2)) 242
-accepted-edited = ap (gist (lengths 4)) (reads .1) ∙ gives 170 2 (187 ∷ []) 242
+pub accepted-edited : given 4 sheet edited ≡ ok (itsFields, (fivesWith 2, ninesWith 2)) (210 + 2 * D)
+accepted-edited = ap (gist (lengths 4)) (reads .1) ∙ gives 170 2 (187 ∷ []) (210 + 2 * D)
 
 -- ---- an edit of that block
 
@@ -227,10 +227,11 @@ octets-bytes (x ∷ xs) e (suc k) = octets-bytes xs (both-true (ltb x 256) (octe
 
 -- demand 3 speaks of that edit: it is read as the block was
 pub edit-same : SameRead sheet plain (treeWith 0 0) edited (put edit)
+unfolding D
 edit-same =
-    let short : length (bytesOf (filled marks) ++ (187 ∷ [])) ≡ 242 = ap length (moves .bytes) in
+    let short : length (bytesOf (filled marks) ++ (187 ∷ [])) ≡ (210 + 2 * D) = ap length (moves .bytes) in
     subst (λ b. SameRead sheet plain (treeWith 0 0) b (put edit)) (moves .bytes)
-    (demand3 sheet plain (treeWith 0 0) [] 233 (octets-bytes plain refl) (reads .0) .edits (filled marks) (187 ∷ []) edit (omega (arith, short)))
+    (demand3 sheet plain (treeWith 0 0) [] (201 + 2 * D) (octets-bytes plain refl) (reads .0) .edits (filled marks) (187 ∷ []) edit (omega (arith, short)))
 
 -- ---- a feed that is done
 
