@@ -1,9 +1,9 @@
 -- The eleven bytes of a field row, and the numbers of eleven bytes. Assumes nothing.
-use Prim.Native.Nat.{ℕ, zero, suc, _+_, _*_, _/_, _%_, _<_}
+use Prim.Native.Nat.{ℕ, zero, suc, _+_, _%_, _<_}
 use native.Mathlib.Nat.{add-zero}
 use native.Mathlib.Omega.{arith}
 use mathlib.Core.Path.{_≡_, refl, ap₂, _∙_}
-use mathlib.Core.List.{List, [], _∷_, _++_, map}
+use mathlib.Core.List.{List, [], _∷_, map}
 use lib.ListN.{length, getD, take, drop}
 use lib.Seq.{getD-take, getD-drop}
 use lib.Dec.{lit<}
@@ -44,18 +44,3 @@ module _ (t : List ℕ) (at : ℕ) where
   unfolding rowBytes cutBytes
   row-numbers a b c d e f g =
       ap₂ _∷_ (omega arith) (ap₂ _∷_ (omega arith) (ap₂ _∷_ (omega arith) (ap₂ _∷_ (omega arith) (ap₂ _∷_ (omega arith) (ap₂ _∷_ (omega arith) (ap₂ _∷_ (omega arith) refl))))))
-
--- and so do bytes, from the row of their numbers
-pub numbers-bytes : (e : List ℕ) → ((k : ℕ) → getD e k 0 < 256) → (kind last : ℕ) → rowBytes (kind ∷ (fieldNumbers e ++ (last ∷ []))) 0 ≡ entryBytes e 0
-unfolding rowBytes cutBytes
-numbers-bytes e b kind last =
-    ap₂ _∷_ (low 0 1) (ap₂ _∷_ (high 0 1) (ap₂ _∷_ (low 2 3) (ap₂ _∷_ (high 2 3) (ap₂ _∷_ (low 4 5) (ap₂ _∷_ (high 4 5) (ap₂ _∷_ (one 6) (ap₂ _∷_ (one 7) (ap₂ _∷_ (low 8 9) (ap₂ _∷_ (high 8 9) (ap₂ _∷_ (one 10) refl))))))))))
-  where
-    low : (i j : ℕ) → (getD e i 0 + 256 * getD e j 0) % 256 ≡ getD e i 0
-    low i j = omega (arith, b i)
-
-    high : (i j : ℕ) → (getD e i 0 + 256 * getD e j 0) / 256 % 256 ≡ getD e j 0
-    high i j = omega (arith, b i, b j)
-
-    one : (i : ℕ) → getD e i 0 % 256 ≡ getD e i 0
-    one i = omega (arith, b i)

@@ -2,11 +2,10 @@
 use Prim.Native.Nat.{ℕ, zero, suc, _^_, _+_, _-_, _/_, _%_, _≤_, _<_}
 use mathlib.Core.Path.{_≡_, refl, sym, ap, ap₂, _∙_}
 use mathlib.Core.List.{List, [], _∷_, _++_, map}
-use native.Mathlib.Nat.{add-zero}
 use mathlib.Core.Bool.{true, false}
-use lib.ListN.{length, getD, take, drop}
+use lib.ListN.{length, take, drop}
 use lib.Dec.{eqb}
-use lib.Seq.{drop-cons, take-take}
+use lib.Seq.{take-take}
 use native.Mathlib.Omega.{arith}
 use borrow.Author.Tests.{eq-eqb, ne-eqb}
 use Rattle.codec.specs.Codec.{Res, ok, refuse, _>>=_, padded, num, named, _then_, sized, times, timesParse, among, distinct, distinctParse, counted}
@@ -29,29 +28,10 @@ use Rattle.layout.specs.Layout
 use Rattle.layout.specs.Layout.{Entry, Fields, RecordL, StructL, Label, LabelDef, toRecord, toStruct, toLabelDef}
 use Rattle.layout.specs.LayoutOf
 use Rattle.layout.specs.LayoutOf.{D, D-least}
+use Rattle.layout.specs.PlaceLaws.{bytes-11}
 use Rattle.layout.specs.Rows.{headRow, entryRow, nameRow, fieldRows, recordRows, structRows, labelRow, labelDefRows, row10, row12, row13, row14, row15}
 use Rattle.entry.specs.Entry.{entryBytes}
 use Rattle.layout.specs.Reader.{entriesAt, namesAt, fieldsAt, recordBody, structBody, labelBody, bodyOf, sectionsAt, groupAt, groupsAt, labelsAt}
-
--- bytes written out one by one
-bytesFrom : ℕ → List ℕ → ℕ → ℕ → List ℕ
-bytesFrom zero s at k = []
-bytesFrom (suc n) s at k = getD s (at + k) 0 ∷ bytesFrom n s at (suc k)
-
-bytes-from : (n : ℕ) (s : List ℕ) (at k : ℕ) → at + k + n ≤ length s → bytesFrom n s at k ≡ take n (drop (at + k) s)
-unfolding bytesFrom
-bytes-from zero s at k h = refl
-bytes-from (suc n) s at k h =
-    let i : at + k < length s = omega arith in
-    let j : at + suc k + n ≤ length s = omega arith in
-    let e : suc (at + k) ≡ at + suc k = omega arith in
-    rw (drop-cons s (at + k) 0 i, e, bytes-from n s at (suc k) j)
-
-pub bytes-11 : (s : List ℕ) (at : ℕ) → at + 11 ≤ length s → entryBytes s at ≡ take 11 (drop at s)
-unfolding bytesFrom
-bytes-11 s at h =
-    let j : at + 0 + 11 ≤ length s = omega arith in
-    simp add-zero at (bytes-from 11 s at 0 j)
 
 -- an entry of D bytes
 module _ (base : ℕ) (s : List ℕ) (at : ℕ) where

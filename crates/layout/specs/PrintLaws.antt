@@ -9,7 +9,7 @@ use borrow.Author.Tests.{ne-eqb, le-leb}
 use Rattle.codec.specs.Codec.{_then_, ok, Bytes, padded, little, num, named, sized, times, timesPrint, timesLegal, timesEach, among, distinct, distinctLegal}
 use Rattle.text.specs.Utf8.{utf8}
 use Rattle.wire.specs.Formats.{Name, name}
-use Rattle.wire.specs.FormatLaws.{section-print, section-legal, section-holds, section-told}
+use Rattle.wire.specs.FormatLaws.{section-print, section-legal, section-holds}
 use Rattle.layout.specs.Layout.{Entry, Fields, RecordL, StructL, Label, LabelDef, Layout, entry, fields, recordL, structL, label, labelBody, labelDef, recordBody, structBody, parts, groups, toLayout, fromLayout, printLayout, locateLayout, bareLayout, LegalLayout, EachName}
 use Rattle.layout.specs.LayoutLaws.{parse-print, layout-octets}
 use Rattle.layout.specs.Rows.{rows}
@@ -162,28 +162,6 @@ module _ (utf8 : List ℕ → Bool) where
     pub layout-each : (P : ℕ → List ℕ → Type 0) (t : Layout) → timesEach (recordL utf8 D .codec) P (t .records) → timesEach (structL utf8 D .codec) P (t .structs) → timesEach (labelDef utf8 .codec) P (t .labels) → EachName utf8 D P t
     unfolding EachName parts groups _then_ sized times num
     layout-each P t r s l = (tt, (r, (s, l)))
-
-    -- ---- what a part that has bytes tells
-
-    pub entry-told : (e : Entry) → entry utf8 D .codec .legal e → (length (e .head) ≡ 11) × Bytes (e .head)
-    unfolding entry named padded
-    entry-told e lg = (lg .0, lg .1)
-
-    pub fields-told : (f : Fields) → fields utf8 D .codec .legal f → (length (f .entries) < 65536) × (length (f .names) ≡ length (f .entries)) × timesLegal (entry utf8 D .codec) (f .entries)
-    unfolding fields named sized _then_ times
-    fields-told f lg = (lg .0, lg .1 .1 .0, lg .1 .0 .1)
-
-    pub struct-told : (s : StructL) → structL utf8 D .codec .legal s → (s .size < 65536) × fields utf8 D .codec .legal (s .fields)
-    unfolding structL named _then_ num
-    struct-told s lg = let h = section-told (structBody utf8 D) _ lg in (h .0, h .1 .1)
-
-    pub record-told : (r : RecordL) → recordL utf8 D .codec .legal r → (r .rtype < 65536) × (r .base < 65536) × fields utf8 D .codec .legal (r .fields)
-    unfolding recordL named _then_ num
-    record-told r lg = let h = section-told (recordBody utf8 D) _ lg in (h .0, h .1 .1 .0, h .1 .1 .1 .1 .1)
-
-    pub layout-told : (t : Layout) → LegalLayout utf8 D t → timesLegal (recordL utf8 D .codec) (t .records) × timesLegal (structL utf8 D .codec) (t .structs) × (length (t .structs) < 65536)
-    unfolding LegalLayout parts groups _then_ sized times num
-    layout-told t lg = (lg .0 .1 .0 .1 .1, lg .0 .1 .1 .0 .1 .1, lg .0 .1 .1 .0 .0)
 
 -- ---- what is printed reads back
 

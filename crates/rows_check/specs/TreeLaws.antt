@@ -9,7 +9,6 @@ use lib.Seq.{drop-cons}
 use lib.Dec.{T, ltb, ltb→lt}
 use Rattle.entry.specs.EntryLaws.{row-numbers}
 use Rattle.layout.specs.Rows.{entryRow, nameRow, fieldRows, recordRows, structRows, labelRow, labelDefRows, rows}
-use Rattle.layout.specs.Layout.{fromLayout, toLayout}
 use Rattle.layout.specs.PlaceLaws.{rows-parts}
 use Rattle.layout.specs.NameCountLaws.{AllOf, Even, NamesMatch}
 use Rattle.table.specs.Table.{flat, allRows}
@@ -254,11 +253,6 @@ module _ (version : ℕ) (table text : List ℕ) where
   pub tree-labels : length (treeOf version table text .labels) ≡ kinds table 14
   unfolding treeOf
   tree-labels = length-from (nextSection 14 table) (labelDefOf table text) (kinds table 14) (labelsFrom table)
-
--- nothing is left over
-pub tree-whole : (version : ℕ) (table text : List ℕ) → toLayout (fromLayout (treeOf version table text) .0, []) ≡ treeOf version table text
-unfolding treeOf
-tree-whole version table text = refl
 
 -- ---- names and entries
 

@@ -23,11 +23,6 @@ module _ {A : Type 0} (F : Format A false) where
   unfolding section boxed
   section-holds P z e = e
 
-  -- what a section that has bytes tells of its contents
-  pub section-told : (z : A × List ℕ) → section F .codec .legal z → F .codec .legal (z .0)
-  unfolding section boxed
-  section-told z lg = lg .0
-
   -- a section without leftovers: its bytes, and that it has bytes
   pub section-print : (x : A) → section F .codec .print (x, []) ≡ little 2 (2 + length (F .codec .print x)) ++ F .codec .print x
   unfolding section boxed
