@@ -7,8 +7,9 @@ use mathlib.Core.List.{List}
 use lib.ListN.{length, take, drop}
 use lib.Dec.{leb, eqb}
 use borrow.Author.Tests.{le-leb, lt-leb}
+use Rattle.refusal.specs.declared.Refusal.{Refusal}
 use Rattle.codec.specs.CaseLaws.{by-bool}
-use Rattle.codec.specs.Codec.{Res, ok, refuse, named, _then_, _on_, whole, faultOf}
+use Rattle.codec.specs.Codec.{Res, ok, refuse, refusal, named, _then_, _on_, whole}
 use Rattle.layout.specs.Layout.{Layout}
 use Rattle.layout.specs.Rows.{rows}
 use Rattle.symbology.specs.Symbology.{Symbology}
@@ -21,7 +22,7 @@ use Rattle.symbology.specs.declared.SectionAnswer.the-variants as SectionAnswer
 use Rattle.block.specs.Block.{Header, Block, lengths, header, widthOf, layoutPart, symbologyPart, toBlock, block, blockOf}
 use Rattle.block.specs.Fields.{fieldsWith, fieldsOf}
 use Rattle.block.specs.Read.{fives, nines, roomy, over, blockAnswer, blockSymbology, blockLayout, Promise, answerOf, symbologyAfter, layoutAfter}
-use Rattle.block.specs.Parts.{Fixed, OfHeader, Headed, layoutTable, LayoutRead, LayoutReads, lays, lays-no, SymbologyReads, Does}
+use Rattle.block.specs.Parts.{Fixed, OfHeader, refusalOf, Headed, layoutTable, LayoutRead, LayoutReads, lays, lays-no, SymbologyReads, Does}
 use Rattle.block.specs.declared.MetadataLengths.{MetadataLengths}
 use Rattle.block.specs.declared.Fields.{Fields}
 use Rattle.block.specs.declared.LayoutFound.{LayoutFound}
@@ -38,7 +39,7 @@ lays-at {has} {sheet} {w} {b} {v = v} {n} {e} h q = go (rw q at h)
     go : LayoutReads has sheet w b (LayoutFound'.Accepted v n e) → LayoutRead has sheet w b v n e
     go (lays x) = x
 
-pub lays-bad : {has : Bool} {sheet : List ℕ} {w : ℕ} {b : List ℕ} {r : LayoutFound} {k : ℕ} → LayoutReads has sheet w b r → r ≡ LayoutFound'.Refused k → layoutPart has sheet w .codec .parse 0 b 100 ≡ refuse k
+pub lays-bad : {has : Bool} {sheet : List ℕ} {w : ℕ} {b : List ℕ} {r : LayoutFound} {k : Refusal} → LayoutReads has sheet w b r → r ≡ LayoutFound'.Refused k → layoutPart has sheet w .codec .parse 0 b 100 ≡ refuse k
 lays-bad {has} {sheet} {w} {b} {k = k} h q = go (rw q at h)
   where
     go : LayoutReads has sheet w b (LayoutFound'.Refused k) → layoutPart has sheet w .codec .parse 0 b 100 ≡ refuse k
@@ -47,7 +48,7 @@ lays-bad {has} {sheet} {w} {b} {k = k} h q = go (rw q at h)
 -- ---- answers from what was read
 
 module _ (v : MetadataLengths) {z : Res (Block × List ℕ)} (s l : List ℕ) where
-  pub does-no : {k : ℕ} → z ≡ refuse k → Does v z s l (Refused k) s l
+  pub does-no : {k : Refusal} → z ≡ refuse k → Does v z s l (Refused k) s l
   unfolding answerOf symbologyAfter layoutAfter
   does-no e = record { answer = rw e; symbology = rw e; layout = rw e }
 
@@ -64,11 +65,11 @@ module _ (v : MetadataLengths) {z : Res (Block × List ℕ)} (s l : List ℕ) wh
 -- ---- the whole from its parts
 
 module _ (sheet : List ℕ) (v : MetadataLengths) (b : List ℕ) (h : Header) (w : ℕ) (eh : header v .codec .parse 0 b 0 ≡ ok h 100) (ew : w ≡ widthOf v h) where
-  whole-no : {k : ℕ} → layoutPart (v .«has_layout») sheet w .codec .parse 0 b 100 ≡ refuse k → whole (block sheet v .codec) 0 b ≡ refuse k
+  whole-no : {k : Refusal} → layoutPart (v .«has_layout») sheet w .codec .parse 0 b 100 ≡ refuse k → whole (block sheet v .codec) 0 b ≡ refuse k
   unfolding whole block named _on_ _then_
   whole-no el = rw (eh, ← ew, el)
 
-  whole-bad : {l : Layout} {at k : ℕ} → layoutPart (v .«has_layout») sheet w .codec .parse 0 b 100 ≡ ok l at → symbologyPart (v .«has_layout») w .codec .parse 0 b at ≡ refuse k
+  whole-bad : {l : Layout} {at : ℕ} {k : Refusal} → layoutPart (v .«has_layout») sheet w .codec .parse 0 b 100 ≡ ok l at → symbologyPart (v .«has_layout») w .codec .parse 0 b at ≡ refuse k
       → whole (block sheet v .codec) 0 b ≡ refuse k
   unfolding whole block named _on_ _then_
   whole-bad el es = rw (eh, ← ew, el, es)
@@ -87,12 +88,12 @@ module _ (sheet : List ℕ) (v : MetadataLengths) (b : List ℕ) (w : ℕ) (s l 
   eh : header v .codec .parse 0 b 0 ≡ ok H 100
   eh = header-got v b (hd .fixed) (hd .passed)
 
-  pub body-no : {k : ℕ} → layoutPart (v .«has_layout») sheet w .codec .parse 0 b 100 ≡ refuse k → Does v (whole (block sheet v .codec) 0 b) s l (Refused k) s l
+  pub body-no : {k : Refusal} → layoutPart (v .«has_layout») sheet w .codec .parse 0 b 100 ≡ refuse k → Does v (whole (block sheet v .codec) 0 b) s l (Refused k) s l
   body-no el = does-no v s l (whole-no sheet v b H w eh (hd .width-is H 100 eh) el)
 
   module _ {n9 ver at : ℕ} (L : LayoutRead (v .«has_layout») sheet w b ver n9 at)
       {write : Bool} {s′ : List ℕ} {r : SectionAnswer} (S : SymbologyReads (v .«has_layout») write w b at s s′ r) where
-    pub body-bad : {k : ℕ} → r ≡ SectionAnswer'.Refused k → Does v (whole (block sheet v .codec) 0 b) s l (Refused k) s′ l
+    pub body-bad : {k : Refusal} → r ≡ SectionAnswer'.Refused k → Does v (whole (block sheet v .codec) 0 b) s l (Refused k) s′ l
     body-bad {k} q =
         let (e, es) = rows-refused (S .fives) q in
         rw es (does-no v s l (whole-bad sheet v b H w eh (hd .width-is H 100 eh) (L .is) (S .is ∙ rw e)))
@@ -154,20 +155,20 @@ module _ (version : ℕ) (b sheet s l : List ℕ) where
   unfolding blockAnswer blockSymbology blockLayout
   promise d = record { answer = d .answer; symbology = d .symbology; layout = d .layout }
 
-  pub block-low : version < 1 → Promise version b sheet s l (Refused 11) s l
+  pub block-low : version < 1 → Promise version b sheet s l (Refused (refusal 11 3)) s l
   unfolding blockOf
   block-low h = promise (does-no (lengths version) s l (rw (lt-leb 1 version h)))
 
-  pub block-high : 1 ≤ version → 4 < version → Promise version b sheet s l (Refused 11) s l
+  pub block-high : 1 ≤ version → 4 < version → Promise version b sheet s l (Refused (refusal 11 3)) s l
   unfolding blockOf
   block-high h g = promise (does-no (lengths version) s l (rw (le-leb 1 version h, lt-leb version 4 g)))
 
   module _ (lo : 1 ≤ version) (hi : version ≤ 4) where
-    pub block-short : length b < 100 → Promise version b sheet s l (Refused 13) s l
+    pub block-short : length b < 100 → Promise version b sheet s l (Refused (refusal 13 0)) s l
     unfolding blockOf
     block-short h = promise (does-no (lengths version) s l (rw (le-leb 1 version lo, le-leb version 4 hi, lt-leb 100 (length b) h)))
 
-    pub block-long : 100 ≤ length b → 4294967295 < length b → Promise version b sheet s l (Refused 13) s l
+    pub block-long : 100 ≤ length b → 4294967295 < length b → Promise version b sheet s l (Refused (refusal 13 0)) s l
     unfolding blockOf
     block-long h g = promise (does-no (lengths version) s l (rw (le-leb 1 version lo, le-leb version 4 hi, le-leb 100 (length b) h, lt-leb (length b) 4294967295 g)))
 
@@ -179,10 +180,10 @@ module _ (version : ℕ) (b sheet s l : List ℕ) where
       pub block-done : {r : BlockAnswer} {s′ l′ : List ℕ} → Does v (whole (block sheet v .codec) 0 b) s l r s′ l′ → Promise version b sheet s l r s′ l′
       block-done {r} {s′} {l′} d = promise (rw block-is (subst (λ (x : MetadataLengths). Does x (whole (block sheet v .codec) 0 b) s l r s′ l′) ev d))
 
-      header-no : (r : Res Header) {k : ℕ} → k ≡ faultOf r → 0 < k → r ≡ refuse k
-      header-no (ok x j) e p = absurd (omega arith)
-      header-no (refuse j) e p = ap (λ (m : ℕ). refuse m) (sym e)
+      header-no : (r : Res Header) {k : Refusal} → k ≡ refusalOf r → 0 < k .number → r ≡ refuse k
+      header-no (ok x j) {k} e p = absurd (let z : k .number ≡ 0 = ap (λ (m : Refusal). m .number) e in omega arith)
+      header-no (refuse j) e p = ap (λ (m : Refusal). refuse m) (sym e)
 
-      pub block-header : {k : ℕ} → k ≡ faultOf (header v .codec .parse 0 b 0) → 0 < k → Promise version b sheet s l (Refused k) s l
+      pub block-header : {k : Refusal} → k ≡ refusalOf (header v .codec .parse 0 b 0) → 0 < k .number → Promise version b sheet s l (Refused k) s l
       unfolding whole block named _on_
       block-header {k} e p = block-done (does-no v s l (rw (header-no (header v .codec .parse 0 b 0) e p)))

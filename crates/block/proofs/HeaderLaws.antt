@@ -6,13 +6,14 @@ use mathlib.Core.Path.{_≡_, refl, sym, ap, _∙_, subst}
 use mathlib.Core.Bool.{Bool, true, false}
 use mathlib.Core.List.{List}
 use lib.ListN.{length, getD, take, drop}
-use Rattle.codec.specs.Codec.{Res, ok, _>>=_, need, raw, skip, num, value, _then_, named, checked, faultOf}
+use Rattle.codec.specs.Codec.{Res, ok, refuse, refusal, _>>=_, need, raw, skip, num, value, _then_, named, checked, faultOf}
+use Rattle.refusal.specs.declared.Refusal.{Refusal}
 use Rattle.codec.specs.CaseLaws.{by-bool}
 use Rattle.codec.specs.StepLaws.{raw-got, num-got, byte-got}
 use Rattle.text.specs.Utf8.{utf8}
 use Rattle.text.specs.Trim.{trimmedLen}
 use Rattle.block.specs.Block.{Header, header, isSchema, isStype, isStypeIn, widthOf}
-use Rattle.block.specs.Parts.{Fixed, OfHeader}
+use Rattle.block.specs.Parts.{Fixed, OfHeader, refusalOf}
 use Rattle.block.specs.Fields.{fieldsWith, schemaOf, endOf, limitOf, stypeInOf, tsOutOf}
 use Rattle.block.specs.declared.MetadataLengths.{MetadataLengths}
 use Rattle.block.specs.declared.Optional.{Optional}
@@ -54,17 +55,17 @@ headerAt v b =
       reserved = take (v .«reserved_len») (drop (d + 29 + k + w) b);
     }
 
--- the tests in wire order
-abbrev tests : Header → Res Header
-tests h =
+-- the tests in wire order, each at the first byte of what it tests; `d` is the dataset's length and `at` the place of stype_in
+abbrev tests : ℕ → ℕ → Header → Res Header
+tests d at h =
     need (utf8 (h .dataset)) 20 0 >>= λ _ _.
-    need (isSchema (h .schema)) 21 0 >>= λ _ _.
-    need (isStypeIn (h .stypeIn)) 22 0 >>= λ _ _.
-    need (isStype (h .stypeOut)) 23 0 >>= λ _ _.
+    need (isSchema (h .schema)) 21 d >>= λ _ _.
+    need (isStypeIn (h .stypeIn)) 22 at >>= λ _ _.
+    need (isStype (h .stypeOut)) 23 (at + 1) >>= λ _ _.
     ok h 100
 
 module _ (v : MetadataLengths) (b : List ℕ) (f : Fixed v b) where
-  pub header-is : header v .codec .parse 0 b 0 ≡ tests (headerAt v b)
+  pub header-is : header v .codec .parse 0 b 0 ≡ tests (v .«dataset_cstr_len») (v .«dataset_cstr_len» + 26 + v .«record_count_len») (headerAt v b)
   unfolding header named _then_ checked skip
   header-is =
       let d : ℕ = v .«dataset_cstr_len» in
@@ -99,30 +100,41 @@ module _ (v : MetadataLengths) (b : List ℕ) (f : Fixed v b) where
       (λ e2. rw e2)))
       (λ e1. rw e1))
 
+-- the number of a refusal, in both words
+pub refusal-number : {A : Type 0} (r : Res A) {k : Refusal} → k ≡ refusalOf r → k .number ≡ faultOf r
+refusal-number (ok x j) e = ap (λ (m : Refusal). m .number) e
+refusal-number (refuse k) e = ap (λ (m : Refusal). m .number) e
+
 -- ---- the ways out
 
 module _ (v : MetadataLengths) (b : List ℕ) (f : Fixed v b) where
   abbrev H : Header
   H = headerAt v b
 
-  pub fault-20 : utf8 (H .dataset) ≡ false → 20 ≡ faultOf (header v .codec .parse 0 b 0)
+  abbrev D : ℕ
+  D = v .«dataset_cstr_len»
+
+  abbrev At : ℕ
+  At = v .«dataset_cstr_len» + 26 + v .«record_count_len»
+
+  pub fault-20 : utf8 (H .dataset) ≡ false → refusal 20 0 ≡ refusalOf (header v .codec .parse 0 b 0)
   fault-20 e1 = rw (header-is v b f, e1)
 
-  pub fault-21 : utf8 (H .dataset) ≡ true → isSchema (H .schema) ≡ false → 21 ≡ faultOf (header v .codec .parse 0 b 0)
+  pub fault-21 : utf8 (H .dataset) ≡ true → isSchema (H .schema) ≡ false → refusal 21 D ≡ refusalOf (header v .codec .parse 0 b 0)
   fault-21 e1 e2 = rw (header-is v b f, e1, e2)
 
-  pub fault-22 : utf8 (H .dataset) ≡ true → isSchema (H .schema) ≡ true → isStypeIn (H .stypeIn) ≡ false → 22 ≡ faultOf (header v .codec .parse 0 b 0)
+  pub fault-22 : utf8 (H .dataset) ≡ true → isSchema (H .schema) ≡ true → isStypeIn (H .stypeIn) ≡ false → refusal 22 At ≡ refusalOf (header v .codec .parse 0 b 0)
   fault-22 e1 e2 e3 = rw (header-is v b f, e1, e2, e3)
 
-  pub fault-23 : utf8 (H .dataset) ≡ true → isSchema (H .schema) ≡ true → isStypeIn (H .stypeIn) ≡ true → isStype (H .stypeOut) ≡ false → 23 ≡ faultOf (header v .codec .parse 0 b 0)
+  pub fault-23 : utf8 (H .dataset) ≡ true → isSchema (H .schema) ≡ true → isStypeIn (H .stypeIn) ≡ true → isStype (H .stypeOut) ≡ false → refusal 23 (At + 1) ≡ refusalOf (header v .codec .parse 0 b 0)
   fault-23 e1 e2 e3 e4 = rw (header-is v b f, e1, e2, e3, e4)
 
-  pub fault-0 : utf8 (H .dataset) ≡ true → isSchema (H .schema) ≡ true → isStypeIn (H .stypeIn) ≡ true → isStype (H .stypeOut) ≡ true → 0 ≡ faultOf (header v .codec .parse 0 b 0)
+  pub fault-0 : utf8 (H .dataset) ≡ true → isSchema (H .schema) ≡ true → isStypeIn (H .stypeIn) ≡ true → isStype (H .stypeOut) ≡ true → refusal 0 0 ≡ refusalOf (header v .codec .parse 0 b 0)
   fault-0 e1 e2 e3 e4 = rw (header-is v b f, e1, e2, e3, e4)
 
   -- the tests give the header that stands there, or a refusal that is not 0
-  tests-ok : (a c d e : Bool) → 0 ≡ faultOf (need a 20 0 >>= λ _ _. need c 21 0 >>= λ _ _. need d 22 0 >>= λ _ _. need e 23 0 >>= λ _ _. ok H 100)
-      → (need a 20 0 >>= λ _ _. need c 21 0 >>= λ _ _. need d 22 0 >>= λ _ _. need e 23 0 >>= λ _ _. ok H 100) ≡ ok H 100
+  tests-ok : (a c d e : Bool) → 0 ≡ faultOf (need a 20 0 >>= λ _ _. need c 21 D >>= λ _ _. need d 22 At >>= λ _ _. need e 23 (At + 1) >>= λ _ _. ok H 100)
+      → (need a 20 0 >>= λ _ _. need c 21 D >>= λ _ _. need d 22 At >>= λ _ _. need e 23 (At + 1) >>= λ _ _. ok H 100) ≡ ok H 100
   tests-ok true true true true z = refl
   tests-ok true true true false z = absurd (omega arith)
   tests-ok true true false e z = absurd (omega arith)
@@ -132,7 +144,7 @@ module _ (v : MetadataLengths) (b : List ℕ) (f : Fixed v b) where
   pub header-got : 0 ≡ faultOf (header v .codec .parse 0 b 0) → header v .codec .parse 0 b 0 ≡ ok H 100
   header-got z = header-is v b f ∙ tests-ok (utf8 (H .dataset)) (isSchema (H .schema)) (isStypeIn (H .stypeIn)) (isStype (H .stypeOut)) (z ∙ ap faultOf (header-is v b f))
 
-  tests-only : (a c d e : Bool) (h : Header) (j : ℕ) → (need a 20 0 >>= λ _ _. need c 21 0 >>= λ _ _. need d 22 0 >>= λ _ _. need e 23 0 >>= λ _ _. ok H 100) ≡ ok h j → H ≡ h
+  tests-only : (a c d e : Bool) (h : Header) (j : ℕ) → (need a 20 0 >>= λ _ _. need c 21 D >>= λ _ _. need d 22 At >>= λ _ _. need e 23 (At + 1) >>= λ _ _. ok H 100) ≡ ok h j → H ≡ h
   tests-only true true true true h j q = cc
   tests-only true true true false h j q = absurd (let z : _≡_ {A = ℕ} 0 1 = cc in omega arith)
   tests-only true true false e h j q = absurd (let z : _≡_ {A = ℕ} 0 1 = cc in omega arith)

@@ -8,7 +8,7 @@ use lib.ListN.{length}
 use lib.Dec.{leb, eqb}
 use Rattle.codec.specs.Codec
 use Rattle.codec.specs.Codec.{Res, _>>=_, need, whole, isNil}
-use Rattle.codec.specs.Format.{Format, raw, num, skip, rawTest, numTest, _then_, on, named, checked, judged, asks, sized, apart, spanned, remainder}
+use Rattle.codec.specs.Format.{Format, raw, num, skip, rawTest, numTest, _then_, on, named, checked, judged, sized, apart, spanned, remainder}
 use Rattle.text.specs.Utf8.{utf8}
 use Rattle.dates.specs.Date.{isDate}
 use Rattle.prelude.specs.Prelude.{isVersion}
@@ -108,25 +108,25 @@ widthOf v h = orV1 (v .«symbol_cstr_len_len») (h .width)
 abbrev pub noItems : List ℕ → Layout
 noItems b = toLayout ((0, ([], ([], []))), b)
 
--- u32 layout length and that many bytes, 24 where they run past the end; 26 where there are none
+-- u32 layout length (24 where it is missing, 26 where it is 0) and that many bytes, 44 where they run past the end
 abbrev pub layoutBox : Format (Parts × List ℕ) false
-layoutBox = apart 24 24 24 4 0 (asks 26 1 (parts utf8 D) (parts-some utf8 D))
+layoutBox = apart 24 26 44 4 1 (parts utf8 D) (parts-some utf8 D)
 
 pub layout-blind : (sheet : List ℕ) (width : ℕ) (z : Parts × List ℕ) → rulesOf sheet width (layoutBox .codec .bare z .0) ≡ rulesOf sheet width (z .0)
-unfolding Codec.boxed Codec.asks
+unfolding Codec.boxed
 layout-blind sheet width z = rules-blind sheet width (z .0)
 
 -- the same length and bytes as they are
-pub raw-fits : (n : ℕ) (x : List ℕ) → Codec.raw 24 n .legal x → length x ≡ n
+pub raw-fits : (n : ℕ) (x : List ℕ) → Codec.raw 44 n .legal x → length x ≡ n
 unfolding Codec.raw
 raw-fits n x lg = lg .0
 
-pub raw-same : (n : ℕ) (x : List ℕ) → length (Codec.raw 24 n .bare x) ≡ length x
+pub raw-same : (n : ℕ) (x : List ℕ) → length (Codec.raw 44 n .bare x) ≡ length x
 unfolding Codec.raw
 raw-same n x = refl
 
 abbrev pub bytes : Format (List ℕ) false
-bytes = sized 24 4 length (raw 24) raw-fits raw-same
+bytes = sized 24 4 length (raw 44) raw-fits raw-same
 
 pub bytes-blind : (x : List ℕ) → isNil (bytes .codec .bare x) ≡ isNil x
 unfolding Codec.sized Codec.raw
@@ -137,9 +137,10 @@ unfoldable pub layoutPart : Bool → List ℕ → ℕ → Format Layout false
 layoutPart true sheet width = named toLayout fromLayout (λ x. refl) (judged (λ z. rulesOf sheet width (z .0)) layoutBox (layout-blind sheet width))
 layoutPart false sheet width = named noItems (λ l. l .rest) (λ x. refl) (checked isNil 25 bytes bytes-blind)
 
--- version 4: u32 symbology length and that many bytes, 27 where they run past the end, 28 where the contents do not span them; below: the rest
+-- version 4: u32 symbology length (27 where it is missing) and that many bytes, 45 where they run past the end, 28 where the contents do not span them;
+-- below: the rest
 unfoldable pub symbologyPart : Bool → ℕ → Format Symbology false
-symbologyPart true width = spanned unspanned 27 4 0 (symbology utf8 isDate width)
+symbologyPart true width = spanned unspanned 27 45 4 (symbology utf8 isDate width)
 symbologyPart false width = remainder (symbology utf8 isDate width)
 
 abbrev pub toBlock : Header × (Layout × Symbology) → Block
@@ -157,10 +158,11 @@ unfoldable pub block : List ℕ → MetadataLengths → Format Block false
 block sheet v = named toBlock (λ b. (b .header, (b .layout, b .symbology))) (λ x. refl)
     (on (header v) (λ h. body sheet v (widthOf v h)) (λ h. ap (body sheet v) (header-width v h)))
 
--- what a block given whole with a version and a type sheet is read as: the block and the bytes after it, which are ignored
+-- what a block given whole with a version and a type sheet is read as: the block and the bytes after it, which are ignored. The version stands at
+-- place 3 of the prelude
 unfoldable pub blockOf : ℕ → List ℕ → List ℕ → Res (Block × List ℕ)
 blockOf version sheet b =
-    need (isVersion version) 11 0 >>= λ _ i.
-    need (leb 100 (length b)) 13 i >>= λ _ i.
-    need (leb (length b) 4294967295) 13 i >>= λ _ i.
+    need (isVersion version) 11 3 >>= λ _ _.
+    need (leb 100 (length b)) 13 0 >>= λ _ _.
+    need (leb (length b) 4294967295) 13 0 >>= λ _ _.
     whole (block sheet (lengths version) .codec) 0 b

@@ -4,7 +4,9 @@ use mathlib.Core.Path.{_≡_}
 use mathlib.Core.Bool.{Bool, true, false, cond}
 use mathlib.Core.List.{List}
 use lib.ListN.{length, take, drop}
-use Rattle.codec.specs.Codec.{Res, ok, refuse, faultOf, _>>=_, num, raw}
+use Rattle.refusal.specs.declared.Refusal.{Refusal}
+use Rattle.refusal.specs.Places.{hasPlace}
+use Rattle.codec.specs.Codec.{Res, ok, refuse, refusal, moved, faultOf, _>>=_, num, raw}
 use Rattle.layout.specs.Layout.{Layout}
 use Rattle.layout.specs.Rows.{rows}
 use Rattle.layout.specs.LayoutOf.{layoutOf}
@@ -39,22 +41,31 @@ pub record Headed (v : MetadataLengths) (b : List ℕ) (width : ℕ) : Type 0 wh
   pub width-is : OfHeader v b (λ h. width ≡ widthOf v h)
   pub passed : 0 ≡ faultOf (header v .codec .parse 0 b 0)
 
--- u32 length and that many bytes: where they start and how many; k where they run past the end
+-- the refusal; its number is 0 where there is none
+abbrev pub refusalOf : {A : Type 0} → Res A → Refusal
+refusalOf (ok x j) = refusal 0 0
+refusalOf (refuse k) = k
+
+-- a refusal of a layout that begins at place p of the block: its place counts from there, and what is about no byte stays so
+abbrev pub inBlock : ℕ → Refusal → Refusal
+inBlock p k = cond (hasPlace (k .number)) (moved p k) k
+
+-- u32 length and that many bytes: where they start and how many; k where the length is missing, k′ where they run past the end
 abbrev pub spanOf : Res ℕ → Span
 spanOf (ok n p) = Part p n
 spanOf (refuse k) = Span'.Refused k
 
-unfoldable pub spanAt : ℕ → List ℕ → ℕ → Span
-spanAt k b at = spanOf (num k 4 .parse 0 b at >>= λ n p. raw k n .parse 0 b p >>= λ x j. ok n p)
+unfoldable pub spanAt : ℕ → ℕ → List ℕ → ℕ → Span
+spanAt k k′ b at = spanOf (num k 4 .parse 0 b at >>= λ n p. raw k′ n .parse 0 b p >>= λ x j. ok n p)
 
 -- a part within b, from `at` on
 pub data SpanInside (b : List ℕ) (at : ℕ) : Span → Type 0 where
   within : {p n : ℕ} → at ≤ p → p + n ≤ length b → SpanInside b at (Part p n)
-  outside : {k : ℕ} → SpanInside b at (Span'.Refused k)
+  outside : {k : Refusal} → SpanInside b at (Span'.Refused k)
 
 -- version 4: u32 length and that many bytes; below: the rest
 abbrev pub sectionAt : Bool → List ℕ → ℕ → Span
-sectionAt true b at = spanAt 27 b at
+sectionAt true b at = spanAt 27 45 b at
 sectionAt false b at = Part at (length b - at)
 
 -- the table after a layout, where a version has one
@@ -73,7 +84,7 @@ pub record LayoutRead (has : Bool) (sheet : List ℕ) (width : ℕ) (b : List �
 
 pub data LayoutReads (has : Bool) (sheet : List ℕ) (width : ℕ) (b : List ℕ) : LayoutFound → Type 0 where
   lays : {v n e : ℕ} → LayoutRead has sheet width b v n e → LayoutReads has sheet width b (LayoutFound'.Accepted v n e)
-  lays-no : {k : ℕ} → layoutPart has sheet width .codec .parse 0 b 100 ≡ refuse k → LayoutReads has sheet width b (LayoutFound'.Refused k)
+  lays-no : {k : Refusal} → layoutPart has sheet width .codec .parse 0 b 100 ≡ refuse k → LayoutReads has sheet width b (LayoutFound'.Refused k)
 
 -- what reading the symbology part into the table t answers and leaves; `part` is what its bytes are read as
 pub record SymbologyReads (has write : Bool) (width : ℕ) (b : List ℕ) (at : ℕ) (t t′ : List ℕ) (r : SectionAnswer) : Type 0 where

@@ -31,7 +31,7 @@ roomy b m n = leb (length (fives b)) (m / 5) && leb (length (nines b)) (n / 9)
 
 -- what refuses a block: its version, its size, its header, its sections, the symbology's contents, the layout's bytes, the rules
 abbrev pub blockNumbers : List ℕ
-blockNumbers = 11 ∷ 13 ∷ 20 ∷ 21 ∷ 22 ∷ 23 ∷ 24 ∷ 25 ∷ 26 ∷ 27 ∷ 28 ∷ (contentsNumbers ++ (wireNumbers ++ ruleNumbers))
+blockNumbers = 11 ∷ 13 ∷ 20 ∷ 21 ∷ 22 ∷ 23 ∷ 24 ∷ 25 ∷ 26 ∷ 27 ∷ 28 ∷ 44 ∷ 45 ∷ (contentsNumbers ++ (wireNumbers ++ ruleNumbers))
 
 -- refused; or all is accepted and the tables are long enough; or 3, with the rows needed of both
 unfoldable pub answerOf : MetadataLengths → Res (Block × List ℕ) → ℕ → ℕ → BlockAnswer
@@ -70,5 +70,5 @@ pub record Promise (v : ℕ) (b t s l : List ℕ) (r : BlockAnswer) (s′ l′ :
 -- 3 for short tables, 0 for an accepted block
 abbrev pub blockNumber : BlockAnswer → ℕ
 blockNumber (Read f) = 0
-blockNumber (Refused e) = e
+blockNumber (Refused e) = e .number
 blockNumber (Short s l) = 3

@@ -37,7 +37,7 @@ symbology-each sheet v P x e = part-each (v .«has_layout») (widthOf v (x .head
 pub block-whole : (version : ℕ) (sheet b : List ℕ) (z : Block × List ℕ) (k : ℕ) → blockOf version sheet b ≡ ok z k → whole (block sheet (lengths version) .codec) 0 b ≡ ok z k
 unfolding blockOf
 block-whole version sheet b z k e =
-    let (_, e1) = need-ok (isVersion version) 11 0 _ z k e in
+    let (_, e1) = need-ok (isVersion version) 11 3 _ z k e in
     let (_, e2) = need-ok (leb 100 (length b)) 13 0 _ z k e1 in
     need-ok (leb (length b) 4294967295) 13 0 _ z k e2 .1
 

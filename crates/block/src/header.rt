@@ -2,19 +2,19 @@
 use super::Fields;
 use super::MetadataLengths;
 use super::Optional;
+use refusal::Refusal;
 ghost use mathlib.Core.Path.{_≡_};
 ghost use Prim.Native.Nat.{_+_, _≤_, _<_};
 ghost use lib.ListN.{length, take, drop};
-ghost use Rattle.codec.specs.Codec.{value};
+ghost use Rattle.codec.specs.Codec.{refusal, value};
 ghost use Rattle.block.specs.Block.{lengths, header, widthOf, isSchema, isStype, isStypeIn};
 ghost use Rattle.block.specs.Fields.{unless, endOf, fieldsWith};
-ghost use Rattle.codec.specs.Codec.{faultOf};
-ghost use Rattle.block.specs.Parts.{Fixed, OfHeader};
+ghost use Rattle.block.specs.Parts.{Fixed, OfHeader, refusalOf};
 
-// The refusal of a header, or 0.
-pub(crate) fn check_header(block: &[u8], v: MetadataLengths) -> u32
+// The refusal of a header; its number is 0 where there is none.
+pub(crate) fn check_header(block: &[u8], v: MetadataLengths) -> Refusal
     requires { ⌜ Fixed v (now block) ⌝ }
-    ensures { λ r. ⌜ r ≡ faultOf (header v .codec .parse 0 (now (block .entry)) 0) ⌝ }
+    ensures { λ r. ⌜ r ≡ refusalOf (header v .codec .parse 0 (now (block .entry)) 0) ⌝ }
 {
     let end = v.dataset_cstr_len;
     let dataset = &block[0..end];
@@ -23,15 +23,22 @@ pub(crate) fn check_header(block: &[u8], v: MetadataLengths) -> u32
             let at = end + 26 + v.record_count_len;
             if is_stype_in(block[at]) {
                 if is_stype(block[at + 1]) {
-                    return 0;
+                    return refused(0, 0);
                 }
-                return refusal::STYPE_OUT;
+                return refused(refusal::STYPE_OUT, at + 1);
             }
-            return refusal::STYPE_IN;
+            return refused(refusal::STYPE_IN, at);
         }
-        return refusal::SCHEMA;
+        return refused(refusal::SCHEMA, end);
     }
-    refusal::DATASET_NOT_UTF8
+    refused(refusal::DATASET_NOT_UTF8, 0)
+}
+
+// The refusal by a number at a place.
+fn refused(number: u32, place: usize) -> Refusal
+    ensures { λ r. ⌜ r ≡ refusal number place ⌝ }
+{
+    Refusal { number, place }
 }
 
 // The symbol width of an accepted header.

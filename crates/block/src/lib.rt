@@ -2,8 +2,10 @@
 mod header;
 mod parts;
 
+use refusal::Refusal;
 ghost use mathlib.Core.Path.{_≡_};
-ghost use Rattle.codec.specs.Codec.{whole};
+ghost use Rattle.codec.specs.Codec.{refusal, whole};
+ghost use Rattle.block.specs.declared.BlockAnswer.the-variants as BlockAnswer';
 ghost use Rattle.block.specs.Block as Block;
 ghost use Rattle.block.specs.Read.{Promise};
 ghost use Rattle.block.specs.Parts.{Headed, Does};
@@ -33,14 +35,14 @@ pub struct Fields {
 // The fields of a block whose rows are written; the refusal; or the rows that both tables need.
 pub enum BlockAnswer {
     Read(Fields),
-    Refused(u32),
+    Refused(Refusal),
     Short { symbology: usize, layout: usize },
 }
 
 // A part of a slice by start and length; or the refusal.
 enum Span {
     Part { start: usize, len: usize },
-    Refused(u32),
+    Refused(Refusal),
 }
 
 // How many bytes a version gives to the parts that differ, and whether it has a layout.
@@ -59,10 +61,11 @@ enum LayoutFound {
         rows: usize,
         end: usize,
     },
-    Refused(u32),
+    Refused(Refusal),
 }
 
-// A block given whole with its version: 11, 13, the block, then 3. The tables are written only where all is accepted and both
+// A block given whole with its version: 11, 13, the block, then 3. A refusal's place counts from the block, and 3 for the version,
+// which stands there in the prelude. The tables are written only where all is accepted and both
 // are long enough; rows past the last stay as they were.
 pub fn read_block(
     version: u8,
@@ -74,24 +77,31 @@ pub fn read_block(
     ensures { λ r. ⌜ Promise version (now (block .entry)) (now (sheet .entry)) (now (symbology .entry)) (now (layout .entry)) r (now (symbology .exit)) (now (layout .exit)) ⌝ }
 {
     if version < 1 {
-        return BlockAnswer::Refused(refusal::VERSION);
+        return refused(refusal::VERSION, 3);
     }
     if 4 < version {
-        return BlockAnswer::Refused(refusal::VERSION);
+        return refused(refusal::VERSION, 3);
     }
     if block.len() < 100 {
-        return BlockAnswer::Refused(refusal::SIZE);
+        return refused(refusal::SIZE, 0);
     }
     if 4294967295 < block.len() {
-        return BlockAnswer::Refused(refusal::SIZE);
+        return refused(refusal::SIZE, 0);
     }
     let v = header::lengths_of(version);
     let fault = header::check_header(block, v);
-    if fault != 0 {
+    if fault.number != 0 {
         return BlockAnswer::Refused(fault);
     }
     let width = header::symbol_width(block, v);
     read_body(block, v, width, sheet, symbology, layout)
+}
+
+// The refusal by a number at a place.
+fn refused(number: u32, place: usize) -> BlockAnswer
+    ensures { λ r. ⌜ r ≡ BlockAnswer'.Refused (refusal number place) ⌝ }
+{
+    BlockAnswer::Refused(Refusal { number, place })
 }
 
 // What follows an accepted header: layout and symbology, then 3 for a table that is short, then the rows.

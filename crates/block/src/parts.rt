@@ -2,11 +2,16 @@
 use super::LayoutFound;
 use super::Span;
 use super::header;
+use refusal::LAYOUT_LENGTH_MISSING;
+use refusal::LAYOUT_PAST_END;
+use refusal::Refusal;
+use refusal::SYMBOLOGY_LENGTH_MISSING;
+use refusal::SYMBOLOGY_PAST_END;
 use symbology::SectionAnswer;
 ghost use mathlib.Core.Path.{_≡_};
 ghost use Prim.Native.Nat.{_+_, _-_, _≤_};
 ghost use lib.ListN.{length, take, drop};
-ghost use Rattle.block.specs.Parts.{spanAt, SpanInside, sectionAt, layoutTable, LayoutReads, SymbologyReads};
+ghost use Rattle.block.specs.Parts.{inBlock, spanAt, SpanInside, sectionAt, layoutTable, LayoutReads, SymbologyReads};
 
 // The layout part at byte 100: read and ruled on in version 4, empty below.
 pub(crate) fn layout_part(
@@ -18,19 +23,20 @@ pub(crate) fn layout_part(
     requires { ⌜ (100 ≤ length (now block)) × (length (now block) ≤ 4294967295) ⌝ }
     ensures { λ r. ⌜ LayoutReads «has_layout» (now (sheet .entry)) width (now (block .entry)) r ⌝ }
 {
-    match span_at(block, 100, refusal::LAYOUT_PAST_END) {
+    match span_at(block, 100, LAYOUT_LENGTH_MISSING, LAYOUT_PAST_END) {
         Span::Part { start, len } => {
             let end = start + len;
             if has_layout {
                 if len == 0 {
-                    return LayoutFound::Refused(refusal::NO_LAYOUT);
+                    let number = refusal::NO_LAYOUT;
+                    return LayoutFound::Refused(Refusal { number, place: 100 });
                 }
                 let part = &block[start..end];
                 match engines::check_layout(part, width, sheet) {
                     layout::Verdict::Accepted { version, rows } => {
                         LayoutFound::Accepted { version, rows, end }
                     }
-                    layout::Verdict::Refused(why) => LayoutFound::Refused(why),
+                    layout::Verdict::Refused(why) => LayoutFound::Refused(in_block(why, start)),
                 }
             } else {
                 if len == 0 {
@@ -40,11 +46,26 @@ pub(crate) fn layout_part(
                         end,
                     };
                 }
-                LayoutFound::Refused(refusal::LAYOUT_BELOW_4)
+                let number = refusal::LAYOUT_BELOW_4;
+                LayoutFound::Refused(Refusal { number, place: 100 })
             }
         }
         Span::Refused(why) => LayoutFound::Refused(why),
     }
+}
+
+// A layout's refusal in a block where the layout begins at `start`: its place counts from the block.
+fn in_block(why: Refusal, start: usize) -> Refusal
+    requires { ⌜ start + why .place ≤ 4294967295 ⌝ }
+    ensures { λ r. ⌜ r ≡ inBlock start why ⌝ }
+{
+    if refusal::has_place(why.number) {
+        return Refusal {
+            number: why.number,
+            place: start + why.place,
+        };
+    }
+    why
 }
 
 // The symbology part from `at` on, its rows in the table where `write` holds. In version 4 the contents span the section.
@@ -63,7 +84,14 @@ pub(crate) fn symbology_part(
         Span::Part { start, len } => {
             let end = start + len;
             let part = &block[start..end];
-            symbology::read_section_rows(part, start, width, has_layout, write, table)
+            match symbology::read_section_rows(part, start, width, has_layout, write, table) {
+                SectionAnswer::Read { rows, next } => SectionAnswer::Read { rows, next },
+                SectionAnswer::Counted(rows) => SectionAnswer::Counted(rows),
+                SectionAnswer::Refused(why) => SectionAnswer::Refused(Refusal {
+                    number: why.number,
+                    place: start + why.place,
+                }),
+            }
         }
         Span::Refused(why) => SectionAnswer::Refused(why),
     }
@@ -87,7 +115,7 @@ fn section_at(block: &[u8], at: usize, has_layout: bool) -> Span
     ensures { λ r. ⌜ (r ≡ sectionAt «has_layout» (now (block .entry)) at) × SpanInside (now (block .entry)) at r ⌝ }
 {
     if has_layout {
-        return span_at(block, at, refusal::SYMBOLOGY_PAST_END);
+        return span_at(block, at, SYMBOLOGY_LENGTH_MISSING, SYMBOLOGY_PAST_END);
     }
     Span::Part {
         start: at,
@@ -95,18 +123,24 @@ fn section_at(block: &[u8], at: usize, has_layout: bool) -> Span
     }
 }
 
-// Where the bytes stand that a u32 length at `at` announces; `why` where they run past the end.
-fn span_at(block: &[u8], at: usize, why: u32) -> Span
+// Where the bytes stand that a u32 length at `at` announces; `missing` where there is no length, `past` where they run past the end.
+fn span_at(block: &[u8], at: usize, missing: u32, past: u32) -> Span
     requires { ⌜ at ≤ length (now block) ⌝ }
-    ensures { λ r. ⌜ (r ≡ spanAt why (now (block .entry)) at) × SpanInside (now (block .entry)) (at + 4) r ⌝ }
+    ensures { λ r. ⌜ (r ≡ spanAt missing past (now (block .entry)) at) × SpanInside (now (block .entry)) (at + 4) r ⌝ }
 {
     if block.len() - at < 4 {
-        return Span::Refused(why);
+        return Span::Refused(Refusal {
+            number: missing,
+            place: at,
+        });
     }
     let start = at + 4;
     let len = numbers::u32_of(block, at);
     if block.len() - start < len {
-        return Span::Refused(why);
+        return Span::Refused(Refusal {
+            number: past,
+            place: start,
+        });
     }
     Span::Part { start, len }
 }

@@ -4,6 +4,7 @@ use Prim.Native.Nat.{ℕ, _/_}
 use mathlib.Core.Path.{_≡_}
 use mathlib.Core.List.{List}
 use lib.ListN.{length, set}
+use Rattle.c_texts.specs.Numbers.{placeOut}
 use Rattle.layout.specs.Answers.{verdict, judge, leave, layoutNumber, verdictNumber}
 use Rattle.layout.specs.declared.Answer.{Answer as LayoutAnswer}
 use Rattle.layout.specs.declared.Answer.the-variants as Answer'
@@ -17,11 +18,11 @@ use Rattle.writer.specs.declared.Written.the-variants.{Length}
 
 -- ---- a layout
 
--- version at 9 and rows at 11; with 3 the rows needed, at 11
+-- version at 9 and rows at 11; with 3 the rows needed, at 11; of a refusal the place, at 13, where it has one
 abbrev pub layoutOut : LayoutAnswer → List ℕ → List ℕ
 layoutOut (Answer'.Read v n) o = set (set o 9 v) 11 n
 layoutOut (Answer'.Short v n) o = set o 11 n
-layoutOut (Answer'.Refused e) o = o
+layoutOut (Answer'.Refused e) o = placeOut e o
 
 -- THE PROMISE of dbn_layout: the layout s, ruled on with the width w and the sheet, its rows in the table t
 pub record LayoutC (s : List ℕ) (w : ℕ) (sheet t o : List ℕ) (r : ℕ) (t′ o′ : List ℕ) : Type 0 where
@@ -29,10 +30,10 @@ pub record LayoutC (s : List ℕ) (w : ℕ) (sheet t o : List ℕ) (r : ℕ) (t�
   pub out : o′ ≡ layoutOut (judge (length t / 9) (ruledOf sheet w s)) o
   pub rows : t′ ≡ leave t (ruledOf sheet w s)
 
--- version at 9 and rows at 11
+-- version at 9 and rows at 11; of a refusal the place, at 13, where it has one
 abbrev pub verdictOut : Verdict → List ℕ → List ℕ
 verdictOut (Verdict'.Accepted v n) o = set (set o 9 v) 11 n
-verdictOut (Verdict'.Refused e) o = o
+verdictOut (Verdict'.Refused e) o = placeOut e o
 
 -- THE PROMISE of dbn_layout_plain: the layout s, ruled on with the width w and the sheet, and no table
 pub record LayoutPlainC (s : List ℕ) (w : ℕ) (sheet o : List ℕ) (r : ℕ) (o′ : List ℕ) : Type 0 where

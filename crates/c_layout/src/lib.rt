@@ -3,7 +3,7 @@ use writer::Written;
 ghost use Rattle.c_layout.specs.Numbers.{LayoutC, LayoutPlainC, WriteC};
 
 // Reads a layout given with a symbol width, its rows into the table. `out` gets the version at 9 and the rows at 11; with 3 the rows
-// needed at 11.
+// needed at 11; with 50 to 55 the place in the layout at 13. All else in `out` is as it was.
 #[no_mangle]
 pub extern "C" fn dbn_layout(
     layout: &[u8],
@@ -27,12 +27,15 @@ pub extern "C" fn dbn_layout(
             out[11] = n as u64;
             refusal::TABLE_SHORT
         }
-        layout::Answer::Refused(e) => e,
+        layout::Answer::Refused(e) => {
+            c_texts::put_place(e, out);
+            e.number
+        }
     }
 }
 
 // The verdict on a layout given with a symbol width, with 81 to 83 by the plain engine: the answer of dbn_layout, without a table.
-// `out` gets the version at 9 and the rows at 11.
+// `out` gets the version at 9 and the rows at 11, or with 50 to 55 the place in the layout at 13.
 #[no_mangle]
 pub extern "C" fn dbn_layout_plain(
     layout: &[u8],
@@ -48,7 +51,10 @@ pub extern "C" fn dbn_layout_plain(
             out[11] = rows as u64;
             0
         }
-        layout::Verdict::Refused(e) => e,
+        layout::Verdict::Refused(e) => {
+            c_texts::put_place(e, out);
+            e.number
+        }
     }
 }
 
@@ -70,6 +76,6 @@ pub extern "C" fn dbn_write_layout(
             out[0] = n as u64;
             0
         }
-        Written::Refused(e) => e,
+        Written::Refused(e) => e.number,
     }
 }

@@ -1,8 +1,10 @@
 -- ONE ANSWER, and which numbers it can be.
 -- Assumes nothing.
 use Prim.Native.Nat.{ℕ}
-use mathlib.Core.Path.{_≡_, refl, sym, subst, _∙_}
+use mathlib.Core.Path.{_≡_, refl, sym, ap, subst, _∙_}
 use mathlib.Core.List.{List, [], _∷_}
+use Rattle.refusal.specs.declared.Refusal.{Refusal}
+use Rattle.codec.specs.Codec.{refusal}
 use Rattle.codec.specs.Refusals.{In}
 use Rattle.names.specs.Names.{symbolText, itemText, symbologySpan, layoutSpan, spanNumber}
 use Rattle.names.specs.RefusalLaws.{span-refuses}
@@ -18,9 +20,9 @@ one-span : (x : Span) {r q : ℕ} {o1 o2 : List ℕ} → SpanC x r o1 → SpanC 
 one-span x f g = (f .0 ∙ sym (g .0), f .1 ∙ sym (g .1))
 
 -- 0, or 90 where that is all that refuses it
-span-number : (x : Span) {r : ℕ} → r ≡ spanNumber x → ((k : ℕ) → x ≡ Refused k → k ≡ 90) → In (0 ∷ 90 ∷ []) r
+span-number : (x : Span) {r : ℕ} → r ≡ spanNumber x → ((k : Refusal) → x ≡ Refused k → k ≡ refusal 90 0) → In (0 ∷ 90 ∷ []) r
 span-number (Part b n) e h = subst (In (0 ∷ 90 ∷ [])) (sym e) refl
-span-number (Refused k) e h = subst (In (0 ∷ 90 ∷ [])) (sym (e ∙ h k refl)) refl
+span-number (Refused k) e h = subst (In (0 ∷ 90 ∷ [])) (sym (e ∙ ap (λ (m : Refusal). m .number) (h k refl))) refl
 
 module _ (n : ℕ) (rows : List ℕ) (index : ℕ) {r q : ℕ} {o1 o2 : List ℕ} where
   -- two outcomes of dbn_symbology_name are equal

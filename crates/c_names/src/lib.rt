@@ -42,7 +42,7 @@ fn put_span(span: Span, out: &mut [u64; 2]) -> u32
         }
         Span::Refused(e) => {
             *out = [0, 0];
-            e
+            e.number
         }
     }
 }

@@ -18,9 +18,9 @@ one-prelude s o r q o1 o2 f g = (f .0 ∙ sym (g .0), f .1 ∙ sym (g .1))
 
 -- dbn_prelude: 0 or a prelude's refusal
 pub prelude-number : (s : List ℕ) (r : ℕ) → r ≡ stageNumber (preludeOf s) → In (0 ∷ preludeNumbers) r
-prelude-number s r e = subst (In (0 ∷ preludeNumbers)) (sym e) (go (preludeOf s) (λ k i. prelude-refuses s i))
+prelude-number s r e = subst (In (0 ∷ preludeNumbers)) (sym e) (go (preludeOf s) refl)
   where
-    go : (x : Stage) → ((k : ℕ) → x ≡ Refused k → In preludeNumbers k) → In (0 ∷ preludeNumbers) (stageNumber x)
-    go (Needs n) h = refl
-    go (Refused k) h = in-more preludeNumbers (0 ∷ preludeNumbers) refl k (h k refl)
-    go (Whole v n) h = refl
+    go : (x : Stage) → preludeOf s ≡ x → In (0 ∷ preludeNumbers) (stageNumber x)
+    go (Needs n) q = refl
+    go (Refused k) q = in-more preludeNumbers (0 ∷ preludeNumbers) refl (k .number) (prelude-refuses s q)
+    go (Whole v n) q = refl

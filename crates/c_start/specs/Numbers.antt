@@ -14,7 +14,7 @@ use Rattle.block.specs.declared.BlockAnswer.the-variants.{Read}
 use Rattle.feed.specs.Feeding.{stageOf, takenOf, heldAfter, storeAfter, answerAt, symbologyAt, layoutAt, answerNumber}
 use Rattle.feed.specs.declared.Answer.{Answer}
 use Rattle.feed.specs.declared.Answer.the-variants.{Needs, Done}
-use Rattle.c_texts.specs.Numbers.{bit}
+use Rattle.c_texts.specs.Numbers.{bit, placeOut}
 
 -- ---- the block
 
@@ -38,10 +38,10 @@ fieldsOut f =
     f .«dataset_len» ∷ valueOf (f .schema) ∷ f .start ∷ valueOf (f .end) ∷ valueOf (f .limit) ∷ valueOf (f .«stype_in») ∷ f .«stype_out» ∷ bit (f .«ts_out»)
     ∷ f .«symbol_cstr_len» ∷ f .«layout_version» ∷ f .«symbology_rows» ∷ f .«layout_rows» ∷ presence (f .schema) (f .end) (f .limit) (f .«stype_in») ∷ 0 ∷ 0 ∷ 0 ∷ []
 
--- the fields; with 3 the rows needed, at 10 and 11
+-- the fields; with 3 the rows needed, at 10 and 11; a refusal's place where it has one
 abbrev pub blockOut : BlockAnswer → List ℕ → List ℕ
 blockOut (Read f) o = fieldsOut f
-blockOut (BlockAnswer.Refused e) o = o
+blockOut (BlockAnswer.Refused e) o = placeOut e o
 blockOut (BlockAnswer.Short s l) o = set (set o 10 s) 11 l
 
 -- THE PROMISE of dbn_block
@@ -53,11 +53,11 @@ pub record BlockC (v : ℕ) (b t s l o : List ℕ) (r : ℕ) (s′ l′ o′ : L
 
 -- ---- a feed
 
--- needed count at 18; the fields over the first sixteen; with 3 the rows needed, at 10 and 11
+-- needed count at 18; the fields over the first sixteen; with 3 the rows needed, at 10 and 11; a refusal's place where it has one
 abbrev pub answerOut : Answer → List ℕ → List ℕ
 answerOut (Needs n) o = set o 18 n
 answerOut (Done f) o = sets o 0 (fieldsOut f)
-answerOut (Answer.Refused e) o = o
+answerOut (Answer.Refused e) o = placeOut e o
 answerOut (Answer.Short s l) o = set (set o 10 s) 11 l
 
 -- taken at 16, held at 17, needed at 18, 0 unless bytes are needed

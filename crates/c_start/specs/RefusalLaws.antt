@@ -3,6 +3,7 @@
 use Prim.Native.Nat.{ℕ}
 use mathlib.Core.Path.{_≡_, refl, sym, subst}
 use mathlib.Core.List.{List, _∷_}
+use Rattle.refusal.specs.declared.Refusal.{Refusal}
 use Rattle.codec.specs.Refusals.{In}
 use Rattle.codec.specs.RefusalLaws.{in-more}
 use Rattle.block.specs.Read.{blockNumbers, blockAnswer, blockNumber}
@@ -19,9 +20,9 @@ use Rattle.c_start.specs.Numbers.{BlockC, FeedC}
 pub block-number : (v : ℕ) (b t s l o : List ℕ) (r : ℕ) (s′ l′ o′ : List ℕ) → BlockC v b t s l o r s′ l′ o′ → In (0 ∷ 3 ∷ blockNumbers) r
 block-number v b t s l o r s′ l′ o′ p = subst (In (0 ∷ 3 ∷ blockNumbers)) (sym (p .number)) (go (blockAnswer v b t s l) (λ k e. answer-refuses v b t s l e))
   where
-    go : (a : BlockAnswer) → ((k : ℕ) → BlockAnswer.Refused k ≡ a → In blockNumbers k) → In (0 ∷ 3 ∷ blockNumbers) (blockNumber a)
+    go : (a : BlockAnswer) → ((k : Refusal) → BlockAnswer.Refused k ≡ a → In blockNumbers (k .number)) → In (0 ∷ 3 ∷ blockNumbers) (blockNumber a)
     go (BlockAnswer'.Read f) h = refl
-    go (BlockAnswer'.Refused k) h = in-more blockNumbers (0 ∷ 3 ∷ blockNumbers) refl k (h k refl)
+    go (BlockAnswer'.Refused k) h = in-more blockNumbers (0 ∷ 3 ∷ blockNumbers) refl (k .number) (h k refl)
     go (BlockAnswer'.Short m n) h = refl
 
 -- dbn_feed: 0, 3 or a feed's refusal
@@ -30,8 +31,8 @@ feed-number k st p t s l o r st′ s′ l′ o′ f =
     subst (In (0 ∷ 3 ∷ feedNumbers)) (sym (f .number))
     (go (answerAt (stageOf (heldAfter k st p) (storeAfter k st p)) (storeAfter k st p) t s l) (λ e i. answer-refused (heldAfter k st p) (storeAfter k st p) t s l i))
   where
-    go : (a : Answer) → ((e : ℕ) → a ≡ Answer.Refused e → In feedNumbers e) → In (0 ∷ 3 ∷ feedNumbers) (answerNumber a)
+    go : (a : Answer) → ((e : Refusal) → a ≡ Answer.Refused e → In feedNumbers (e .number)) → In (0 ∷ 3 ∷ feedNumbers) (answerNumber a)
     go (Answer'.Needs n) h = refl
     go (Answer'.Done f) h = refl
-    go (Answer'.Refused e) h = in-more feedNumbers (0 ∷ 3 ∷ feedNumbers) refl e (h e refl)
+    go (Answer'.Refused e) h = in-more feedNumbers (0 ∷ 3 ∷ feedNumbers) refl (e .number) (h e refl)
     go (Answer'.Short m n) h = refl

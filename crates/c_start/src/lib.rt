@@ -12,7 +12,8 @@ ghost use Rattle.feed.specs.Feeding.{answerNumber};
 ghost use Rattle.c_texts.specs.Numbers.{bit};
 ghost use Rattle.c_start.specs.Numbers.{valueOf, isPresent, presence, fieldsOut, answerOut, BlockC, FeedC};
 
-// Reads a block given whole: its rows go into the tables, its fields into `out`. With 3 the rows needed are at 10 and 11.
+// Reads a block given whole: its rows go into the tables, its fields into `out`. With 3 the rows needed are at 10 and 11; a refusal from
+// reading has its place at 13, counted from the block, and 3 for the version, which stands there in the prelude.
 #[no_mangle]
 pub extern "C" fn dbn_block(
     version: u8,
@@ -29,7 +30,10 @@ pub extern "C" fn dbn_block(
             *out = fields_out(f);
             0
         }
-        BlockAnswer::Refused(e) => e,
+        BlockAnswer::Refused(e) => {
+            c_texts::put_place(e, out);
+            e.number
+        }
         BlockAnswer::Short {
             symbology: s,
             layout: l,
@@ -42,7 +46,8 @@ pub extern "C" fn dbn_block(
 }
 
 // Feeds a piece after `held` bytes of the store. `out` gets the count taken at 16, the new held count at 17 and the count needed at 18;
-// when the block is done the first sixteen are as those of dbn_block, and with 3 the rows needed are at 10 and 11.
+// when the block is done the first sixteen are as those of dbn_block, and with 3 the rows needed are at 10 and 11. A refusal
+// from reading has its place at 13, counted from the prelude for 10 to 12 and else from the block.
 #[no_mangle]
 pub extern "C" fn dbn_feed(
     held: u64,
@@ -80,7 +85,10 @@ fn put_answer(a: Answer, out: &mut [u64; 20]) -> u32
             put_fields(f, out);
             0
         }
-        Answer::Refused(e) => e,
+        Answer::Refused(e) => {
+            c_texts::put_place(e, out);
+            e.number
+        }
         Answer::Short { symbology, layout } => {
             out[10] = symbology as u64;
             out[11] = layout as u64;

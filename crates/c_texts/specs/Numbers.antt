@@ -1,9 +1,17 @@
--- What the C functions on a text and a number give.
+-- What the C functions on a text and a number give, and where a refusal is told.
 -- Assumes nothing.
 use Prim.Native.Nat.{ℕ}
-use mathlib.Core.Bool.{Bool, true, false}
+use mathlib.Core.Bool.{Bool, true, false, cond}
+use mathlib.Core.List.{List}
+use lib.ListN.{set}
+use Rattle.refusal.specs.declared.Refusal.{Refusal}
+use Rattle.refusal.specs.Places.{hasPlace}
 
 -- yes is 1, no is 0
 abbrev pub bit : Bool → ℕ
 bit true = 1
 bit false = 0
+
+-- the place of a refusal stands at 13 where its number has one; any other leaves `out` as it was
+abbrev pub placeOut : Refusal → List ℕ → List ℕ
+placeOut e o = cond (hasPlace (e .number)) (set o 13 (e .place)) o

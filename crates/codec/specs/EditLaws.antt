@@ -404,11 +404,11 @@ inside w own m r b (Edit.grow _ _ _ m1 _ r1 o e l h f) m′ r′ eq =
     })
 
 -- `moves` says how the places of the contents move
-module _ {A : Type 0} (k k′ k″ w own : ℕ) (inner : ℕ → ℕ) (spot : (ℕ → List ℕ → Type 0) → A → Type 0) (c : Codec A) (E : Edits c 0) (j : ℕ) where
+module _ {A : Type 0} (k k′ k″ w own least : ℕ) (inner : ℕ → ℕ) (spot : (ℕ → List ℕ → Type 0) → A → Type 0) (c : Codec A) (E : Edits c 0) (j : ℕ) where
   abbrev boxed-marks : A × List ℕ → Marked
   boxed-marks z = box w own (E .marks (z .0)) (z .1)
 
-  pub boxed-edited : Keeps (boxed k k′ k″ w own inner spot c) boxed-marks
+  pub boxed-edited : Keeps (boxed k k′ k″ w own least inner spot c) boxed-marks
   unfolding boxed
   boxed-edited z m lg (Edit.grow _ _ _ m′ _ r′ o e l b h) =
       let y = E .edited (z .0) m′ (lg .0) e in
@@ -420,20 +420,20 @@ module _ {A : Type 0} (k k′ k″ w own : ℕ) (inner : ℕ → ℕ) (spot : (�
         legal = (y .legal, b, subst (λ v. own + length (v ++ r′) < 256 ^ w) p h);
       }
 
-  pub boxed-marked : (z : A × List ℕ) → bytesOf (boxed-marks z) ≡ boxed k k′ k″ w own inner spot c .print z
+  pub boxed-marked : (z : A × List ℕ) → bytesOf (boxed-marks z) ≡ boxed k k′ k″ w own least inner spot c .print z
   unfolding boxed
   boxed-marked z = ap (λ v. little w (own + length (v ++ z .1)) ++ (v ++ z .1)) (E .marked (z .0))
 
   -- places that count from elsewhere: nothing is said of them
-  unfoldable pub edits-apart : Edits (boxed k k′ k″ w own inner spot c) j
+  unfoldable pub edits-apart : Edits (boxed k k′ k″ w own least inner spot c) j
   edits-apart = record { marks = boxed-marks; marked = boxed-marked; edited = boxed-edited; moves = λ f x y. Unit {0}; moved = λ f p q x y e lg same h. tt }
 
 -- its places are places here
-module _ {A : Type 0} (k k′ k″ w own : ℕ) (spot : (ℕ → List ℕ → Type 0) → A → Type 0) (c : Codec A) (E : Edits c 0) (j : ℕ) where
+module _ {A : Type 0} (k k′ k″ w own least : ℕ) (spot : (ℕ → List ℕ → Type 0) → A → Type 0) (c : Codec A) (E : Edits c 0) (j : ℕ) where
   abbrev marks-in : A × List ℕ → Marked
-  marks-in = boxed-marks k k′ k″ w own (λ p. p) spot c E j
+  marks-in = boxed-marks k k′ k″ w own least (λ p. p) spot c E j
 
-  pub boxed-moved : Shifts (boxed k k′ k″ w own (λ p. p) spot c) marks-in j (λ f x y. E .moves f (x .0) (y .0))
+  pub boxed-moved : Shifts (boxed k k′ k″ w own least (λ p. p) spot c) marks-in j (λ f x y. E .moves f (x .0) (y .0))
   unfolding boxed
   boxed-moved f p q x y e lg eq h =
       let i = inside w own (E .marks (x .0)) (x .1) _ e (E .marks (y .0)) (y .1) refl in
@@ -448,11 +448,11 @@ module _ {A : Type 0} (k k′ k″ w own : ℕ) (spot : (ℕ → List ℕ → Ty
       let t : p + w + n ≡ p + (w + n) = omega arith in
       ap f t ∙ h (w + n) r ∙ omega (arith, i .like n (omega arith)))
 
-  unfoldable pub edits-boxed : Edits (boxed k k′ k″ w own (λ p. p) spot c) j
+  unfoldable pub edits-boxed : Edits (boxed k k′ k″ w own least (λ p. p) spot c) j
   edits-boxed = record {
     marks = marks-in;
-    marked = boxed-marked k k′ k″ w own (λ p. p) spot c E j;
-    edited = boxed-edited k k′ k″ w own (λ p. p) spot c E j;
+    marked = boxed-marked k k′ k″ w own least (λ p. p) spot c E j;
+    edited = boxed-edited k k′ k″ w own least (λ p. p) spot c E j;
     moves = λ f x y. E .moves f (x .0) (y .0);
     moved = boxed-moved;
   }

@@ -14,11 +14,11 @@ pub record Lenient {A : Type 0} (c d : Codec A) : Type 0 where
 abbrev pub lax : {A : Type 0} → Bool → (A → Bool) → A → Bool
 lax light test x = light || test x
 
--- any byte in the place of b; k where none is left
-unfoldable pub anyByte : ℕ → ℕ → Codec (Unit {0})
-anyByte k b = record {
-  parse = λ base s i. num k 1 .parse base s i >>= λ x j. ok tt j;
-  print = λ _. little 1 b;
+-- any number of w bytes in the place of b; k where they run past the end
+unfoldable pub anyNum : ℕ → ℕ → ℕ → Codec (Unit {0})
+anyNum k w b = record {
+  parse = λ base s i. num k w .parse base s i >>= λ x j. ok tt j;
+  print = λ _. little w b;
   locate = λ p x. x;
   legal = λ _. Unit {0};
   bare = λ x. x;

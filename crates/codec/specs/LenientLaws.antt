@@ -7,9 +7,9 @@ use mathlib.Core.Bool.{Bool, true, false, not}
 use mathlib.Core.List.{List, _∷_}
 use lib.ListN.{length, drop}
 use lib.Dec.{leb, eqb}
-use Rattle.codec.specs.Codec.{ok, Codec, raw, num, byte, _then_, _on_, named, checked, judged, asks, placed, sized, times, timesParse, among, distinct, distinctParse, limited, counted, whole, boxed, isNil, full, remainder}
-use Rattle.codec.specs.Laws.{bind-ok, need-ok}
-use Rattle.codec.specs.Lenient.{Lenient, lax, anyByte}
+use Rattle.codec.specs.Codec.{ok, shifted, Codec, raw, num, fixed, _then_, _on_, named, checked, judged, asks, placed, sized, times, timesParse, among, distinct, distinctParse, limited, counted, whole, boxed, isNil, full, remainder}
+use Rattle.codec.specs.Laws.{bind-ok, need-ok, shifted-ok}
+use Rattle.codec.specs.Lenient.{Lenient, lax, anyNum}
 
 -- nothing left out
 pub lenient-same : {A : Type 0} (c : Codec A) → Lenient c c
@@ -23,12 +23,12 @@ lax-out test x e = rw e
 pub lax-in : {A : Type 0} (test : A → Bool) (x : A) {light : Bool} → light ≡ false → lax light test x ≡ test x
 lax-in test x e = rw e
 
-pub lenient-byte : (k k′ b : ℕ) → Lenient (byte k k′ b) (anyByte k b)
-unfolding byte anyByte
-lenient-byte k k′ b = record {
+pub lenient-fixed : (k k′ w b : ℕ) → Lenient (fixed k k′ w b) (anyNum k w b)
+unfolding fixed anyNum
+lenient-fixed k k′ w b = record {
   reads = λ base s i x j e.
-      let (n, m, e1, e2) = bind-ok (num k 1 .parse base s i) _ x j e in
-      let (t, e3) = need-ok (eqb b n) k′ m _ x j e2 in
+      let (n, m, e1, e2) = bind-ok (num k w .parse base s i) _ x j e in
+      let (t, e3) = need-ok (eqb b n) k′ i _ x j e2 in
       rw e1 e3;
 }
 
@@ -38,7 +38,7 @@ module _ {A : Type 0} {c d : Codec A} (h : Lenient c d) where
   lenient-checked test k = record {
     reads = λ base s i x j e.
         let (y, m, e1, e2) = bind-ok (c .parse base s i) _ x j e in
-        let (t, e3) = need-ok (test y) k m _ x j e2 in
+        let (t, e3) = need-ok (test y) k i _ x j e2 in
         rw (h .reads base s i y m e1) e3;
   }
 
@@ -48,7 +48,7 @@ module _ {A : Type 0} {c d : Codec A} (h : Lenient c d) where
   lenient-test test test′ f k = record {
     reads = λ base s i x j e.
         let (y, m, e1, e2) = bind-ok (c .parse base s i) _ x j e in
-        let (t, e3) = need-ok (test y) k m _ x j e2 in
+        let (t, e3) = need-ok (test y) k i _ x j e2 in
         rw (h .reads base s i y m e1, f y t) e3;
   }
 
@@ -57,7 +57,7 @@ module _ {A : Type 0} {c d : Codec A} (h : Lenient c d) where
   lenient-judged rules = record {
     reads = λ base s i x j e.
         let (y, m, e1, e2) = bind-ok (c .parse base s i) _ x j e in
-        let (t, e3) = need-ok (eqb 0 (rules y)) (rules y) m _ x j e2 in
+        let (t, e3) = need-ok (eqb 0 (rules y)) (rules y) 0 _ x j e2 in
         rw (h .reads base s i y m e1) e3;
   }
 
@@ -125,7 +125,7 @@ module _ {A : Type 0} {c d : Codec A} (h : Lenient c d) where
   distinct-reads key k zero seen base s i xs j e = e
   distinct-reads key k (suc n) seen base s i xs j e =
       let (y, m, e1, e2) = bind-ok (c .parse base s i) _ xs j e in
-      let (t, e3) = need-ok (not (among (key y) seen)) k m _ xs j e2 in
+      let (t, e3) = need-ok (not (among (key y) seen)) k i _ xs j e2 in
       let (ys, q, e4, e5) = bind-ok (distinctParse c key k n (key y ∷ seen) base s m) _ xs j e3 in
       rw (h .reads base s i y m e1, distinct-reads key k n (key y ∷ seen) base s m ys q e4) e5
 
@@ -139,7 +139,7 @@ module _ {A : Type 0} {c d : Codec A} (h : Lenient c d) where
   lenient-limited k k′ w least = record {
     reads = λ base s i xs j e.
         let (n, m, e1, e2) = bind-ok (num k w .parse base s i) _ xs j e in
-        let (t, e3) = need-ok (leb n ((length s - m) / least)) k′ m _ xs j e2 in
+        let (t, e3) = need-ok (leb n ((length s - m) / least)) k′ i _ xs j e2 in
         rw (e1, t) (times-reads n base s m xs j e3);
   }
 
@@ -151,23 +151,23 @@ module _ {A : Type 0} {c d : Codec A} (h : Lenient c d) where
       let (y, m, e1, e2) = bind-ok (c .parse base s 0) _ z j e in
       rw (h .reads base s 0 y m e1) e2
 
-  pub lenient-boxed : (k k′ k″ w own : ℕ) (inner : ℕ → ℕ) (spot spot′ : (ℕ → List ℕ → Type 0) → A → Type 0) → Lenient (boxed k k′ k″ w own inner spot c) (boxed k k′ k″ w own inner spot′ d)
+  pub lenient-boxed : (k k′ k″ w own least : ℕ) (inner : ℕ → ℕ) (spot spot′ : (ℕ → List ℕ → Type 0) → A → Type 0) → Lenient (boxed k k′ k″ w own least inner spot c) (boxed k k′ k″ w own least inner spot′ d)
   unfolding boxed
-  lenient-boxed k k′ k″ w own inner spot spot′ = record {
+  lenient-boxed k k′ k″ w own least inner spot spot′ = record {
     reads = λ base s i z q e.
         let (n, j, e1, e2) = bind-ok (num k w .parse base s i) _ z q e in
-        let (t, e3) = need-ok (leb own n) k′ j _ z q e2 in
+        let (t, e3) = need-ok (leb least n) k′ i _ z q e2 in
         let (body, m, e4, e5) = bind-ok (raw k″ (n - own) .parse base s j) _ z q e3 in
-        let (y, p, e6, e7) = bind-ok (whole c (inner (base + j)) body) _ z q e5 in
-        rw (e1, t, e4, lenient-whole (inner (base + j)) body y p e6) e7;
+        let (y, p, e6, e7) = bind-ok (shifted j (whole c (inner (base + j)) body)) _ z q e5 in
+        rw (e1, t, e4, lenient-whole (inner (base + j)) body y p (shifted-ok j (whole c (inner (base + j)) body) y p e6)) e7;
   }
 
   pub lenient-remainder : Lenient (remainder c) (remainder d)
   unfolding remainder
   lenient-remainder = record {
     reads = λ base s i x j e.
-        let (y, m, e1, e2) = bind-ok (c .parse (base + i) (drop i s) 0) _ x j e in
-        rw (h .reads (base + i) (drop i s) 0 y m e1) e2;
+        let (y, m, e1, e2) = bind-ok (shifted i (c .parse (base + i) (drop i s) 0)) _ x j e in
+        rw (h .reads (base + i) (drop i s) 0 y m (shifted-ok i (c .parse (base + i) (drop i s) 0) y m e1)) e2;
   }
 
 -- a number that says how the rest is read
@@ -189,6 +189,6 @@ unfolding full
 lenient-full {c = c} h k = record {
   reads = λ base s i x j e.
       let (z, m, e1, e2) = bind-ok (c .parse base s i) _ x j e in
-      let (t, e3) = need-ok (isNil (z .1)) k m _ x j e2 in
+      let (t, e3) = need-ok (isNil (z .1)) k (m - length (z .1)) _ x j e2 in
       rw (h .reads base s i z m e1, t) e3;
 }

@@ -8,7 +8,7 @@ use mathlib.Core.Path.{_≡_, refl, sym, ap, ap₂, _∙_, subst, pathJ}
 use mathlib.Core.List.{List, [], _∷_, _++_, map}
 use lib.ListN.{length, length-append}
 use borrow.Author.Tests.{le-leb}
-use Rattle.codec.specs.Codec.{ok, Bytes, raw, skip, num, named, checked, judged, asks, whole, boxed, _then_, _on_}
+use Rattle.codec.specs.Codec.{ok, Bytes, raw, skip, num, named, checked, judged, whole, boxed, _then_, _on_}
 use Rattle.codec.specs.Laws.{whole-reads}
 use Rattle.codec.specs.Edits.{Marked, bytesOf, Edit, put}
 use Rattle.text.specs.Utf8.{utf8}
@@ -59,7 +59,7 @@ module _ (sheet : List ℕ) where
   version-bare x y e = ap (λ p. p .0) (layout-bare sheet x y e)
 
   version-at : (x : Block) → B4 sheet .locate 0 x .layout .version ≡ x .layout .version
-  unfolding block named _on_ _then_ layoutPart judged boxed asks parts num
+  unfolding block named _on_ _then_ layoutPart judged boxed parts num
   version-at x = refl
 
   length-map : {A B : Type 0} (f : A → B) (xs : List A) → length (map f xs) ≡ length xs

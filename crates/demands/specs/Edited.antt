@@ -8,7 +8,7 @@ use mathlib.Core.Bool.{true}
 use mathlib.Core.List.{List, [], _++_, map, append-nil, append-assoc}
 use lib.ListN.{length, take, drop, length-append}
 use lib.Seq.{take-at, drop-at, drop-drop, take-append-seam}
-use Rattle.codec.specs.Codec.{ok, Bytes, Codec, value, raw, skip, little, num, named, checked, judged, asks, boxed, full, _then_, _on_}
+use Rattle.codec.specs.Codec.{ok, Bytes, Codec, value, raw, skip, little, num, named, checked, judged, boxed, full, _then_, _on_}
 use Rattle.codec.specs.Laws.{Law, Here, Whole, whole-back, left-part, part-take, length-little, value-little}
 use Rattle.codec.specs.Edits.{Marked, kept, _and_, bytesOf, Edit, put}
 use Rattle.codec.specs.EditLaws.{Inside, inside, put-all, put-kept, edits-kept, edits-then, edits-on, edits-named, edits-judged, edits-asks, edits-apart}
@@ -65,7 +65,7 @@ module _ (sheet : List ℕ) where
   header-legal x lg = lg .0
 
   pub layout-legal : (x : Block) → B4 .legal x → parts utf8 D .codec .legal (fromLayout (x .layout) .0)
-  unfolding block named _on_ _then_ layoutPart judged boxed asks
+  unfolding block named _on_ _then_ layoutPart judged boxed
   layout-legal x lg = lg .1 .0 .0 .0
 
   pub symbology-legal : (x : Block) → B4 .legal x → symbology utf8 isDate (width x) .codec .legal (x .symbology)
@@ -82,12 +82,12 @@ module _ (sheet : List ℕ) where
   width-bare x y e = ap (λ h. h .width) (header-bare x y e)
 
   pub layout-bare : (x y : Block) → B4 .bare y ≡ B4 .bare x → parts utf8 D .codec .bare (fromLayout (y .layout) .0) ≡ parts utf8 D .codec .bare (fromLayout (x .layout) .0)
-  unfolding block named _on_ _then_ layoutPart judged boxed asks
+  unfolding block named _on_ _then_ layoutPart judged boxed
   layout-bare x y e = ap (λ b. fromLayout (b .layout) .0) e
 
   -- the layout of a located block counts from its own first byte, and the symbology from the block's
   pub layout-at : (x : Block) → B4 .locate 0 x .layout ≡ toLayout (parts utf8 D .codec .locate 0 (fromLayout (x .layout) .0), x .layout .rest)
-  unfolding block named _on_ _then_ layoutPart judged boxed asks
+  unfolding block named _on_ _then_ layoutPart judged boxed
   layout-at x = refl
 
   -- where the symbology's section starts
@@ -126,7 +126,7 @@ module _ (sheet : List ℕ) where
       omega (arith, ap before p ∙ is (L + n), all (L + n) (omega arith), l, l′, header-length (x .header) (header-legal x lx), header-length (y .header) (header-legal y ly))
 
   pub parted : (x y : Block) → B4 .legal x → B4 .legal y → (e : Edit (block sheet v4 .edits .marks x) (block sheet v4 .edits .marks y)) → Parted x y (put e)
-  unfolding block layoutPart symbologyPart edits-named edits-on edits-then edits-judged edits-apart edits-asks edits-kept
+  unfolding block layoutPart symbologyPart edits-named edits-on edits-then edits-judged edits-apart edits-kept
   parted x y lx ly (Edit.pair _ _ _ _ e1 (Edit.pair _ _ _ _ e2 e3)) =
       let h : length (bytesOf (header v4 .edits .marks (x .header))) ≡ 100 = ap length (header v4 .edits .marked (x .header)) ∙ header-length (x .header) (header-legal x lx) in
       let h′ : length (bytesOf (header v4 .edits .marks (y .header))) ≡ 100 = ap length (header v4 .edits .marked (y .header)) ∙ header-length (y .header) (header-legal y ly) in
@@ -189,7 +189,7 @@ module _ (sheet : List ℕ) where
   layoutIn b = take (value (take 4 (drop 100 b))) (drop 104 b)
 
   pub layout-bytes : (x : Block) (r : List ℕ) → B4 .legal x → layoutIn (B4 .print x ++ r) ≡ printLayout utf8 D (x .layout)
-  unfolding block named _on_ _then_ layoutPart judged boxed asks printLayout
+  unfolding block named _on_ _then_ layoutPart judged boxed printLayout
   layout-bytes x r lg =
       let H = header v4 .codec .print (x .header) in
       let P = parts utf8 D .codec .print (fromLayout (x .layout) .0) ++ x .layout .rest in
@@ -226,7 +226,7 @@ module _ (sheet : List ℕ) where
 
   -- what is left over in the layout is bytes
   pub rest-bytes : (x : Block) → B4 .legal x → Bytes (x .layout .rest)
-  unfolding block named _on_ _then_ layoutPart judged boxed asks
+  unfolding block named _on_ _then_ layoutPart judged boxed
   rest-bytes x lg = lg .1 .0 .0 .1
 
   -- an accepted block is its bytes, legal and with its places

@@ -5,6 +5,7 @@ pub mod PublicNames
 pub mod Demand3
 pub mod Demand3Calls
 pub mod Number28
+pub mod Places
 pub mod NotHollow
 pub mod TableP
 pub mod Demand2

@@ -6,7 +6,7 @@ use native.Mathlib.Omega.{arith}
 use mathlib.Core.Path.{_≡_, refl, sym, ap, _∙_}
 use mathlib.Core.List.{List, [], _∷_, _++_}
 use lib.ListN.{replicate}
-use Rattle.codec.specs.Codec.{Res, ok, refuse, _>>=_, raw, skip, num, named, checked, judged, asks, sized, limited, times, whole, boxed, full, _then_, _on_, remainder}
+use Rattle.codec.specs.Codec.{Res, ok, refuse, refusal, _>>=_, raw, skip, num, named, checked, judged, sized, limited, times, whole, boxed, full, _then_, _on_, remainder}
 use Rattle.text.specs.Utf8.{utf8}
 use Rattle.symbology.specs.Symbology.{list, mapping, symbology}
 use Rattle.symbology.specs.SymbologyRows.{symbologyRows}
@@ -44,7 +44,7 @@ unfolding blockOf lengths whole block header layoutPart symbologyPart remainder 
 accepts3 sheet = refl
 
 pub accepts4 : (sheet : List ℕ) → rowsRead (blockOf 4 sheet least4) ≡ ok ([], []) 132
-unfolding blockOf lengths whole block header layoutPart symbologyPart remainder named _then_ _on_ checked raw skip num sized utf8 symbology list mapping limited symbologyRows rows judged boxed asks parts groups times full rulesOf seqsFault structsFault recordsFault
+unfolding blockOf lengths whole block header layoutPart symbologyPart remainder named _then_ _on_ checked raw skip num sized utf8 symbology list mapping limited symbologyRows rows judged boxed parts groups times full rulesOf seqsFault structsFault recordsFault
 accepts4 sheet = refl
 
 -- the symbology rows of what a block gives
@@ -60,14 +60,14 @@ rows-differ sheet e =
     omega arith
 
 -- refusals differ: 11 for a version past 4, 13 for a block below 100 bytes, 26 for a version 4 block without a layout
-pub refuses11 : (sheet b : List ℕ) → blockOf 5 sheet b ≡ refuse 11
+pub refuses11 : (sheet b : List ℕ) → blockOf 5 sheet b ≡ refuse (refusal 11 3)
 unfolding blockOf
 refuses11 sheet b = refl
 
-pub refuses13 : (sheet : List ℕ) → blockOf 2 sheet [] ≡ refuse 13
+pub refuses13 : (sheet : List ℕ) → blockOf 2 sheet [] ≡ refuse (refusal 13 0)
 unfolding blockOf
 refuses13 sheet = refl
 
-pub refuses26 : (sheet : List ℕ) → blockOf 4 sheet least ≡ refuse 26
-unfolding blockOf lengths whole block header layoutPart symbologyPart named _then_ _on_ checked raw skip num sized utf8 judged boxed asks
+pub refuses26 : (sheet : List ℕ) → blockOf 4 sheet least ≡ refuse (refusal 26 100)
+unfolding blockOf lengths whole block header layoutPart symbologyPart named _then_ _on_ checked raw skip num sized utf8 judged boxed
 refuses26 sheet = refl

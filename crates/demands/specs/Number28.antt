@@ -1,7 +1,7 @@
 -- Demand 3, its last sentence: one byte or more added at the end of the symbology section, its length raised and fitting, is
--- refused by 28.
+-- refused by 28, at the first added byte.
 -- Assumes nothing.
-use Prim.Native.Nat.{ℕ, _+_, _^_, _≤_, _<_, zero-le}
+use Prim.Native.Nat.{ℕ, _+_, _-_, _^_, _≤_, _<_, zero-le}
 use native.Mathlib.Nat.{zero-add}
 use native.Mathlib.Omega.{arith}
 use mathlib.Core.Path.{_≡_, refl, sym, ap, _∙_, subst}
@@ -10,8 +10,8 @@ use mathlib.Core.List.{List, [], _∷_, _++_, append-assoc, append-nil}
 use lib.ListN.{length, drop, length-append}
 use lib.Seq.{drop-append-seam, drop-drop}
 use borrow.Author.Tests.{le-leb}
-use Rattle.codec.specs.Codec.{ok, refuse, Bytes, little, raw, skip, num, named, checked, judged, asks, whole, boxed, isNil, full, _then_, _on_}
-use Rattle.codec.specs.Laws.{Here, law-boxed}
+use Rattle.codec.specs.Codec.{ok, refuse, refusal, Bytes, little, raw, skip, num, named, checked, judged, whole, boxed, isNil, full, _then_, _on_}
+use Rattle.codec.specs.Laws.{Here, length-little, law-boxed}
 use Rattle.text.specs.Utf8.{utf8}
 use Rattle.dates.specs.Date.{isDate}
 use Rattle.layout.specs.LayoutOf.{D}
@@ -29,10 +29,17 @@ abbrev pub longer : ℕ → Symbology → List ℕ → List ℕ
 longer w t u = little 4 (0 + length (symbology utf8 isDate w .codec .print t ++ u)) ++ (symbology utf8 isDate w .codec .print t ++ u)
 
 section28 : (w base : ℕ) (s : List ℕ) (i : ℕ) (t : Symbology) (u r : List ℕ) → symbology utf8 isDate w .codec .legal t → Bytes u → 0 < length u
-    → 0 + length (symbology utf8 isDate w .codec .print t ++ u) < 256 ^ 4 → Here s i (longer w t u) r → symbologyPart true w .codec .parse base s i ≡ refuse 28
+    → 0 + length (symbology utf8 isDate w .codec .print t ++ u) < 256 ^ 4 → Here s i (longer w t u) r → symbologyPart true w .codec .parse base s i ≡ refuse (refusal 28 (i + (4 + length (symbology utf8 isDate w .codec .print t))))
 unfolding symbologyPart full boxed
 section28 w base s i t u r lg bs some fit here =
-    rw (law-boxed (symbology utf8 isDate w .codec) (symbology utf8 isDate w .law) 27 27 27 4 0 (λ p. p) (symbology utf8 isDate w .codec .each) (symbology utf8 isDate w .law .spotted) .reads base s i (t, u) r (lg, bs, fit) here, isNil-some u some)
+    let T : List ℕ = symbology utf8 isDate w .codec .print t in
+    let at : i + length (longer w t u) - length u ≡ i + (4 + length T) =
+    omega (arith, length-append (little 4 (0 + length (T ++ u))) (T ++ u), length-little 4 (0 + length (T ++ u)), length-append T u) in
+    rw (
+      law-boxed (symbology utf8 isDate w .codec) (symbology utf8 isDate w .law) 27 27 45 4 0 0 zero-le (λ x lg. zero-le) (λ p. p) (symbology utf8 isDate w .codec .each) (symbology utf8 isDate w .law .spotted) .reads base s i (t, u) r (lg, bs, fit) here,
+      isNil-some u some,
+    )
+    (ap (λ (n : ℕ). refuse (refusal 28 n)) at)
 
 header-still : (p : ℕ) (h : Header) → header v4 .codec .locate p h ≡ h
 unfolding header named _then_ checked raw num skip
@@ -49,8 +56,12 @@ module _ (sheet : List ℕ) (z : Block) where
   abbrev pub grown : List ℕ → List ℕ → List ℕ
   grown u r = H ++ (L ++ (longer (width sheet z) (z .symbology) u ++ r))
 
+  -- the place of the first added byte
+  abbrev added : ℕ
+  added = 0 + length H + length L + (4 + length (symbology utf8 isDate (width sheet z) .codec .print (z .symbology)))
+
   block28 : (u r : List ℕ) → B4 sheet .legal z → Bytes u → 0 < length u → 0 + length (symbology utf8 isDate (width sheet z) .codec .print (z .symbology) ++ u) < 256 ^ 4
-      → B4 sheet .parse 0 (grown u r) 0 ≡ refuse 28
+      → B4 sheet .parse 0 (grown u r) 0 ≡ refuse (refusal 28 added)
   unfolding block named _on_ _then_
   block28 u r lg bs some fit =
       let s = grown u r in
@@ -69,7 +80,7 @@ module _ (sheet : List ℕ) (z : Block) where
       )
 
   whole28 : (u r : List ℕ) → B4 sheet .legal z → Bytes u → 0 < length u → 0 + length (symbology utf8 isDate (width sheet z) .codec .print (z .symbology) ++ u) < 256 ^ 4
-      → length (grown u r) ≤ 4294967295 → blockOf 4 sheet (grown u r) ≡ refuse 28
+      → length (grown u r) ≤ 4294967295 → blockOf 4 sheet (grown u r) ≡ refuse (refusal 28 added)
   unfolding blockOf lengths whole
   whole28 u r lg bs some fit high =
       let low : 100 ≤ length (grown u r) = simp length-append (omega (arith, header-length (z .header) (header-legal sheet z lg))) in
@@ -84,7 +95,7 @@ pub record Spanned (sheet b r : List ℕ) : Type 0 where
   pub place : length front ≡ 104 + length (layoutIn sheet b)
   pub refused : (u : List ℕ) → Bytes u → 0 < length u → 0 + length (contents ++ u) < 256 ^ 4
       → length (front ++ (little 4 (0 + length (contents ++ u)) ++ ((contents ++ u) ++ r))) ≤ 4294967295
-      → blockOf 4 sheet (front ++ (little 4 (0 + length (contents ++ u)) ++ ((contents ++ u) ++ r))) ≡ refuse 28
+      → blockOf 4 sheet (front ++ (little 4 (0 + length (contents ++ u)) ++ ((contents ++ u) ++ r))) ≡ refuse (refusal 28 (length front + (4 + length contents)))
 
 print-is : (sheet : List ℕ) (z : Block) → B4 sheet .print z ≡ H sheet z ++ (L sheet z ++ symbologyPart true (width sheet z) .codec .print (z .symbology))
 unfolding block named _on_ _then_
@@ -95,7 +106,7 @@ unfolding symbologyPart full boxed
 section-is w t = refl
 
 layout-length : (sheet : List ℕ) (z : Block) → length (L sheet z) ≡ 4 + length (printLayout utf8 D (z .layout))
-unfolding layoutPart named judged boxed asks printLayout
+unfolding layoutPart named judged boxed printLayout
 layout-length sheet z = omega arith
 
 -- DEMAND 3, the symbology section
@@ -114,7 +125,8 @@ demand28 sheet b z r k bs read =
           ∙ omega (arith, header-length (z .header) (header-legal sheet z (w .legal)), layout-length sheet z, ap (λ v. length (layoutIn sheet v)) (w .bytes) ∙ ap length (layout-bytes sheet z r (w .legal)));
       refused = λ u bu some fit high.
           let q = glue (H sheet z) (L sheet z) (little 4 (0 + length (T ++ u))) (T ++ u) r in
-          ap (blockOf 4 sheet) q ∙ whole28 sheet z u r (w .legal) bu some fit (subst (λ v. length v ≤ 4294967295) q high);
+          let at : added sheet z ≡ length (H sheet z ++ L sheet z) + (4 + length T) = omega (arith, length-append (H sheet z) (L sheet z)) in
+          ap (blockOf 4 sheet) q ∙ whole28 sheet z u r (w .legal) bu some fit (subst (λ v. length v ≤ 4294967295) q high) ∙ ap (λ (n : ℕ). refuse (refusal 28 n)) at;
     }
   where
     regroup : (a b c d r : List ℕ) → (a ++ (b ++ (c ++ d))) ++ r ≡ (a ++ b) ++ (c ++ (d ++ r))

@@ -10,7 +10,7 @@ use mathlib.Core.List.{List, [], _++_, map, append-nil}
 use lib.ListN.{length, getD, drop, length-append, List·getD-map, length-map}
 use lib.Dec.{leb, eqb}
 use borrow.Author.Tests.{eqb-true}
-use Rattle.codec.specs.Codec.{ok, Bytes}
+use Rattle.codec.specs.Codec.{refusal, ok, Bytes}
 use Rattle.codec.specs.Laws.{bind-ok, need-ok}
 use Rattle.table.specs.Table.{flat}
 use Rattle.table.specs.TableLaws.{Wide, flat-length}
@@ -22,9 +22,9 @@ use Rattle.layout.specs.ReadLaws.{rows-nine}
 use Rattle.layout.specs.SpanLaws.{layout-lies}
 use Rattle.layout.specs.TextLaws.{rowText}
 use Rattle.symbology.specs.ReadLaws.{rows-of-five}
-use Rattle.names.specs.Names.{symbolText, itemText, spanOf, partIn}
+use Rattle.names.specs.Names.{noText, symbolText, itemText, spanOf, partIn}
 use Rattle.names.specs.NameLaws.{span-part, span-none, part-bytes, part-none, symbol-text, symbol-kinds, item-kinds}
-use Rattle.names.specs.declared.Span.the-variants.{Part, Refused}
+use Rattle.names.specs.declared.Span.the-variants.{Part}
 use Rattle.rules.specs.Rules.{rulesOf, ruledOf}
 use Rattle.rules.specs.RuleLaws.{ruled-is}
 use Rattle.rows_check.specs.Tree.{rowsIn, treeOf}
@@ -54,7 +54,7 @@ pub record Named (width : ℕ) (hasText : ℕ → Bool) (b table : List ℕ) (rs
   -- a row whose kind has a text gives its start and length, and never 90
   pub part : (i : ℕ) → i < length rs → hasText (kindOf rs i) ≡ true → spanOf width hasText (length b) table i ≡ Part (startOf rs i) (lengthOf rs i)
   -- a row whose kind has none is a field, and gives 90
-  pub only-fields : (i : ℕ) → i < length rs → hasText (kindOf rs i) ≡ false → (kindOf rs i ≡ 11) × (spanOf width hasText (length b) table i ≡ Refused 90)
+  pub only-fields : (i : ℕ) → i < length rs → hasText (kindOf rs i) ≡ false → (kindOf rs i ≡ 11) × (spanOf width hasText (length b) table i ≡ noText)
   -- the name's bytes are the row's text
   pub name : (i : ℕ) → i < length rs → partIn b (spanOf width hasText (length b) table i) ≡ rowText b (getD rs i [])
 
@@ -99,11 +99,11 @@ module _ (w : ℕ) (three : 3 ≤ w) (hasText : ℕ → Bool) (low high : ℕ) (
       let f : getD table (w * i + 1) 0 + getD table (w * i + 2) 0 ≤ length b = omega (arith, start-at i h, length-at i h, inside-at i h e) in
       span-part w hasText (length b) table i (in-table i h) k f ∙ ap₂ Part (start-at i h) (length-at i h)
 
-  refused : (i : ℕ) → i < length rs → eqb (kindOf rs i) 11 ≡ true → spanOf w hasText (length b) table i ≡ Refused 90
+  refused : (i : ℕ) → i < length rs → eqb (kindOf rs i) 11 ≡ true → spanOf w hasText (length b) table i ≡ noText
   refused i h e = span-none w hasText (length b) table i (ap hasText (kind-at i h) ∙ text-at i h ∙ ap not e)
 
   name-at : (i : ℕ) → i < length rs → (x : Bool) → eqb (kindOf rs i) 11 ≡ x → partIn b (spanOf w hasText (length b) table i) ≡ rowText b (getD rs i [])
-  name-at i h true e = ap (partIn b) (refused i h e) ∙ part-none b 90 ∙ rw e refl
+  name-at i h true e = ap (partIn b) (refused i h e) ∙ part-none b (refusal 90 0) ∙ rw e refl
   name-at i h false e = ap (partIn b) (given i h e) ∙ part-bytes b (startOf rs i) (lengthOf rs i) (inside-at i h e) ∙ rw e refl
 
   -- the rows of a table that begins with them

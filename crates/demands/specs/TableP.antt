@@ -7,7 +7,8 @@ use mathlib.Core.Path.{_≡_, refl, sym, ap, _∙_}
 use mathlib.Core.Bool.{true, false}
 use mathlib.Core.List.{List, [], _∷_, _++_}
 use lib.ListN.{length, drop}
-use Rattle.codec.specs.Codec.{ok, refuse, raw, num, byte, named, checked, placed, sized, times, distinct, whole, boxed, _then_}
+use Rattle.refusal.specs.declared.Refusal.{Refusal}
+use Rattle.codec.specs.Codec.{ok, refuse, refusal, raw, num, fixed, named, checked, placed, sized, times, distinct, whole, boxed, _then_}
 use Rattle.text.specs.Utf8.{utf8}
 use Rattle.dates.specs.Date.{isDate}
 use Rattle.dates.specs.Hand.{p12}
@@ -43,7 +44,7 @@ LayoutGives b version rs = (sheet : List ℕ) (width : ℕ) (t t′ : List ℕ) 
     → (r ≡ Layout'.Read version (length rs)) × (t′ ≡ flat rs ++ drop (9 * length rs) t)
 
 -- the layout b is refused, with any sheet, any width and any table, and the table is as it was
-abbrev pub LayoutRefuses : List ℕ → ℕ → Type 0
+abbrev pub LayoutRefuses : List ℕ → Refusal → Type 0
 LayoutRefuses b n = (sheet : List ℕ) (width : ℕ) (t t′ : List ℕ) (r : Answer) → Ruled b width sheet t t′ r → (r ≡ Layout'.Refused n) × (t′ ≡ t)
 
 -- the block b of version 2, with any sheet, any layout table and any symbology table with room for the rows: the fields are answered,
@@ -57,7 +58,7 @@ layout-gives : (b : List ℕ) (version : ℕ) (rs : List (List ℕ)) (k : ℕ) �
 layout-gives b version rs k e sheet width t t′ r h p = read-layout-single p (RuledLaws.read-given sheet width b t version rs k (e sheet width) (omega arith))
 
 -- a refused layout leaves the table
-layout-refuses : (b : List ℕ) (n : ℕ) → ((sheet : List ℕ) (width : ℕ) → ruledOf sheet width b ≡ refuse n) → LayoutRefuses b n
+layout-refuses : (b : List ℕ) (n : Refusal) → ((sheet : List ℕ) (width : ℕ) → ruledOf sheet width b ≡ refuse n) → LayoutRefuses b n
 layout-refuses b n e sheet width t t′ r p = read-layout-single p (RuledLaws.ruled-no (sym (ap verdict (e sheet width) ∙ verdict-refused n)))
 
 -- and so for a block without layout rows
@@ -75,17 +76,17 @@ P6 sheet width = refl
 
 -- a label def of one label
 P7 : (sheet : List ℕ) (width : ℕ) → RuledLaws.given sheet width p7 ≡ ok (1, p7rows) 22
-unfolding ruledOf layoutOf readLayout whole parts groups sized num raw byte _then_ times rows labelDef label named section boxed name text textOf checked placed distinct utf8 rulesOf seqsFault structsFault recordsFault
+unfolding ruledOf layoutOf readLayout whole parts groups sized num raw fixed _then_ times rows labelDef label named section boxed name text textOf checked placed distinct utf8 rulesOf seqsFault structsFault recordsFault
 P7 sheet width = refl
 
 -- the same with two bytes left over in its section
 P8 : (sheet : List ℕ) (width : ℕ) → RuledLaws.given sheet width p8 ≡ ok (1, p7rows) 24
-unfolding ruledOf layoutOf readLayout whole parts groups sized num raw byte _then_ times rows labelDef label named section boxed name text textOf checked placed distinct utf8 rulesOf seqsFault structsFault recordsFault
+unfolding ruledOf layoutOf readLayout whole parts groups sized num raw fixed _then_ times rows labelDef label named section boxed name text textOf checked placed distinct utf8 rulesOf seqsFault structsFault recordsFault
 P8 sheet width = refl
 
 -- a section length below 2
-P9 : (sheet : List ℕ) (width : ℕ) → ruledOf sheet width p9 ≡ refuse 51
-unfolding ruledOf layoutOf readLayout whole parts groups sized num raw byte _then_ times rows labelDef label named section boxed name text textOf checked placed distinct utf8
+P9 : (sheet : List ℕ) (width : ℕ) → ruledOf sheet width p9 ≡ refuse (refusal 51 8)
+unfolding ruledOf layoutOf readLayout whole parts groups sized num raw fixed _then_ times rows labelDef label named section boxed name text textOf checked placed distinct utf8
 P9 sheet width = refl
 
 -- the table, line by line
@@ -93,12 +94,12 @@ pub record TableP : Type 0 where
   pub p01 : Gives 8 [] (Needs 8)
   pub p02 : Gives 8 (68 ∷ 66 ∷ []) (Needs 6)
   pub p03 : Gives 108 (68 ∷ 66 ∷ 78 ∷ 2 ∷ 100 ∷ 0 ∷ 0 ∷ 0 ∷ []) (Needs 100)
-  pub p04 : Gives 8 (68 ∷ 66 ∷ 78 ∷ 2 ∷ 99 ∷ 0 ∷ 0 ∷ 0 ∷ []) (Refused 12)
-  pub p05 : Gives 8 (68 ∷ 66 ∷ 78 ∷ 5 ∷ 0 ∷ 0 ∷ 0 ∷ 0 ∷ []) (Refused 11)
+  pub p04 : Gives 8 (68 ∷ 66 ∷ 78 ∷ 2 ∷ 99 ∷ 0 ∷ 0 ∷ 0 ∷ []) (Refused (refusal 12 4))
+  pub p05 : Gives 8 (68 ∷ 66 ∷ 78 ∷ 5 ∷ 0 ∷ 0 ∷ 0 ∷ 0 ∷ []) (Refused (refusal 11 3))
   pub p06 : LayoutGives p6 1 []
   pub p07 : LayoutGives p7 1 p7rows
   pub p08 : LayoutGives p8 1 p7rows
-  pub p09 : LayoutRefuses p9 51
+  pub p09 : LayoutRefuses p9 (refusal 51 8)
   pub p10 : BlockGives (listed (69 ∷ 83 ∷ 0 ∷ [])) (zeroFields 3 1) ((0 ∷ 108 ∷ 2 ∷ 0 ∷ 0 ∷ []) ∷ [])
   pub p11 : BlockGives (listed (69 ∷ 0 ∷ 83 ∷ [])) (zeroFields 3 1) ((0 ∷ 108 ∷ 3 ∷ 0 ∷ 0 ∷ []) ∷ [])
   pub dates : (isDate 20240229 ≡ true) × (isDate 20000229 ≡ true) × (isDate 19000229 ≡ false) × (isDate 20241301 ≡ false)
@@ -115,7 +116,7 @@ table = record {
   p06 = layout-gives p6 1 [] 8 P6;
   p07 = layout-gives p7 1 p7rows 22 P7;
   p08 = layout-gives p8 1 p7rows 24 P8;
-  p09 = layout-refuses p9 51 P9;
+  p09 = layout-refuses p9 (refusal 51 8) P9;
   p10 = block-gives (listed (69 ∷ 83 ∷ 0 ∷ [])) (zeroFields 3 1) ((0 ∷ 108 ∷ 2 ∷ 0 ∷ 0 ∷ []) ∷ []) 123 P10;
   p11 = block-gives (listed (69 ∷ 0 ∷ 83 ∷ [])) (zeroFields 3 1) ((0 ∷ 108 ∷ 3 ∷ 0 ∷ 0 ∷ []) ∷ []) 123 P11;
   dates = p12;

@@ -9,10 +9,10 @@ use mathlib.Core.List.{List, [], _∷_, _++_, map}
 use lib.ListN.{length, replicate, length-replicate}
 use lib.Dec.{leb, ltb}
 use borrow.Author.Tests.{leb-true, ltb-true}
-use Rattle.codec.specs.Codec.{Bytes, ok, raw, padded, skip, num, byte, named, checked, judged, placed, asks, sized, limited, times, distinct, whole, boxed, full, _then_, _on_, remainder}
+use Rattle.codec.specs.Codec.{Bytes, ok, raw, padded, skip, num, fixed, named, checked, judged, placed, asks, sized, limited, times, distinct, whole, boxed, full, _then_, _on_, remainder}
 use Rattle.codec.specs.CaseLaws.{both-true}
 use Rattle.codec.specs.Edits.{Marked, kept, free, _and_, box, bytesOf, Edit, keep, fill, pair, grow, put}
-use Rattle.codec.specs.Format.{raw-edits, num-edits, byte-edits}
+use Rattle.codec.specs.Format.{raw-edits, num-edits, fixed-edits}
 use Rattle.codec.specs.EditLaws.{edits-kept, edits-still, edits-skip, edits-padded, edits-then, edits-on, edits-named, edits-checked, edits-judged, edits-asks, edits-placed, edits-sized, edits-times, edits-distinct, edits-apart, edits-boxed}
 use Rattle.text.specs.Utf8.{utf8}
 use Rattle.dates.specs.Date.{isDate, isDay, daysIn, isLeap}
@@ -145,7 +145,7 @@ edited = bytesWith 170 2 ++ (187 ∷ [])
 
 -- both are read
 reads : (blockOf 4 sheet plain ≡ ok (treeWith 0 0, []) (201 + 2 * D)) × (blockOf 4 sheet edited ≡ ok (treeWith 170 2, 187 ∷ []) (210 + 2 * D))
-unfolding blockOf lengths whole block header layoutPart symbologyPart named _then_ _on_ checked raw skip num sized utf8 symbology list symbol date interval mapping placed limited asks judged boxed parts groups times full padded byte distinct recordL structL labelDef label fields entry section name text textOf D isDate isDay daysIn isLeap rulesOf seqsFault structsFault recordsFault structFault recordFault seqFault fieldsFault baseFault extFault tilingFault spans structAlign largest fieldFault breaks71 breaks72 breaks73 breaks74 breaks76 breaks77 breaks79 breaks80 alignOf defOf idOf isDecimal isExtension isPadding isStruct isSymbol memberAlign namesLabel offOf pastBase sizeOf typeOf
+unfolding blockOf lengths whole block header layoutPart symbologyPart named _then_ _on_ checked raw skip num sized utf8 symbology list symbol date interval mapping placed limited asks judged boxed parts groups times full padded fixed distinct recordL structL labelDef label fields entry section name text textOf D isDate isDay daysIn isLeap rulesOf seqsFault structsFault recordsFault structFault recordFault seqFault fieldsFault baseFault extFault tilingFault spans structAlign largest fieldFault breaks71 breaks72 breaks73 breaks74 breaks76 breaks77 breaks79 breaks80 alignOf defOf idOf isDecimal isExtension isPadding isStruct isSymbol memberAlign namesLabel offOf pastBase sizeOf typeOf
 reads = (refl, refl)
 
 -- what is read gives these fields and rows
@@ -207,7 +207,7 @@ pub record Moves : Type 0 where
 
 -- all of that, computed
 pub moves : Moves
-unfolding block header layoutPart symbologyPart symbology list symbol date interval mapping parts groups recordL structL labelDef label fields entry section name text textOf D edits-named edits-on edits-then edits-checked edits-still edits-skip edits-judged edits-apart edits-asks edits-sized edits-times edits-distinct edits-boxed edits-placed edits-padded edits-kept raw-edits num-edits byte-edits named _then_ _on_ checked raw padded skip num byte judged placed asks sized limited times distinct boxed full filled-edit
+unfolding block header layoutPart symbologyPart symbology list symbol date interval mapping parts groups recordL structL labelDef label fields entry section name text textOf D edits-named edits-on edits-then edits-checked edits-still edits-skip edits-judged edits-apart edits-asks edits-sized edits-times edits-distinct edits-boxed edits-placed edits-padded edits-kept raw-edits num-edits fixed-edits named _then_ _on_ checked raw padded skip num fixed judged placed asks sized limited times distinct boxed full filled-edit
 moves = record { fits = refl; bytes = refl; symbology = refl; layout = refl }
 
 -- the edit of the block
@@ -246,5 +246,5 @@ least-given t = refl
 
 -- fed whole to any store of 128 bytes or more, with any sheet and any tables, it is done
 pub done : Gives 128 leastStream (Done (zeroFields 0 0))
-unfolding preludeOf prelude magic _then_ named checked byte num raw
+unfolding preludeOf prelude magic _then_ named checked fixed num raw
 done = fed-done leastStream 2 120 (zeroFields 0 0) refl refl (omega arith) (λ t s l. read-given 2 least t s l (zeroFields 0 0) [] [] 120 (least-given t) (omega arith) (omega arith))

@@ -5,7 +5,7 @@ use mathlib.Core.Path.{_≡_, refl}
 use mathlib.Core.Bool.{true}
 use mathlib.Core.List.{List, [], _∷_, _++_}
 use lib.ListN.{length, replicate}
-use Rattle.codec.specs.Codec.{raw, padded, num, byte, named, checked, placed, sized, times, distinct, boxed, _then_}
+use Rattle.codec.specs.Codec.{raw, padded, num, fixed, named, checked, placed, sized, times, distinct, boxed, _then_}
 use Rattle.text.specs.Utf8.{utf8}
 use Rattle.wire.specs.Formats.{section, text, textOf, name}
 use Rattle.layout.specs.Layout.{entry, fields, recordL, structL, label, labelDef, parts, groups, printLayout}
@@ -39,7 +39,7 @@ table =
 
 -- neither 90 to 95 nor a rule refuses it
 pub well-formed : fault true table (65 ∷ []) ≡ 0
-unfolding fault fitFault wellFormed both every rowTest rowFits limitOf inOrder walk sectionInPlace nameKind countsFit groupsFit countFits nameShort nameClean clean sectionsFit fitsAll printedSection printed risesAt countKind countOf from namesFrom skip treeOf cutBytes rowBytes utf8 printLayout parts groups recordL structL labelDef label fields entry padded named _then_ sized times distinct num raw byte section boxed name text textOf checked placed D
+unfolding fault fitFault wellFormed both every rowTest rowFits limitOf inOrder walk sectionInPlace nameKind countsFit groupsFit countFits nameShort nameClean clean sectionsFit fitsAll printedSection printed risesAt countKind countOf from namesFrom skip treeOf cutBytes rowBytes utf8 printLayout parts groups recordL structL labelDef label fields entry padded named _then_ sized times distinct num raw fixed section boxed name text textOf checked placed D
 well-formed = refl
 
 pub ruled : rowsRules sheet 71 table (65 ∷ []) ≡ 0

@@ -14,6 +14,6 @@ use Rattle.rules.specs.RuleLaws.{ruled-is}
 pub ruled-layout : (sheet : List ℕ) (width : ℕ) (part : List ℕ) (l : Layout) (j : ℕ) → ruledOf sheet width part ≡ ok l j → (i : ℕ) × (layoutOf part ≡ ok l i)
 ruled-layout sheet width part l j el =
     let (l′, j′, e1, e2) = bind-ok (layoutOf part) _ l j (sym (ruled-is sheet width part) ∙ el) in
-    let (t, e3) = need-ok (eqb 0 (rulesOf sheet width (fromLayout l′ .0))) _ j′ _ l j e2 in
+    let (t, e3) = need-ok (eqb 0 (rulesOf sheet width (fromLayout l′ .0))) _ 0 _ l j e2 in
     let same : l′ ≡ l = cc in
     (j′, e1 ∙ ap (λ (y : Layout). ok y j′) same)

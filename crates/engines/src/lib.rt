@@ -50,6 +50,6 @@ fn number(s: Sized) -> u32
             structs: _,
             labels: _,
         } => 0,
-        Sized::Refused(why) => why,
+        Sized::Refused(why) => why.number,
     }
 }

@@ -1,5 +1,6 @@
-// Runs the cases of standard input, one to a line, and writes what the readers, the rules and the writer answer. A line is a
-// kind and the bytes of the case in hexadecimal; spaces are passed over. Numbers are little-endian.
+// Runs the cases of standard input, one to a line, and writes what the readers, the rules and the writer answer. A refusal is
+// its number and, where it has one, its place in the block, the symbology or the layout. A line is a kind and the bytes of the
+// case in hexadecimal; spaces are passed over. Numbers are little-endian.
 //   #  a remark, written as it is
 //   s  a type sheet for the cases after it: places of numbers that are not 0, each with its number, two bytes each
 //   b  a block: its version, the rows of each lent table (two bytes), the block

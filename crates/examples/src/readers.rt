@@ -6,6 +6,7 @@ use block::BlockAnswer;
 use block::Fields;
 use layout::Answer;
 use layout::Verdict;
+use refusal::Refusal;
 use symbology::SectionAnswer;
 ghost use Prim.Native.Nat.{_≤_};
 
@@ -69,9 +70,10 @@ pub(crate) fn layout(s: &[u8], sheet: &[u16; 520]) {
     let width = bytes::u16_at(s, 0);
     let layout = bytes::from(s, 2);
     let mut table = rows::space();
-    let given = answer_number(given_layout::read_layout(layout, width, sheet, &mut table));
+    let given = answer_refusal(given_layout::read_layout(layout, width, sheet, &mut table));
     let n = read_rows(layout, &mut table);
-    show::rules(given);
+    show::rules();
+    show::say(given);
     rules_of_bytes(layout, width, sheet);
     rules_of_rows(rows::front(&table, n), layout, width, sheet);
     show::rows(layout, &table, 9, n);
@@ -97,8 +99,8 @@ fn read_rows(layout: &[u8], table: &mut [u32]) -> usize {
 
 // What the rules say of a layout's bytes, by search and marked.
 fn rules_of_bytes(layout: &[u8], width: u16, sheet: &[u16; 520]) {
-    show::say_number(verdict_number(engines::check_layout(layout, width, sheet)));
-    show::say_number(verdict_number(engines::check_layout_plain(layout, width, sheet)));
+    show::say(verdict_refusal(engines::check_layout(layout, width, sheet)));
+    show::say(verdict_refusal(engines::check_layout_plain(layout, width, sheet)));
 }
 
 // What the rules say of rows whose texts are in `text`, by search and marked.
@@ -108,30 +110,34 @@ fn rules_of_rows(rows: &[u32], text: &[u8], width: u16, sheet: &[u16; 520]) {
     show::end();
 }
 
-// The number of an answer, 0 where it reads.
-fn answer_number(a: Answer) -> u32 {
+// The refusal of an answer, number 0 where it reads.
+fn answer_refusal(a: Answer) -> Refusal {
     match a {
         Answer::Read {
             version: _,
             rows: _,
-        } => 0,
+        } => without_place(0),
         Answer::Short {
             version: _,
             rows: _,
-        } => 3,
+        } => without_place(refusal::TABLE_SHORT),
         Answer::Refused(why) => why,
     }
 }
 
-// The number of a verdict, 0 where it accepts.
-fn verdict_number(v: Verdict) -> u32 {
+// The refusal of a verdict, number 0 where it accepts.
+fn verdict_refusal(v: Verdict) -> Refusal {
     match v {
         Verdict::Accepted {
             version: _,
             rows: _,
-        } => 0,
+        } => without_place(0),
         Verdict::Refused(why) => why,
     }
+}
+
+fn without_place(number: u32) -> Refusal {
+    Refusal { number, place: 0 }
 }
 
 // The bytes of a case: n, and in kind m so many labels more, which are put after them.

@@ -2,6 +2,7 @@
 use crate::bytes;
 use block::Fields;
 use block::Optional;
+use refusal::Refusal;
 ghost use Prim.Native.Nat.{_≤_};
 
 // A text and the line's end.
@@ -26,9 +27,17 @@ pub(crate) fn say_number(n: u32) {
     number(b" ", n as u64);
 }
 
-// What the rules say begins with this number.
-pub(crate) fn rules(n: u32) {
-    number(b"  rules ", n as u64);
+// A space and a refusal: its number, and its place where it has one.
+pub(crate) fn say(why: Refusal) {
+    say_number(why.number);
+    if refusal::has_place(why.number) {
+        number(b" at ", why.place as u64);
+    }
+}
+
+// How the line of what the rules say begins.
+pub(crate) fn rules() {
+    io::write_all(1, b"  rules");
 }
 
 // A number, and how many rows were read.
@@ -52,14 +61,16 @@ pub(crate) fn both_short(symbology: usize, layout: usize) {
 }
 
 // A refusal.
-pub(crate) fn refused(why: u32) {
-    number(b"refused ", why as u64);
+pub(crate) fn refused(why: Refusal) {
+    io::write_all(1, b"refused");
+    say(why);
     end();
 }
 
 // A refusal of the writer, and whether the output is as it was.
-pub(crate) fn not_written(why: u32, untouched: bool) {
-    number(b"refused ", why as u64);
+pub(crate) fn not_written(why: Refusal, untouched: bool) {
+    io::write_all(1, b"refused");
+    say(why);
     if untouched {
         line(b", no byte written");
     } else {

@@ -46,7 +46,8 @@ pub(crate) fn rows(s: &[u8], sheet: &[u16; 520]) {
     let rows = rows::front(&table, n);
     let text = bytes::front(bytes::from(s, 10), texts);
     write(rows, text, version, width, sheet, &mut out[0..room]);
-    show::rules(engines::check_rows(rows, text, width, sheet));
+    show::rules();
+    show::say_number(engines::check_rows(rows, text, width, sheet));
     show::say_number(engines::check_rows_plain(rows, text, width, sheet));
     show::end();
 }

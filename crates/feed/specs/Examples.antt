@@ -8,7 +8,8 @@ use mathlib.Core.List.{List, [], _∷_, _++_}
 use borrow.Author.Tests.{le-ltb}
 use lib.ListN.{length, take, drop, length-append, length-drop}
 use lib.Seq.{paste, take-all, length-take-le, take-append-le, drop-append-le, take-at}
-use Rattle.codec.specs.Codec.{_then_, named, checked, byte, num, raw}
+use Rattle.refusal.specs.declared.Refusal.{Refusal}
+use Rattle.codec.specs.Codec.{refusal, _then_, named, checked, fixed, num, raw}
 use Rattle.block.specs.Read.{Promise}
 use Rattle.block.specs.declared.Fields.{Fields}
 use Rattle.block.specs.declared.BlockAnswer.the-variants.{Read}
@@ -63,7 +64,7 @@ unfolding answerAt symbologyAt layoutAt
 needs-judged k st t s l n e = record { answer = rw e; symbology = rw e; layout = rw e }
 
 -- so they are where the held bytes are refused before the block
-refused-judged : (k : ℕ) (st t s l : List ℕ) (n : ℕ) → stageOf k st ≡ Stage.Refused n → Judgement k st t s l (Refused n) s l
+refused-judged : (k : ℕ) (st t s l : List ℕ) (n : Refusal) → stageOf k st ≡ Stage.Refused n → Judgement k st t s l (Refused n) s l
 unfolding answerAt symbologyAt layoutAt
 refused-judged k st t s l n e = record { answer = rw e; symbology = rw e; layout = rw e }
 
@@ -101,7 +102,7 @@ few p h st t s l x st1 s1 l1 room =
     fed-all st p t s l _ x st1 s1 l1 (takes-few st p fits room (omega arith)) (needs-judged _ _ t s l _ (few-stage st p fits room h))
 
 -- a whole prelude that is refused
-eight-refused : (p : List ℕ) (e : ℕ) → length p ≡ 8 → preludeOf (take 8 p) ≡ Stage.Refused e → Gives 8 p (Refused e)
+eight-refused : (p : List ℕ) (e : Refusal) → length p ≡ 8 → preludeOf (take 8 p) ≡ Stage.Refused e → Gives 8 p (Refused e)
 eight-refused p e h q st t s l x st1 s1 l1 room =
     let fits : length p ≤ length st = omega arith in
     fed-all st p t s l _ x st1 s1 l1 (takes-few st p fits room (omega arith))
@@ -121,7 +122,7 @@ three = 68 ∷ 66 ∷ 78 ∷ 2 ∷ 100 ∷ 0 ∷ 0 ∷ 0 ∷ []
 
 -- a store that has room for them and for the block needs the block
 three-needs : (n : ℕ) → 108 ≤ n → bounded n 8 (preludeOf three) ≡ Stage.Needs 100
-unfolding preludeOf prelude magic _then_ named checked byte num raw
+unfolding preludeOf prelude magic _then_ named checked fixed num raw
 three-needs n h = simp (le-ltb n 108 h)
 
 -- P3: a whole prelude
@@ -132,14 +133,14 @@ p3 st t s l x st1 s1 l1 room =
     (needs-judged _ _ t s l _ (eight-stage st three fits (omega arith) ∙ three-needs (length st) room))
 
 -- P4: a length below 100
-pub p4 : Gives 8 (68 ∷ 66 ∷ 78 ∷ 2 ∷ 99 ∷ 0 ∷ 0 ∷ 0 ∷ []) (Refused 12)
-unfolding preludeOf prelude magic _then_ named checked byte num raw
-p4 = eight-refused (68 ∷ 66 ∷ 78 ∷ 2 ∷ 99 ∷ 0 ∷ 0 ∷ 0 ∷ []) 12 refl refl
+pub p4 : Gives 8 (68 ∷ 66 ∷ 78 ∷ 2 ∷ 99 ∷ 0 ∷ 0 ∷ 0 ∷ []) (Refused (refusal 12 4))
+unfolding preludeOf prelude magic _then_ named checked fixed num raw
+p4 = eight-refused (68 ∷ 66 ∷ 78 ∷ 2 ∷ 99 ∷ 0 ∷ 0 ∷ 0 ∷ []) (refusal 12 4) refl refl
 
 -- P5: a version past 4
-pub p5 : Gives 8 (68 ∷ 66 ∷ 78 ∷ 5 ∷ 0 ∷ 0 ∷ 0 ∷ 0 ∷ []) (Refused 11)
-unfolding preludeOf prelude magic _then_ named checked byte num raw
-p5 = eight-refused (68 ∷ 66 ∷ 78 ∷ 5 ∷ 0 ∷ 0 ∷ 0 ∷ 0 ∷ []) 11 refl refl
+pub p5 : Gives 8 (68 ∷ 66 ∷ 78 ∷ 5 ∷ 0 ∷ 0 ∷ 0 ∷ 0 ∷ []) (Refused (refusal 11 3))
+unfolding preludeOf prelude magic _then_ named checked fixed num raw
+p5 = eight-refused (68 ∷ 66 ∷ 78 ∷ 5 ∷ 0 ∷ 0 ∷ 0 ∷ 0 ∷ []) (refusal 11 3) refl refl
 
 -- ---- a whole stream start in one piece
 

@@ -7,6 +7,7 @@ use mathlib.Core.List.{List, _∷_, _++_}
 use lib.ListN.{length, take, drop}
 use lib.Seq.{paste}
 use lib.Dec.{ltb}
+use Rattle.codec.specs.Codec.{refusal}
 use Rattle.block.specs.Read.{blockNumbers, blockAnswer, blockSymbology, blockLayout}
 use Rattle.block.specs.declared.BlockAnswer.{BlockAnswer}
 use Rattle.block.specs.declared.BlockAnswer.the-variants.{Read}
@@ -25,16 +26,16 @@ abbrev pub bounded : ℕ → ℕ → Stage → Stage
 bounded n k (Stage.Needs m) = Stage.Needs m
 bounded n k (Stage.Refused e) = Stage.Refused e
 bounded n k (Whole v len) =
-    cond (ltb n (8 + len)) (Stage.Refused 2)
-    (cond (ltb (8 + len) k) (Stage.Refused 1)
+    cond (ltb n (8 + len)) (Stage.Refused (refusal 2 0))
+    (cond (ltb (8 + len) k) (Stage.Refused (refusal 1 0))
     (cond (ltb k (8 + len)) (Stage.Needs (8 + len - k))
     (Whole v len)))
 
 -- the first k bytes of a store, up to the block's own verdict: 1 beyond the store, 2 below 8, then the prelude
 unfoldable pub stageOf : ℕ → List ℕ → Stage
 stageOf k st =
-    cond (ltb (length st) k) (Stage.Refused 1)
-    (cond (ltb (length st) 8) (Stage.Refused 2)
+    cond (ltb (length st) k) (Stage.Refused (refusal 1 0))
+    (cond (ltb (length st) 8) (Stage.Refused (refusal 2 0))
     (bounded (length st) k (preludeOf (take k st))))
 
 -- the block of n bytes that a store holds after the prelude
@@ -113,5 +114,5 @@ pub record Feeding (k : ℕ) (st p t s l : List ℕ) (r : Fed) (st′ s′ l′ 
 abbrev pub answerNumber : Answer → ℕ
 answerNumber (Answer.Needs n) = 0
 answerNumber (Done f) = 0
-answerNumber (Answer.Refused e) = e
+answerNumber (Answer.Refused e) = e .number
 answerNumber (Answer.Short s l) = 3

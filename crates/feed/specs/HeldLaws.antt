@@ -7,6 +7,7 @@ use mathlib.Core.List.{List}
 use lib.ListN.{length, take, drop}
 use lib.Seq.{take-add, drop-at, length-take-le}
 use lib.Dec.{ltb}
+use Rattle.codec.specs.Codec.{refusal}
 use Rattle.block.specs.Read.{blockAnswer, blockSymbology, blockLayout}
 use Rattle.prelude.specs.Prelude.{preludeOf}
 use Rattle.feed.specs.Feeding.{bounded, stageOf, blockSays, blockIn, answerAt, symbologyAt, layoutAt}
@@ -21,7 +22,7 @@ block-held st n h = sym (ap (drop 8) (take-add 8 n st) ∙ drop-at (take 8 st) (
 module _ (k : ℕ) (st st2 t s l : List ℕ) (same : length st ≡ length st2) (held : take k st ≡ take k st2) where
   stage-same : stageOf k st ≡ stageOf k st2
   unfolding stageOf
-  stage-same = ap₂ (λ n x. cond (ltb n k) (Refused 1) (cond (ltb n 8) (Refused 2) (bounded n k (preludeOf x)))) same held
+  stage-same = ap₂ (λ n x. cond (ltb n k) (Refused (refusal 1 0)) (cond (ltb n 8) (Refused (refusal 2 0)) (bounded n k (preludeOf x)))) same held
 
   abbrev Alike : Stage → Type 0
   Alike z = (answerAt z st t s l ≡ answerAt z st2 t s l) × (symbologyAt z st t s l ≡ symbologyAt z st2 t s l) × (layoutAt z st t s l ≡ layoutAt z st2 t s l)

@@ -1,5 +1,5 @@
--- ANY CUTTING of a stream into pieces: feeds one after the other take the same bytes and end with the same answer, store and tables as one
--- feed of the whole stream. The state, the store and the tables are any. Assumes nothing.
+-- ANY CUTTING of a stream into pieces: feeds one after the other take the same bytes and end with the same answer, a refusal's number and
+-- place with it, store and tables as one feed of the whole stream. The state, the store and the tables are any. Assumes nothing.
 use Prim.Native.Nat.{ℕ, _+_, _≤_}
 use native.Mathlib.Omega.{arith}
 use mathlib.Core.Path.{_≡_, refl, sym, ap, ap₂, subst₂, _∙_}

@@ -1,62 +1,113 @@
--- Which numbers a feed gives.
+-- Which numbers a feed gives, and where.
 -- Assumes nothing.
-use Prim.Native.Nat.{ℕ, _+_, _-_}
+use Prim.Native.Nat.{ℕ, _+_, _-_, _≤_, zero-le}
 use native.Mathlib.Omega.{arith}
-use mathlib.Core.Path.{_≡_, refl, sym, subst, _∙_}
+use mathlib.Core.Path.{_≡_, refl, sym, ap, subst, _∙_}
+use mathlib.Core.Logic.{⊎-elim}
 use mathlib.Core.Bool.{Bool, true, false, cond}
 use mathlib.Core.List.{List}
-use lib.ListN.{length, take}
+use lib.ListN.{length, take, drop, length-take}
 use lib.Dec.{ltb}
+use Rattle.refusal.specs.declared.Refusal.{Refusal}
+use Rattle.codec.specs.Codec.{refusal}
 use Rattle.codec.specs.Refusals.{In}
 use Rattle.codec.specs.RefusalLaws.{in-more}
 use Rattle.prelude.specs.Prelude.{preludeNumbers, preludeOf}
-use Rattle.prelude.specs.RefusalLaws.{prelude-refuses}
+use Rattle.prelude.specs.RefusalLaws.{prelude-refuses, prelude-place}
 use Rattle.prelude.specs.declared.Stage.{Stage}
 use Rattle.prelude.specs.declared.Stage.the-variants.{Needs, Refused, Whole}
 use Rattle.block.specs.Read.{blockNumbers, blockAnswer}
-use Rattle.block.specs.RefusalLaws.{answer-refuses}
+use Rattle.block.specs.RefusalLaws.{answer-refuses, answer-within, refused-anyway}
 use Rattle.block.specs.declared.BlockAnswer.{BlockAnswer}
 use Rattle.block.specs.declared.BlockAnswer.the-variants as BlockAnswer'
-use Rattle.feed.specs.Feeding.{bounded, stageOf, blockIn, blockSays, answerAt, feedNumbers, Judgement, Feeding}
+use Rattle.feed.specs.Feeding.{bounded, stageOf, blockIn, blockSays, answerAt, feedNumbers, Feeding}
+use Rattle.feed.specs.StageLaws.{is-whole}
 use Rattle.feed.specs.declared.Answer.{Answer}
 use Rattle.feed.specs.declared.Fed.{Fed}
 
--- by the prelude's own verdict
-bounded-refuses : (n k : ℕ) (x : Stage) {e : ℕ} → ((j : ℕ) → x ≡ Refused j → In preludeNumbers j) → bounded n k x ≡ Refused e → In feedNumbers e
-bounded-refuses n k (Needs m) h q = let z : _≡_ {A = ℕ} 0 1 = cc in absurd (omega arith)
-bounded-refuses n k (Refused j) {e} h q = let z : j ≡ e = cc in subst (In feedNumbers) z (in-more preludeNumbers feedNumbers refl j (h j refl))
-bounded-refuses n k (Whole v len) {e} h q = go (ltb n (8 + len)) (ltb (8 + len) k) (ltb k (8 + len)) q
-  where
-    go : (a b c : Bool) → cond a (Refused 2) (cond b (Refused 1) (cond c (Needs (8 + len - k)) (Whole v len))) ≡ Refused e → In feedNumbers e
-    go true b c q = let z : 2 ≡ e = cc in subst (In feedNumbers) z refl
-    go false true c q = let z : 1 ≡ e = cc in subst (In feedNumbers) z refl
-    go false false true q = let z : _≡_ {A = ℕ} 0 1 = cc in absurd (omega arith)
-    go false false false q = let z : _≡_ {A = ℕ} 0 1 = cc in absurd (omega arith)
-
-stage-refuses : (k : ℕ) (st : List ℕ) {e : ℕ} → stageOf k st ≡ Refused e → In feedNumbers e
-unfolding stageOf
-stage-refuses k st {e} q = go (ltb (length st) k) (ltb (length st) 8) q
-  where
-    go : (a b : Bool) → cond a (Refused 1) (cond b (Refused 2) (bounded (length st) k (preludeOf (take k st)))) ≡ Refused e → In feedNumbers e
-    go true b q = let z : 1 ≡ e = cc in subst (In feedNumbers) z refl
-    go false true q = let z : 2 ≡ e = cc in subst (In feedNumbers) z refl
-    go false false q = bounded-refuses (length st) k (preludeOf (take k st)) (λ j i. prelude-refuses (take k st) i) q
-
-says-refused : (a : BlockAnswer) {e : ℕ} → blockSays a ≡ Answer.Refused e → BlockAnswer.Refused e ≡ a
+says-refused : (a : BlockAnswer) {e : Refusal} → blockSays a ≡ Answer.Refused e → BlockAnswer.Refused e ≡ a
 unfolding blockSays
 says-refused (BlockAnswer'.Read f) q = let z : _≡_ {A = ℕ} 0 1 = cc in absurd (omega arith)
 says-refused (BlockAnswer'.Refused j) q = cc
 says-refused (BlockAnswer'.Short s l) q = let z : _≡_ {A = ℕ} 0 1 = cc in absurd (omega arith)
 
-pub answer-refused : (k : ℕ) (st t s l : List ℕ) {e : ℕ} → answerAt (stageOf k st) st t s l ≡ Answer.Refused e → In feedNumbers e
-unfolding answerAt
-answer-refused k st t s l {e} q = go (stageOf k st) refl q
-  where
-    go : (x : Stage) → stageOf k st ≡ x → answerAt x st t s l ≡ Answer.Refused e → In feedNumbers e
-    go (Needs n) i q = let z : _≡_ {A = ℕ} 0 1 = cc in absurd (omega arith)
-    go (Refused j) i q = let z : j ≡ e = cc in subst (In feedNumbers) z (stage-refuses k st i)
-    go (Whole v n) i q = in-more blockNumbers feedNumbers refl e (answer-refuses v (blockIn st n) t s l (says-refused (blockAnswer v (blockIn st n) t s l) q))
+-- WHY HELD BYTES ARE REFUSED: 1 or 2, which have no place; or as the prelude is, its place counted from there; or as the block is, its place
+-- counted from there
+pub data Why (k : ℕ) (st t s l : List ℕ) (e : Refusal) : Type 0 where
+  held : e ≡ refusal 1 0 → Why k st t s l e
+  store : e ≡ refusal 2 0 → Why k st t s l e
+  prelude : preludeOf (take k st) ≡ Refused e → Why k st t s l e
+  block : (v n : ℕ) → stageOf k st ≡ Whole v n → BlockAnswer.Refused e ≡ blockAnswer v (blockIn st n) t s l → Why k st t s l e
 
--- what a feed's answer refuses with
-pub feed-refuses : (k : ℕ) (st p t s l : List ℕ) (r : Fed) (st′ s′ l′ : List ℕ) {e : ℕ} → Feeding k st p t s l r st′ s′ l′ → r .answer ≡ Answer.Refused e → In feedNumbers e
-feed-refuses k st p t s l r st′ s′ l′ f q = answer-refused _ _ t s l (sym (f .verdict .answer) ∙ q)
+module _ (k : ℕ) (st t s l : List ℕ) {e : Refusal} where
+  bounded-why : (x : Stage) → preludeOf (take k st) ≡ x → bounded (length st) k x ≡ Refused e → Why k st t s l e
+  bounded-why (Needs m) h q = let z : _≡_ {A = ℕ} 0 1 = cc in absurd (omega arith)
+  bounded-why (Refused j) h q = prelude (h ∙ q)
+  bounded-why (Whole v len) h q = go (ltb (length st) (8 + len)) (ltb (8 + len) k) (ltb k (8 + len)) q
+    where
+      go : (a b c : Bool) → cond a (Refused (refusal 2 0)) (cond b (Refused (refusal 1 0)) (cond c (Needs (8 + len - k)) (Whole v len))) ≡ Refused e → Why k st t s l e
+      go true b c q = let z : refusal 2 0 ≡ e = cc in store (sym z)
+      go false true c q = let z : refusal 1 0 ≡ e = cc in held (sym z)
+      go false false true q = let z : _≡_ {A = ℕ} 0 1 = cc in absurd (omega arith)
+      go false false false q = let z : _≡_ {A = ℕ} 0 1 = cc in absurd (omega arith)
+
+  stage-why : stageOf k st ≡ Refused e → Why k st t s l e
+  unfolding stageOf
+  stage-why q = go (ltb (length st) k) (ltb (length st) 8) q
+    where
+      go : (a b : Bool) → cond a (Refused (refusal 1 0)) (cond b (Refused (refusal 2 0)) (bounded (length st) k (preludeOf (take k st)))) ≡ Refused e → Why k st t s l e
+      go true b q = let z : refusal 1 0 ≡ e = cc in held (sym z)
+      go false true q = let z : refusal 2 0 ≡ e = cc in store (sym z)
+      go false false q = bounded-why (preludeOf (take k st)) refl q
+
+  pub answer-why : answerAt (stageOf k st) st t s l ≡ Answer.Refused e → Why k st t s l e
+  unfolding answerAt
+  answer-why q = go (stageOf k st) refl q
+    where
+      go : (x : Stage) → stageOf k st ≡ x → answerAt x st t s l ≡ Answer.Refused e → Why k st t s l e
+      go (Needs n) i q = let z : _≡_ {A = ℕ} 0 1 = cc in absurd (omega arith)
+      go (Refused j) i q = let z : j ≡ e = cc in stage-why (i ∙ ap Refused z)
+      go (Whole v n) i q = block v n i (says-refused (blockAnswer v (blockIn st n) t s l) q)
+
+  number-of : Why k st t s l e → In feedNumbers (e .number)
+  number-of (held q) = subst (λ (j : Refusal). In feedNumbers (j .number)) (sym q) refl
+  number-of (store q) = subst (λ (j : Refusal). In feedNumbers (j .number)) (sym q) refl
+  number-of (prelude q) = in-more preludeNumbers feedNumbers refl (e .number) (prelude-refuses (take k st) q)
+  number-of (block v n _ q) = in-more blockNumbers feedNumbers refl (e .number) (answer-refuses v (blockIn st n) t s l q)
+
+  place-of : Why k st t s l e → e .place ≤ k
+  place-of (held q) = rw q zero-le
+  place-of (store q) = rw q zero-le
+  place-of (prelude q) = omega (arith, prelude-place (take k st) q, length-take k st)
+  place-of (block v n i q) =
+      let w = is-whole k st v n i in
+      ⊎-elim (λ z. rw z (omega (arith, w .sum))) (λ h. omega (arith, w .sum, length-take n (drop 8 st))) (answer-within v (blockIn st n) t s l q)
+
+  -- the number of the verdict's refusal, and its place, which is within the held bytes
+  pub answer-refused : answerAt (stageOf k st) st t s l ≡ Answer.Refused e → In feedNumbers (e .number)
+  answer-refused q = number-of (answer-why q)
+
+  pub answer-place : answerAt (stageOf k st) st t s l ≡ Answer.Refused e → e .place ≤ k
+  answer-place q = place-of (answer-why q)
+
+  -- whatever tables are lent: the same number at the same place
+  pub answer-anyway : answerAt (stageOf k st) st t s l ≡ Answer.Refused e → (s₂ l₂ : List ℕ) → answerAt (stageOf k st) st t s₂ l₂ ≡ Answer.Refused e
+  unfolding answerAt blockSays
+  answer-anyway q s₂ l₂ = go (stageOf k st) q
+    where
+      go : (x : Stage) → answerAt x st t s l ≡ Answer.Refused e → answerAt x st t s₂ l₂ ≡ Answer.Refused e
+      go (Needs n) q = let z : _≡_ {A = ℕ} 0 1 = cc in absurd (omega arith)
+      go (Refused j) q = q
+      go (Whole v n) q = ap blockSays (refused-anyway v (blockIn st n) t s l (says-refused (blockAnswer v (blockIn st n) t s l) q) s₂ l₂)
+
+-- what a feed's answer refuses with, and where
+module _ (k : ℕ) (st p t s l : List ℕ) (r : Fed) (st′ s′ l′ : List ℕ) {e : Refusal} (f : Feeding k st p t s l r st′ s′ l′) (q : r .answer ≡ Answer.Refused e) where
+  pub feed-refuses : In feedNumbers (e .number)
+  feed-refuses = answer-refused _ _ t s l (sym (f .verdict .answer) ∙ q)
+
+  pub feed-place : e .place ≤ r .state .held
+  feed-place = rw (f .held) (answer-place _ _ t s l (sym (f .verdict .answer) ∙ q))
+
+  -- and so with other tables
+  pub feed-anyway : (s₂ l₂ : List ℕ) {y : Fed} {st₂ s₂′ l₂′ : List ℕ} → Feeding k st p t s₂ l₂ y st₂ s₂′ l₂′ → y .answer ≡ Answer.Refused e
+  feed-anyway s₂ l₂ g = g .verdict .answer ∙ answer-anyway _ _ t s l (sym (f .verdict .answer) ∙ q) s₂ l₂

@@ -10,6 +10,8 @@ use borrow.Author.Tests.{lt-ltb, le-ltb, ltb-true, ltb-false}
 use lib.ListN.{length, take, drop, length-drop}
 use lib.Seq.{take-all, take-take, length-take-le, take-add, drop-drop, paste, paste-zero, length-paste, take-paste, drop-paste}
 use lib.Dec.{ltb}
+use Rattle.refusal.specs.declared.Refusal.{Refusal}
+use Rattle.codec.specs.Codec.{refusal}
 use Rattle.prelude.specs.Prelude.{preludeOf}
 use Rattle.prelude.specs.PreludeLaws.{prelude-few, prelude-first, prelude-never}
 use Rattle.feed.specs.Feeding.{bounded, stageOf, needOf, poured, takenOf, blockSays, Judgement, Feeding, answerAt, symbologyAt, layoutAt}
@@ -31,7 +33,7 @@ below-or a b = go (ltb a b) refl
 NeverNeeds : Stage → Type 0
 NeverNeeds r = (n : ℕ) → r ≡ Needs n → ⊥
 
-refused-not : (e : ℕ) → NeverNeeds (Refused e)
+refused-not : (e : Refusal) → NeverNeeds (Refused e)
 unfolding NeverNeeds
 refused-not e n q = let z : _≡_ {A = ℕ} 0 1 = cc in omega arith
 
@@ -40,11 +42,11 @@ unfolding NeverNeeds
 whole-not v len n q = let z : _≡_ {A = ℕ} 0 1 = cc in omega arith
 
 module _ (k : ℕ) (st : List ℕ) where
-  pub stage-beyond : length st < k → stageOf k st ≡ Refused 1
+  pub stage-beyond : length st < k → stageOf k st ≡ Refused (refusal 1 0)
   unfolding stageOf
   stage-beyond h = simp (lt-ltb _ _ h)
 
-  pub stage-small : k ≤ length st → length st < 8 → stageOf k st ≡ Refused 2
+  pub stage-small : k ≤ length st → length st < 8 → stageOf k st ≡ Refused (refusal 2 0)
   unfolding stageOf
   stage-small h g = simp (le-ltb _ _ h, lt-ltb _ _ g)
 
@@ -97,8 +99,8 @@ needing-of k st n (Refused m) h g q e = absurd (refused-not m n e)
 needing-of k st n (Whole v len) h g q e = go (below-or (length st) (8 + len)) (below-or (8 + len) k) (below-or k (8 + len))
   where
     go : (length st < 8 + len) ⊎ (8 + len ≤ length st) → (8 + len < k) ⊎ (k ≤ 8 + len) → (k < 8 + len) ⊎ (8 + len ≤ k) → ForBlock k st n
-    go (inl a) b c = absurd (refused-not 2 n (simp (lt-ltb _ _ a) at e))
-    go (inr a) (inl b) c = absurd (refused-not 1 n (simp (le-ltb _ _ a, lt-ltb _ _ b) at e))
+    go (inl a) b c = absurd (refused-not (refusal 2 0) n (simp (lt-ltb _ _ a) at e))
+    go (inr a) (inl b) c = absurd (refused-not (refusal 1 0) n (simp (le-ltb _ _ a, lt-ltb _ _ b) at e))
     go (inr a) (inr b) (inl c) =
         let p : Needs (8 + len - k) ≡ Needs n = simp (le-ltb _ _ a, le-ltb _ _ b, lt-ltb _ _ c) at e in
         let s : 8 + len - k ≡ n = cc in
@@ -111,8 +113,8 @@ unfolding NeverNeeds
 needing k st n e = go (below-or (length st) k) (below-or (length st) 8) (below-or k 8)
   where
     go : (length st < k) ⊎ (k ≤ length st) → (length st < 8) ⊎ (8 ≤ length st) → (k < 8) ⊎ (8 ≤ k) → ForPrelude k st n ⊎ ForBlock k st n
-    go (inl a) b c = absurd (refused-not 1 n (sym (stage-beyond k st a) ∙ e))
-    go (inr a) (inl b) c = absurd (refused-not 2 n (sym (stage-small k st a b) ∙ e))
+    go (inl a) b c = absurd (refused-not (refusal 1 0) n (sym (stage-beyond k st a) ∙ e))
+    go (inr a) (inl b) c = absurd (refused-not (refusal 2 0) n (sym (stage-small k st a b) ∙ e))
     go (inr a) (inr b) (inl c) =
         let p : Needs (8 - k) ≡ Needs n = sym (stage-prelude k st c b) ∙ e in
         let s : 8 - k ≡ n = cc in
@@ -127,8 +129,8 @@ whole-of k st v len (Refused m) h g q e = absurd (let z : _≡_ {A = ℕ} 0 1 = 
 whole-of k st v len (Whole v2 len2) h g q e = go (below-or (length st) (8 + len2)) (below-or (8 + len2) k) (below-or k (8 + len2))
   where
     go : (length st < 8 + len2) ⊎ (8 + len2 ≤ length st) → (8 + len2 < k) ⊎ (k ≤ 8 + len2) → (k < 8 + len2) ⊎ (8 + len2 ≤ k) → IsWhole k st v len
-    go (inl a) b c = absurd (let p : Refused 2 ≡ Whole v len = simp (lt-ltb _ _ a) at e in let z : _≡_ {A = ℕ} 0 1 = cc in omega arith)
-    go (inr a) (inl b) c = absurd (let p : Refused 1 ≡ Whole v len = simp (le-ltb _ _ a, lt-ltb _ _ b) at e in let z : _≡_ {A = ℕ} 0 1 = cc in omega arith)
+    go (inl a) b c = absurd (let p : Refused (refusal 2 0) ≡ Whole v len = simp (lt-ltb _ _ a) at e in let z : _≡_ {A = ℕ} 0 1 = cc in omega arith)
+    go (inr a) (inl b) c = absurd (let p : Refused (refusal 1 0) ≡ Whole v len = simp (le-ltb _ _ a, lt-ltb _ _ b) at e in let z : _≡_ {A = ℕ} 0 1 = cc in omega arith)
     go (inr a) (inr b) (inl c) = absurd (let p : Needs (8 + len2 - k) ≡ Whole v len = simp (le-ltb _ _ a, le-ltb _ _ b, lt-ltb _ _ c) at e in let z : _≡_ {A = ℕ} 0 1 = cc in omega arith)
     go (inr a) (inr b) (inr c) =
         let p : Whole v2 len2 ≡ Whole v len = simp (le-ltb _ _ a, le-ltb _ _ b, le-ltb _ _ c) at e in
@@ -139,8 +141,8 @@ pub is-whole : (k : ℕ) (st : List ℕ) (v len : ℕ) → stageOf k st ≡ Whol
 is-whole k st v len e = go (below-or (length st) k) (below-or (length st) 8) (below-or k 8)
   where
     go : (length st < k) ⊎ (k ≤ length st) → (length st < 8) ⊎ (8 ≤ length st) → (k < 8) ⊎ (8 ≤ k) → IsWhole k st v len
-    go (inl a) b c = absurd (let p : Refused 1 ≡ Whole v len = sym (stage-beyond k st a) ∙ e in let z : _≡_ {A = ℕ} 0 1 = cc in omega arith)
-    go (inr a) (inl b) c = absurd (let p : Refused 2 ≡ Whole v len = sym (stage-small k st a b) ∙ e in let z : _≡_ {A = ℕ} 0 1 = cc in omega arith)
+    go (inl a) b c = absurd (let p : Refused (refusal 1 0) ≡ Whole v len = sym (stage-beyond k st a) ∙ e in let z : _≡_ {A = ℕ} 0 1 = cc in omega arith)
+    go (inr a) (inl b) c = absurd (let p : Refused (refusal 2 0) ≡ Whole v len = sym (stage-small k st a b) ∙ e in let z : _≡_ {A = ℕ} 0 1 = cc in omega arith)
     go (inr a) (inr b) (inl c) = absurd (let p : Needs (8 - k) ≡ Whole v len = sym (stage-prelude k st c b) ∙ e in let z : _≡_ {A = ℕ} 0 1 = cc in omega arith)
     go (inr a) (inr b) (inr c) = whole-of k st v len (preludeOf (take 8 st)) c a refl (sym (stage-eight k st c a) ∙ e)
 

@@ -2,10 +2,13 @@
 use block::BlockAnswer;
 use block::Fields;
 use prelude::Stage;
+use refusal::Refusal;
 ghost use mathlib.Core.Path.{_≡_};
 ghost use Prim.Native.Nat.{_+_, _-_, _≤_, min};
 ghost use lib.ListN.{length};
 ghost use lib.Seq.{paste};
+ghost use Rattle.codec.specs.Codec.{refusal};
+ghost use Rattle.prelude.specs.declared.Stage.{Stage};
 ghost use Rattle.feed.specs.Feeding.{stageOf, needOf, poured, Judgement, Feeding};
 
 // The bytes of a prelude.
@@ -16,11 +19,12 @@ pub struct State {
     pub held: usize,
 }
 
-// What the held bytes say: so many more are needed, or the block's fields, or a refusal number, or the rows that the tables would need.
+// What the held bytes say: so many more are needed, or the block's fields, or a refusal, or the rows that the tables would need. The place
+// of 10 to 12 counts from the prelude, that of the others from the block.
 pub enum Answer {
     Needs(usize),
     Done(Fields),
-    Refused(u32),
+    Refused(Refusal),
     Short { symbology: usize, layout: usize },
 }
 
@@ -62,21 +66,21 @@ fn stage_of(held: usize, store: &[u8]) -> Stage
 {
     let room = store.len();
     if room < held {
-        return Stage::Refused(refusal::HELD_BEYOND);
+        return refused(refusal::HELD_BEYOND);
     }
     if room < METADATA_PRELUDE_LEN {
-        return Stage::Refused(refusal::STORE_SHORT);
+        return refused(refusal::STORE_SHORT);
     }
     match prelude::prelude(&store[..held]) {
         Stage::Needs(k) => Stage::Needs(k),
         Stage::Refused(e) => Stage::Refused(e),
         Stage::Whole { version, len } => {
             if room - METADATA_PRELUDE_LEN < len {
-                return Stage::Refused(refusal::STORE_SHORT);
+                return refused(refusal::STORE_SHORT);
             }
             let end = METADATA_PRELUDE_LEN + len;
             if end < held {
-                return Stage::Refused(refusal::HELD_BEYOND);
+                return refused(refusal::HELD_BEYOND);
             }
             if held < end {
                 return Stage::Needs(end - held);
@@ -84,6 +88,13 @@ fn stage_of(held: usize, store: &[u8]) -> Stage
             Stage::Whole { version, len }
         }
     }
+}
+
+// The refusal by 1 or 2, which are about no byte.
+fn refused(number: u32) -> Stage
+    ensures { λ r. ⌜ r ≡ Stage.Refused (refusal number 0) ⌝ }
+{
+    Stage::Refused(Refusal { number, place: 0 })
 }
 
 // The answer on held bytes, with the tables lent.

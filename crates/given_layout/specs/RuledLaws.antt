@@ -5,6 +5,7 @@ use mathlib.Core.Path.{_≡_, refl, sym, ap, _∙_}
 use mathlib.Core.List.{List, _++_}
 use lib.ListN.{length, drop}
 use borrow.Author.Tests.{le-leb}
+use Rattle.refusal.specs.declared.Refusal.{Refusal}
 use Rattle.codec.specs.Codec.{Res, ok, refuse, _>>=_}
 use Rattle.codec.specs.Refusals.{In}
 use Rattle.codec.specs.RefusalLaws.{gives-is}
@@ -17,15 +18,19 @@ use Rattle.layout.specs.declared.Verdict.the-variants as Verdict'
 use Rattle.layout.specs.declared.Answer.{Answer}
 use Rattle.layout.specs.declared.Answer.the-variants as Answer'
 use Rattle.rules.specs.Rules.{ruledNumbers, ruledOf}
-use Rattle.rules.specs.RefusalLaws.{ruled-gives}
+use Rattle.rules.specs.RefusalLaws.{ruled-gives, ruled-within}
 use Rattle.layout.specs.RefusalLaws.{judge-refused}
 use Rattle.layout.specs.AnswerLaws.{verdict-ok, verdict-no, judge-ok, judge-no, judge-anywhere, leave-ok, leave-anywhere, leave-no}
 use Rattle.engines.specs.VerdictLaws.{ruled-layout}
 use Rattle.given_layout.specs.Ruled.{Ruled}
 
 -- what the reader's answer refuses with
-pub ruled-layout-refuses : (s : List ℕ) (w : ℕ) (sheet t t′ : List ℕ) (k : ℕ) → Ruled s w sheet t t′ (Answer'.Refused k) → In ruledNumbers k
+pub ruled-layout-refuses : (s : List ℕ) (w : ℕ) (sheet t t′ : List ℕ) (k : Refusal) → Ruled s w sheet t t′ (Answer'.Refused k) → In ruledNumbers (k .number)
 ruled-layout-refuses s w sheet t t′ k p = gives-is (In ruledNumbers) (ruled-gives sheet w s) (judge-refused (length t / 9) (ruledOf sheet w s) (p .is))
+
+-- and where: a place within the layout
+pub ruled-layout-within : (s : List ℕ) (w : ℕ) (sheet t t′ : List ℕ) (k : Refusal) → Ruled s w sheet t t′ (Answer'.Refused k) → k .place ≤ length s
+ruled-layout-within s w sheet t t′ k p = ruled-within sheet w s (judge-refused (length t / 9) (ruledOf sheet w s) (p .is))
 
 module _ {sheet : List ℕ} {w : ℕ} {s t : List ℕ} where
   both-read : {t′ : List ℕ} {r : Answer} (l : Layout) (i j : ℕ) → layoutOf s ≡ ok l i → ruledOf sheet w s ≡ ok l j → Answers s t t′ r → Ruled s w sheet t t′ r
@@ -37,7 +42,7 @@ module _ {sheet : List ℕ} {w : ℕ} {s t : List ℕ} where
       let (i, e) = ruled-layout sheet w s l j el in
       both-read l i j e el a
 
-  pub ruled-no : {k : ℕ} → Verdict'.Refused k ≡ verdict (ruledOf sheet w s) → Ruled s w sheet t t (Answer'.Refused k)
+  pub ruled-no : {k : Refusal} → Verdict'.Refused k ≡ verdict (ruledOf sheet w s) → Ruled s w sheet t t (Answer'.Refused k)
   ruled-no {k} q =
       let e = verdict-no (ruledOf sheet w s) q in
       record { is = sym (ap (judge (length t / 9)) e ∙ judge-no _ k); leaves = sym (ap (leave t) e ∙ leave-no t k) }

@@ -1,5 +1,5 @@
 -- The layout's formats, as the code meets them. Assumes nothing.
-use Prim.Native.Nat.{ℕ, zero, suc, _^_, _+_, _-_, _/_, _%_, _≤_, _<_}
+use Prim.Native.Nat.{ℕ, zero, suc, _^_, _+_, _-_, _/_, _%_, _≤_, _<_, zero-le}
 use mathlib.Core.Path.{_≡_, refl, sym, ap, ap₂, _∙_}
 use mathlib.Core.List.{List, [], _∷_, _++_, map}
 use mathlib.Core.Bool.{true, false}
@@ -8,16 +8,20 @@ use lib.Dec.{eqb}
 use lib.Seq.{take-take}
 use native.Mathlib.Omega.{arith}
 use borrow.Author.Tests.{eq-eqb, ne-eqb}
-use Rattle.codec.specs.Codec.{Res, ok, refuse, _>>=_, padded, num, named, _then_, sized, times, timesParse, among, distinct, distinctParse, counted}
+use Rattle.refusal.specs.declared.Refusal.{Refusal}
+use Rattle.codec.specs.Codec.{Res, ok, refuse, refusal, shifted, _>>=_, padded, num, named, _then_, sized, times, timesParse, among, distinct, distinctParse, counted}
 use Rattle.codec.specs.Laws.{bind-ok}
 use Rattle.codec.specs.StepLaws.{raw-got, raw-bad, num-got, num-bad, times-length, distinct-length}
 use Rattle.codec.specs.CaseLaws.{by-bool, by-le}
+use Rattle.codec.specs.Format.{Format}
+use Rattle.codec.specs.Refusals.{Within, ends}
+use Rattle.codec.specs.PlaceLaws.{within-is, within-then}
 use Rattle.text.specs.Utf8.{utf8}
 use Rattle.wire.specs.Formats
 use Rattle.wire.specs.Formats.{Name}
 use Rattle.wire.specs.Reader.{name, nameAt, sectionAt}
 use Rattle.numbers.specs.Numbers.{takeAt, u16At, part, le16, le32, le64}
-use Rattle.numbers.specs.NumberLaws.{take-ok, take-no, take-value, take-refused, num-is, u16-is, u64-is}
+use Rattle.numbers.specs.NumberLaws.{take-value, take-refused, num-is, u16-is, u64-is}
 use Rattle.wire.specs.NameLaws.{name-ok, name-no}
 use Rattle.table.specs.Table.{Out, said, row, seq, onGot, allRows}
 use Rattle.table.specs.StepLaws.{items-end, items-row, items-no, both, both-seq, said-named, count-row, said-num, seq-same}
@@ -31,7 +35,7 @@ use Rattle.layout.specs.LayoutOf.{D, D-least}
 use Rattle.layout.specs.PlaceLaws.{bytes-11}
 use Rattle.layout.specs.Rows.{headRow, entryRow, nameRow, fieldRows, recordRows, structRows, labelRow, labelDefRows, row10, row12, row13, row14, row15}
 use Rattle.entry.specs.Entry.{entryBytes}
-use Rattle.layout.specs.Reader.{entriesAt, namesAt, fieldsAt, recordBody, structBody, labelBody, bodyOf, sectionsAt, groupAt, groupsAt, labelsAt}
+use Rattle.layout.specs.Reader.{entriesAt, namesAt, fieldsAt, recordHead, recordBody, structBody, labelBody, bodyOf, sectionsAt, groupAt, groupsAt, labelsAt}
 
 -- an entry of D bytes
 module _ (base : ℕ) (s : List ℕ) (at : ℕ) where
@@ -48,7 +52,7 @@ module _ (base : ℕ) (s : List ℕ) (at : ℕ) where
         ap headRow (take-take 11 (11 + (D - 11)) (drop at s) (omega arith) ∙ sym (bytes-11 s at l)),
       )
 
-  pub entry-no : {k : ℕ} → takeAt 50 D s at ≡ Refused k → LayoutOf.entry .parse base s at ≡ refuse k
+  pub entry-no : {k : Refusal} → takeAt 50 D s at ≡ Refused k → LayoutOf.entry .parse base s at ≡ refuse k
   unfolding Layout.entry named padded
   entry-no {k} e =
       let (x, h) = take-refused 50 D s at e in
@@ -65,7 +69,7 @@ entries-row base n s at {d} {v} {p} q h e =
     let (x, e1, e2) = entry-ok base s at (rw q at e) in
     items-row LayoutOf.entry entryRow base s n at h e1 ∙ ap (λ r. row r (said (map entryRow) (timesParse LayoutOf.entry (n - 1) base s p))) e2
 
-pub entries-no : (base n : ℕ) (s : List ℕ) (at : ℕ) {d k : ℕ} → d ≡ D → 0 < n → takeAt 50 d s at ≡ Refused k → entriesAt base n s at ≡ refuse k
+pub entries-no : (base n : ℕ) (s : List ℕ) (at : ℕ) {d : ℕ} {k : Refusal} → d ≡ D → 0 < n → takeAt 50 d s at ≡ Refused k → entriesAt base n s at ≡ refuse k
 unfolding entriesAt
 entries-no base n s at q h e = items-no LayoutOf.entry entryRow base s n at h (entry-no base s at (rw q at e))
 
@@ -79,7 +83,7 @@ names-row base n s at {len} {p} h e =
     let (x, e1, e2, e3) = name-ok base s at e in
     items-row name nameRow base s n at h e1 ∙ ap₂ (λ a l. row (row12 a l) (said (map nameRow) (timesParse name (n - 1) base s p))) e2 e3
 
-pub names-no : (base n : ℕ) (s : List ℕ) (at : ℕ) {k : ℕ} → 0 < n → nameAt s at ≡ Refused k → namesAt base n s at ≡ refuse k
+pub names-no : (base n : ℕ) (s : List ℕ) (at : ℕ) {k : Refusal} → 0 < n → nameAt s at ≡ Refused k → namesAt base n s at ≡ refuse k
 unfolding namesAt
 names-no base n s at h e = items-no name nameRow base s n at h (name-no base s at e)
 
@@ -95,7 +99,7 @@ fields-ok base s at {count} {p} e =
     let g : ℕ → Res (List Name) = λ q. timesParse name count base s q in
     rw (num-is 50 2 s at base, e) (said-named fieldRows fieldsTo (both r g) ∙ both-seq (map entryRow) (map nameRow) r g)
 
-pub fields-no : (base : ℕ) (s : List ℕ) (at : ℕ) {k : ℕ} → u16At s at ≡ Refused k → fieldsAt base s at ≡ refuse k
+pub fields-no : (base : ℕ) (s : List ℕ) (at : ℕ) {k : Refusal} → u16At s at ≡ Refused k → fieldsAt base s at ≡ refuse k
 unfolding fieldsAt Layout.fields named sized
 fields-no base s at e = rw (num-is 50 2 s at base, e)
 
@@ -166,7 +170,28 @@ label-is base s =
     (λ n q xs j. distinct-length LayoutOf.label base s (λ l. l .code) 55 n [] q xs j)
     ∙ ap₂ (λ a b. onGot (u16At s p) (λ count q. row (row14 a b count) (said (map labelRow) (distinctParse LayoutOf.label (λ l. l .code) 55 count [] base s q)))) e l)
 
--- a record's fourteen bytes
+-- a record's own numbers: the first that does not fit is refused
+module _ (s : List ℕ) where
+  pub head-ok : 14 ≤ length s → Value 14 14 ≡ recordHead s
+  unfolding recordHead _then_
+  head-ok h = rw (num-got 50 2 0 s 0 (omega arith), num-got 50 2 0 s 2 (omega arith), num-got 50 2 0 s 4 (omega arith), num-got 50 8 0 s 6 (omega arith))
+
+  pub head-0 : length s < 2 → Refused (refusal 50 0) ≡ recordHead s
+  unfolding recordHead _then_
+  head-0 h = rw (num-bad 50 2 0 s 0 (omega arith))
+
+  pub head-2 : 2 ≤ length s → length s < 4 → Refused (refusal 50 2) ≡ recordHead s
+  unfolding recordHead _then_
+  head-2 h h2 = rw (num-got 50 2 0 s 0 (omega arith), num-bad 50 2 0 s 2 (omega arith))
+
+  pub head-4 : 4 ≤ length s → length s < 6 → Refused (refusal 50 4) ≡ recordHead s
+  unfolding recordHead _then_
+  head-4 h h4 = rw (num-got 50 2 0 s 0 (omega arith), num-got 50 2 0 s 2 (omega arith), num-bad 50 2 0 s 4 (omega arith))
+
+  pub head-6 : 6 ≤ length s → length s < 14 → Refused (refusal 50 6) ≡ recordHead s
+  unfolding recordHead _then_
+  head-6 h h6 = rw (num-got 50 2 0 s 0 (omega arith), num-got 50 2 0 s 2 (omega arith), num-got 50 2 0 s 4 (omega arith), num-bad 50 8 0 s 6 (omega arith))
+
 abbrev tag : {B : Type 0} → ℕ → Res B → Res (ℕ × B)
 tag {B} a r = _>>=_ {B = ℕ × B} r (λ y k. ok (a, y) k)
 
@@ -175,7 +200,7 @@ said-tagged f a b c d (ok y j) = refl
 said-tagged f a b c d (refuse k) = refl
 
 pub record-is : (base : ℕ) (s : List ℕ)
-    → recordBody base s ≡ (onGot (takeAt 50 14 s 0) λ _ p. onGot (nameAt s p) λ len q. onGot (u16At s q) λ count _. row (row10 (base + (p + 1)) len (le16 s 0) (le16 s 2) (le16 s 4) count (le64 s 6)) (fieldsAt base s q))
+    → recordBody base s ≡ (onGot (recordHead s) λ _ p. onGot (nameAt s p) λ len q. onGot (u16At s q) λ count _. row (row10 (base + (p + 1)) len (le16 s 0) (le16 s 2) (le16 s 4) count (le64 s 6)) (fieldsAt base s q))
 unfolding recordBody _then_
 record-is base s =
     let F : ℕ × (ℕ × (ℕ × (ℕ × (Name × Fields)))) → List (List ℕ) = λ z. recordRows (toRecord (z, [])) in
@@ -187,7 +212,7 @@ record-is base s =
     let h6 : 6 + 8 ≤ length s = omega arith in
     let r : Res (Name × Fields) = (name then LayoutOf.fields) .parse base s 14 in
     rw (
-      take-ok 50 14 s 0 h,
+      ← head-ok s h,
       num-got 50 2 base s 0 h0,
       u16-is s 0,
       num-got 50 2 base s 2 h2,
@@ -200,16 +225,20 @@ record-is base s =
     said-tagged F (le16 s 0) (le16 s 2) (le16 s 4) (le64 s 6) r
     ∙ name-fields F (λ y. (le16 s 0, (le16 s 2, (le16 s 4, (le64 s 6, y))))) (λ a b c. row10 a b (le16 s 0) (le16 s 2) (le16 s 4) c (le64 s 6)) (λ x y. refl) base s 14
     ))
-    (λ h. rw (take-no 50 14 s 0 h) (
+    (λ h.
     by-le 2 (length s)
     (λ h0.
     by-le 4 (length s)
     (λ h2.
     by-le 6 (length s)
-    (λ h4. rw (num-got 50 2 base s 0 h0, num-got 50 2 base s 2 h2, num-got 50 2 base s 4 h4, num-bad 50 8 base s 6 h))
-    (λ h4. rw (num-got 50 2 base s 0 h0, num-got 50 2 base s 2 h2, num-bad 50 2 base s 4 h4)))
-    (λ h2. rw (num-got 50 2 base s 0 h0, num-bad 50 2 base s 2 h2)))
-    (λ h0. rw (num-bad 50 2 base s 0 h0))))
+    (λ h4. rw (← head-6 s h4 h, num-got 50 2 base s 0 h0, num-got 50 2 base s 2 h2, num-got 50 2 base s 4 h4, num-bad 50 8 base s 6 h))
+    (λ h4. rw (← head-4 s h2 h4, num-got 50 2 base s 0 h0, num-got 50 2 base s 2 h2, num-bad 50 2 base s 4 h4)))
+    (λ h2. rw (← head-2 s h0 h2, num-got 50 2 base s 0 h0, num-bad 50 2 base s 2 h2)))
+    (λ h0. rw (← head-0 s h0, num-bad 50 2 base s 0 h0)))
+
+-- the rows of what is read from the start on
+rows-within : {A : Type 0} (F : Format A false) (f : A → List (List ℕ)) (base : ℕ) (s : List ℕ) → Within 0 (length s) (said f (F .codec .parse base s 0))
+rows-within F f base s = within-then (F .codec .parse base s 0) (λ x j. ok (f x) j) (F .inside base s 0 zero-le) (λ x j a b. ends a b)
 
 -- a section's body by its kind
 module _ (kind base : ℕ) (s : List ℕ) where
@@ -225,6 +254,16 @@ module _ (kind base : ℕ) (s : List ℕ) where
   unfolding bodyOf
   kind-2 h i = rw (ne-eqb kind 0 h, ne-eqb kind 1 i)
 
+  -- what refuses it is within it
+  pub body-within : {k : Refusal} → bodyOf kind base s ≡ refuse k → k .place ≤ length s
+  unfolding bodyOf recordBody structBody labelBody
+  body-within e =
+      by-bool (eqb kind 0)
+      (λ b. within-is (rows-within (Layout.recordBody utf8 D) _ base s) (rw b at e))
+      (λ b. by-bool (eqb kind 1)
+      (λ d. within-is (rows-within (Layout.structBody utf8 D) _ base s) (rw (b, d) at e))
+      (λ d. within-is (rows-within (Layout.labelBody utf8) _ base s) (rw (b, d) at e)))
+
 -- ---- sections
 
 -- by kind
@@ -238,7 +277,7 @@ module _ (kind n : ℕ) (s : List ℕ) (at : ℕ) where
       (λ d. rw (b, d) (parts-end (Layout.structBody utf8 D) toStruct _ structRows (λ x r. refl) s n at h))
       (λ d. rw (b, d) (parts-end (Layout.labelBody utf8) toLabelDef _ labelDefRows (λ x r. refl) s n at h)))
 
-  pub sections-run : {b e : ℕ} → 0 < n → sectionAt s at ≡ Value b e → sectionsAt kind n s at ≡ seq (bodyOf kind b (part s b e)) (λ _. sectionsAt kind (n - 1) s e)
+  pub sections-run : {b e : ℕ} → 0 < n → sectionAt s at ≡ Value b e → sectionsAt kind n s at ≡ seq (shifted b (bodyOf kind b (part s b e))) (λ _. sectionsAt kind (n - 1) s e)
   unfolding sectionsAt bodyOf recordBody structBody labelBody Layout.recordL Layout.structL Layout.labelDef
   sections-run h q =
       by-bool (eqb kind 0)
@@ -247,7 +286,7 @@ module _ (kind n : ℕ) (s : List ℕ) (at : ℕ) where
       (λ d. rw (b, d) (parts-run (Layout.structBody utf8 D) toStruct _ structRows (λ x r. refl) s n at h q))
       (λ d. rw (b, d) (parts-run (Layout.labelBody utf8) toLabelDef _ labelDefRows (λ x r. refl) s n at h q)))
 
-  pub sections-no : {k : ℕ} → 0 < n → sectionAt s at ≡ Refused k → sectionsAt kind n s at ≡ refuse k
+  pub sections-no : {k : Refusal} → 0 < n → sectionAt s at ≡ Refused k → sectionsAt kind n s at ≡ refuse k
   unfolding sectionsAt Layout.recordL Layout.structL Layout.labelDef
   sections-no h q =
       by-bool (eqb kind 0)
@@ -287,11 +326,11 @@ groups-is s at =
 -- ---- labels, after labels of the codes `seen`
 
 module _ (base : ℕ) (s : List ℕ) (at : ℕ) where
-  label-no : {j : ℕ} → u16At s at ≡ Refused j → LayoutOf.label .parse base s at ≡ refuse j
+  label-no : {j : Refusal} → u16At s at ≡ Refused j → LayoutOf.label .parse base s at ≡ refuse j
   unfolding Layout.label named _then_
   label-no e = rw (num-is 50 2 s at base, e)
 
-  label-no2 : {code p j : ℕ} → u16At s at ≡ Value code p → nameAt s p ≡ Refused j → LayoutOf.label .parse base s at ≡ refuse j
+  label-no2 : {code p : ℕ} {j : Refusal} → u16At s at ≡ Value code p → nameAt s p ≡ Refused j → LayoutOf.label .parse base s at ≡ refuse j
   unfolding Layout.label named _then_
   label-no2 {code} {p} e f = rw (num-is 50 2 s at base, e, name-no base s p f)
 
@@ -308,17 +347,17 @@ module _ (base : ℕ) (seen : List ℕ) where
   labels-end zero s at h = refl
   labels-end (suc n) s at h = let z : ⊥ = omega arith in absurd z
 
-  pub labels-no : (n : ℕ) (s : List ℕ) (at : ℕ) {j : ℕ} → 0 < n → u16At s at ≡ Refused j → labelsAt base seen n s at ≡ refuse j
+  pub labels-no : (n : ℕ) (s : List ℕ) (at : ℕ) {j : Refusal} → 0 < n → u16At s at ≡ Refused j → labelsAt base seen n s at ≡ refuse j
   unfolding labelsAt
   labels-no zero s at h e = let z : ⊥ = omega arith in absurd z
   labels-no (suc n) s at h e = rw (label-no base s at e)
 
-  pub labels-no2 : (n : ℕ) (s : List ℕ) (at : ℕ) {code p j : ℕ} → 0 < n → u16At s at ≡ Value code p → nameAt s p ≡ Refused j → labelsAt base seen n s at ≡ refuse j
+  pub labels-no2 : (n : ℕ) (s : List ℕ) (at : ℕ) {code p : ℕ} {j : Refusal} → 0 < n → u16At s at ≡ Value code p → nameAt s p ≡ Refused j → labelsAt base seen n s at ≡ refuse j
   unfolding labelsAt
   labels-no2 zero s at h e f = let z : ⊥ = omega arith in absurd z
   labels-no2 (suc n) s at h e f = rw (label-no2 base s at e f)
 
-  pub labels-55 : (n : ℕ) (s : List ℕ) (at : ℕ) {code p len q : ℕ} → 0 < n → u16At s at ≡ Value code p → nameAt s p ≡ Value len q → among code seen ≡ true → labelsAt base seen n s at ≡ refuse 55
+  pub labels-55 : (n : ℕ) (s : List ℕ) (at : ℕ) {code p len q : ℕ} → 0 < n → u16At s at ≡ Value code p → nameAt s p ≡ Value len q → among code seen ≡ true → labelsAt base seen n s at ≡ refuse (refusal 55 at)
   unfolding labelsAt
   labels-55 zero s at h e f g = let z : ⊥ = omega arith in absurd z
   labels-55 (suc n) s at h e f g =

@@ -6,7 +6,8 @@ use native.Mathlib.Nat.{zero-add}
 use native.Mathlib.Omega.{arith}
 use lib.ListN.{length, drop}
 use borrow.Author.Tests.{le-leb, lt-leb}
-use Rattle.codec.specs.Codec.{_then_, Res, ok, refuse, _>>=_, whole}
+use Rattle.refusal.specs.declared.Refusal.{Refusal}
+use Rattle.codec.specs.Codec.{_then_, Res, ok, refuse, refusal, _>>=_, whole}
 use Rattle.codec.specs.CaseLaws.{by-le}
 use Rattle.text.specs.Utf8.{utf8}
 use Rattle.numbers.specs.Numbers.{u16At}
@@ -42,12 +43,12 @@ unfolding rows
 same-rows v z d = append-assoc (allRows recordRows (z .0)) (allRows structRows (z .1 .0)) (allRows labelDefRows (z .1 .1))
 
 -- the three ways to a layout
-pub layout-13 : (l : List ℕ) → 4294967295 < length l → layoutOf l ≡ refuse 13
+pub layout-13 : (l : List ℕ) → 4294967295 < length l → layoutOf l ≡ refuse (refusal 13 0)
 unfolding layoutOf
 layout-13 l h = rw (lt-leb (length l) 4294967295 h)
 
 module _ (l : List ℕ) (h : length l ≤ 4294967295) where
-  pub layout-no : {k : ℕ} → u16At l 0 ≡ Got'.Refused k → layoutOf l ≡ refuse k
+  pub layout-no : {k : Refusal} → u16At l 0 ≡ Got'.Refused k → layoutOf l ≡ refuse k
   unfolding layoutOf Layout.readLayout whole Layout.parts _then_
   layout-no e = rw (le-leb (length l) 4294967295 h, num-is 50 2 l 0 0, e)
 
@@ -61,7 +62,7 @@ module _ (l : List ℕ) (h : length l ≤ 4294967295) where
 
 -- ---- the verdict
 
-pub ver-no : (l : List ℕ) {k : ℕ} → layoutOf l ≡ refuse k → Verdict'.Refused k ≡ verdict (layoutOf l)
+pub ver-no : (l : List ℕ) {k : Refusal} → layoutOf l ≡ refuse k → Verdict'.Refused k ≡ verdict (layoutOf l)
 unfolding verdict
 ver-no l e = rw e
 
@@ -75,7 +76,7 @@ module _ (l : List ℕ) {v p n q base : ℕ} {s t t′ : List ℕ} {r : Got} (h 
       go (ok z k) a = let w : 0 + length (groupRows z) ≡ n = cc in ap (Accepted v) (sym w ∙ zero-add (length (groupRows z)) ∙ ap length (sym (same-rows v z (drop k l))))
       go (refuse k) a = absurd (let z : _≡_ {A = ℕ} 0 1 = cc in omega arith)
 
-module _ (l : List ℕ) {v p k base : ℕ} {s t t′ : List ℕ} {r : Got} (h : length l ≤ 4294967295) (e : u16At l 0 ≡ Value v p) (g : Ran 9 base s (groupsAt l p) 0 t t′ r) where
+module _ (l : List ℕ) {v p base : ℕ} {k : Refusal} {s t t′ : List ℕ} {r : Got} (h : length l ≤ 4294967295) (e : u16At l 0 ≡ Value v p) (g : Ran 9 base s (groupsAt l p) 0 t t′ r) where
   pub ver-bad : r ≡ Got'.Refused k → Verdict'.Refused k ≡ verdict (layoutOf l)
   unfolding groupsAt verdict
   ver-bad f = rw (layout-ok l h e) (go (Layout.groups utf8 D .codec .parse 0 l p) (sym (g .answered) ∙ f))
@@ -101,7 +102,7 @@ unfolding verdict
 accepts l {v} {n} e =
     by-le (length l) 4294967295
     (λ h. number h (u16At l 0) refl)
-    (λ h. let f : Accepted v n ≡ Verdict'.Refused 13 = e ∙ rw (layout-13 l h) in absurd (let z : _≡_ {A = ℕ} 0 1 = cc in omega arith))
+    (λ h. let f : Accepted v n ≡ Verdict'.Refused (refusal 13 0) = e ∙ rw (layout-13 l h) in absurd (let z : _≡_ {A = ℕ} 0 1 = cc in omega arith))
   where
     groups : (h : length l ≤ 4294967295) (w : ℕ) → u16At l 0 ≡ Value w 2 → 2 ≤ length l → (r : Res Groups) → Layout.groups utf8 D .codec .parse 0 l 2 ≡ r → Accepts l v n
     groups h w f two (ok y j) q =
@@ -154,7 +155,7 @@ module _ {l : List ℕ} {v n : ℕ} (a : Accepts l v n) where
       let h1 : length t / 9 < length (rows T) = omega arith in
       record { is = rw (a .is, lt-leb (length (rows T)) (length t / 9) h1, e); leaves = rw (a .is, lt-leb (length (rows T)) (length t / 9) h1) }
 
-pub ans-no : (l t : List ℕ) {k : ℕ} → Verdict'.Refused k ≡ verdict (layoutOf l) → Answers l t t (Refused k)
+pub ans-no : (l t : List ℕ) {k : Refusal} → Verdict'.Refused k ≡ verdict (layoutOf l) → Answers l t t (Refused k)
 unfolding verdict judge leave
 ans-no l t {k} e = go (layoutOf l) refl e
   where

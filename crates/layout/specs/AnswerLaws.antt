@@ -6,6 +6,7 @@ use mathlib.Core.Bool.{Bool, true, false, cond}
 use mathlib.Core.List.{List, _++_}
 use lib.ListN.{length, drop}
 use lib.Dec.{leb}
+use Rattle.refusal.specs.declared.Refusal.{Refusal}
 use Rattle.codec.specs.Codec.{Res, ok, refuse}
 use Rattle.table.specs.Table.{flat}
 use Rattle.layout.specs.Layout.{Layout}
@@ -22,7 +23,7 @@ pub verdict-accepted : (l : Layout) (j : ℕ) → verdict (ok l j) ≡ Verdict'.
 unfolding verdict
 verdict-accepted l j = refl
 
-pub verdict-refused : (k : ℕ) → verdict (refuse k) ≡ Verdict'.Refused k
+pub verdict-refused : (k : Refusal) → verdict (refuse k) ≡ Verdict'.Refused k
 unfolding verdict
 verdict-refused k = refl
 
@@ -31,10 +32,10 @@ unfolding verdict
 verdict-ok (ok l j) {v} {n} e = (l, j, refl, (let z : l .version ≡ v = cc in z), (let z : length (rows l) ≡ n = cc in z))
 verdict-ok (refuse k) e = absurd (let z : _≡_ {A = ℕ} 0 1 = cc in omega arith)
 
-pub verdict-no : (r : Res Layout) {k : ℕ} → Verdict'.Refused k ≡ verdict r → r ≡ refuse k
+pub verdict-no : (r : Res Layout) {k : Refusal} → Verdict'.Refused k ≡ verdict r → r ≡ refuse k
 unfolding verdict
 verdict-no (ok l j) e = absurd (let z : _≡_ {A = ℕ} 0 1 = cc in omega arith)
-verdict-no (refuse j) {k} e = let z : j ≡ k = cc in ap (λ (m : ℕ). refuse m) z
+verdict-no (refuse j) {k} e = let z : j ≡ k = cc in ap (λ (m : Refusal). refuse m) z
 
 -- ---- the answer for a table of cap rows
 
@@ -42,7 +43,7 @@ pub judge-ok : (cap : ℕ) (l : Layout) (j : ℕ) → judge cap (ok l j) ≡ con
 unfolding judge
 judge-ok cap l j = refl
 
-pub judge-no : (cap k : ℕ) → judge cap (refuse k) ≡ Refused k
+pub judge-no : (cap : ℕ) (k : Refusal) → judge cap (refuse k) ≡ Refused k
 unfolding judge
 judge-no cap k = refl
 
@@ -76,7 +77,7 @@ module _ (cap : ℕ) (r : Res Layout) {a : Answer} (is : a ≡ judge cap r) wher
   pub short-verdict : {v n : ℕ} → a ≡ Short v n → Verdict'.Accepted v n ≡ verdict r
   short-verdict e = ap verdictIn (sym e) ∙ answer-verdict
 
-  pub refused-verdict : {k : ℕ} → a ≡ Refused k → Verdict'.Refused k ≡ verdict r
+  pub refused-verdict : {k : Refusal} → a ≡ Refused k → Verdict'.Refused k ≡ verdict r
   refused-verdict e = ap verdictIn (sym e) ∙ answer-verdict
 
 -- ---- the table afterwards
@@ -89,6 +90,6 @@ pub leave-anywhere : (t : List ℕ) (l : Layout) (i j : ℕ) → leave t (ok l i
 unfolding leave
 leave-anywhere t l i j = refl
 
-pub leave-no : (t : List ℕ) (k : ℕ) → leave t (refuse k) ≡ t
+pub leave-no : (t : List ℕ) (k : Refusal) → leave t (refuse k) ≡ t
 unfolding leave
 leave-no t k = refl

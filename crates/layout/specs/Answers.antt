@@ -50,9 +50,9 @@ pub record Answers (s t t′ : List ℕ) (r : Answer) : Type 0 where
 abbrev pub layoutNumber : Answer → ℕ
 layoutNumber (Read v n) = 0
 layoutNumber (Short v n) = 3
-layoutNumber (Refused e) = e
+layoutNumber (Refused e) = e .number
 
 -- 0 for an accepted layout
 abbrev pub verdictNumber : Verdict → ℕ
 verdictNumber (Accepted v n) = 0
-verdictNumber (Verdict'.Refused e) = e
+verdictNumber (Verdict'.Refused e) = e .number

@@ -7,7 +7,7 @@ use mathlib.Core.Path.{_≡_, refl}
 use mathlib.Core.List.{List}
 use lib.ListN.{length}
 use lib.Dec.{leb}
-use Rattle.codec.specs.Codec.{Res, refuse, Codec}
+use Rattle.codec.specs.Codec.{Res, refuse, refusal, Codec}
 use Rattle.text.specs.Utf8.{utf8}
 use Rattle.layout.specs.Layout
 use Rattle.layout.specs.Layout.{Entry, Fields, RecordL, StructL, Label, LabelDef}
@@ -43,4 +43,4 @@ labelDef = Layout.labelDef utf8 .codec
 
 -- what a layout given whole is read as
 unfoldable pub layoutOf : List ℕ → Res Layout.Layout
-layoutOf s = cond (leb (length s) 4294967295) (Layout.readLayout utf8 D s) (refuse 13)
+layoutOf s = cond (leb (length s) 4294967295) (Layout.readLayout utf8 D s) (refuse (refusal 13 0))

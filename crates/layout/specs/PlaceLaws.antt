@@ -9,8 +9,8 @@ use mathlib.Core.List.{List, [], _∷_, _++_, map, append-assoc}
 use lib.ListN.{length, getD, take, drop, length-take, length-drop}
 use lib.Seq.{take-take, drop-cons, getD-take, getD-drop}
 use borrow.Author.Tests.{le-leb, lt-leb}
-use Rattle.codec.specs.Codec.{Res, ok, refuse, _>>=_, Codec, num, padded, named, _then_, sized, times, timesParse, counted, whole, timesBare}
-use Rattle.codec.specs.Laws.{bind-ok, length-bare}
+use Rattle.codec.specs.Codec.{Res, ok, refuse, refusal, shifted, _>>=_, Codec, num, padded, named, _then_, sized, times, timesParse, counted, whole, timesBare}
+use Rattle.codec.specs.Laws.{shifted-ok, bind-ok, length-bare}
 use Rattle.codec.specs.StepLaws.{raw-got, raw-bad, times-length}
 use Rattle.codec.specs.CaseLaws.{by-le}
 use Rattle.text.specs.Utf8.{utf8}
@@ -213,7 +213,8 @@ section-back {A} F s at {z} {j} e = go (sectionAt s at) refl
     go : (g : Got) → sectionAt s at ≡ g → Boxed (F .codec) s at (z .0) j
     go (Refused k) f = absurd (let q = sym (section-bad F s at f) ∙ e in let y : _≡_ {A = ℕ} 0 1 = cc in omega arith)
     go (Value b n) f =
-        let (x, m, ex, e1) = bind-ok (F .codec .parse b (part s b n) 0) _ z j (sym (section-got F s at f) ∙ e) in
+        let (x, m, es, e1) = bind-ok (shifted b (F .codec .parse b (part s b n) 0)) _ z j (sym (section-got F s at f) ∙ e) in
+        let ex = shifted-ok b (F .codec .parse b (part s b n) 0) x m es in
         let w = section-of s at f in
         let v = u16-value s at (w .number) in
         let p : _≡_ {A = A × List ℕ} (x, drop m (part s b n)) z = cc in
@@ -397,7 +398,7 @@ pub layout-at : (s : List ℕ) (t : Layout) (j : ℕ) → layoutOf s ≡ ok t j 
 unfolding layoutOf Layout.readLayout Layout.parts Layout.groups whole
 layout-at s t j e = by-le (length s) 4294967295 (λ h. go h (rw (le-leb (length s) 4294967295 h) at e)) (λ h. absurd (no (rw (lt-leb (length s) 4294967295 h) at e)))
   where
-    no : _≡_ {A = Res Layout} (refuse 13) (ok t j) → ⊥
+    no : _≡_ {A = Res Layout} (refuse (refusal 13 0)) (ok t j) → ⊥
     no q = let y : _≡_ {A = ℕ} 0 1 = cc in omega arith
 
     go : length s ≤ 4294967295 → (whole (Layout.parts utf8 D .codec) 0 s >>= λ z k. ok (toLayout z) k) ≡ ok t j → LayoutAt s t

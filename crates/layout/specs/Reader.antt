@@ -7,8 +7,11 @@ use mathlib.Core.List.{List, [], _++_, map}
 use lib.Dec.{eqb}
 use Rattle.codec.specs.Codec.{timesParse, distinctParse}
 use Rattle.text.specs.Utf8.{utf8}
+use Rattle.codec.specs.Format.{_then_}
+use Rattle.wire.specs.Formats.{u16, u64}
 use Rattle.wire.specs.Reader.{name}
-use Rattle.numbers.specs.Numbers.{u16At}
+use Rattle.numbers.specs.Numbers.{gotOf, u16At}
+use Rattle.numbers.specs.declared.Got.{Got}
 use Rattle.table.specs.Table.{Out, said, onGot, allRows}
 use Rattle.layout.specs.Layout
 use Rattle.layout.specs.Layout.{toRecord, toStruct, toLabelDef}
@@ -27,6 +30,10 @@ fieldsAt base s at = said fieldRows (fields .parse base s at)
 -- labels, after labels of the codes `seen`
 unfoldable pub labelsAt : ℕ → List ℕ → ℕ → List ℕ → ℕ → Out
 labelsAt base seen n s at = said (map labelRow) (distinctParse label (λ l. l .code) 55 n seen base s at)
+
+-- the place after a record's own numbers
+unfoldable pub recordHead : List ℕ → Got
+recordHead s = gotOf (λ _. 14) ((u16 then u16 then u16 then u64) .codec .parse 0 s 0)
 
 -- a section's body by its kind: 0 a record, 1 a struct, else a label def
 unfoldable pub recordBody : ℕ → List ℕ → Out

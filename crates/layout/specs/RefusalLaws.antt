@@ -1,14 +1,16 @@
 -- Which numbers a layout gives.
 -- Assumes nothing.
-use Prim.Native.Nat.{ℕ, _/_}
+use Prim.Native.Nat.{ℕ, _/_, _≤_, zero-le}
 use native.Mathlib.Omega.{arith}
 use mathlib.Core.Path.{_≡_, refl, ap}
 use mathlib.Core.Bool.{Bool, true, false, cond}
 use mathlib.Core.List.{List}
 use lib.ListN.{length}
 use lib.Dec.{leb}
-use Rattle.codec.specs.Codec.{Res, ok, refuse, whole}
-use Rattle.codec.specs.Refusals.{Gives, In}
+use Rattle.refusal.specs.declared.Refusal.{Refusal}
+use Rattle.codec.specs.Codec.{Res, ok, refuse, refusal, _>>=_, whole}
+use Rattle.codec.specs.Refusals.{Gives, In, Within, ends, tells}
+use Rattle.codec.specs.PlaceLaws.{within-is, within-then, within-whole}
 use Rattle.codec.specs.RefusalLaws.{in-more, gives-is, gives-then, gives-by, gives-whole}
 use Rattle.text.specs.Utf8.{utf8}
 use Rattle.wire.specs.Formats
@@ -17,6 +19,7 @@ use Rattle.wire.specs.RefusalLaws.{name-numbers, section-numbers}
 use Rattle.layout.specs.Layout.{Layout, label, labelBody, labelDef, entry, fields, recordBody, recordL, structBody, structL, groups, parts, toLayout, readLayout}
 use Rattle.layout.specs.LayoutOf.{D, layoutOf}
 use Rattle.layout.specs.Rows.{rows}
+use Rattle.layout.specs.ReadLaws.{layout-whole}
 use Rattle.layout.specs.Answers.{wireNumbers, layoutNumbers, judge, Answers}
 use Rattle.layout.specs.declared.Answer.the-variants.{Read, Short, Refused}
 
@@ -33,16 +36,32 @@ module _ (P : ℕ → Type 0) (h : (k : ℕ) → In wireNumbers k → P k) (utf8
       let defs = section-numbers P (labelBody utf8) boxed (name, (cut, λ n. ((cut, name), h 55 refl))) in
       (cut, ((cut, λ n. records), ((cut, λ n. structs), (cut, λ n. defs))))
 
+-- a layout of a length that fits: a number of its bytes
+pub layout-wire : (s : List ℕ) → length s ≤ 4294967295 → Gives (In wireNumbers) (layoutOf s)
+layout-wire s h =
+    rw (layout-whole s h) (gives-then (In wireNumbers) (whole (parts utf8 D .codec) 0 s) (λ z j. ok (toLayout z) j)
+    (gives-whole (In wireNumbers) (parts utf8 D .codec) (parts utf8 D .refuses (In wireNumbers) (parts-numbers (In wireNumbers) (λ k i. i) utf8 D)) 0 s)
+    (λ z j. tt))
+
 pub layout-gives : (s : List ℕ) → Gives (In layoutNumbers) (layoutOf s)
 unfolding layoutOf readLayout
 layout-gives s =
-    gives-by (In layoutNumbers) (leb (length s) 4294967295) (readLayout utf8 D s) (refuse 13)
+    gives-by (In layoutNumbers) (leb (length s) 4294967295) (readLayout utf8 D s) (refuse (refusal 13 0))
     (gives-then (In layoutNumbers) (whole (parts utf8 D .codec) 0 s) (λ z j. ok (toLayout z) j)
     (gives-whole (In layoutNumbers) (parts utf8 D .codec) (parts utf8 D .refuses (In layoutNumbers) (parts-numbers (In layoutNumbers) (in-more wireNumbers layoutNumbers refl) utf8 D)) 0 s)
     (λ z j. tt))
     refl
 
-pub judge-refused : (cap : ℕ) (r : Res Layout) {k : ℕ} → Refused k ≡ judge cap r → r ≡ refuse k
+-- the place of a layout's refusal is within the layout
+pub layout-within : (s : List ℕ) {k : Refusal} → layoutOf s ≡ refuse k → k .place ≤ length s
+unfolding layoutOf readLayout
+layout-within s e = within-is (go (leb (length s) 4294967295)) e
+  where
+    go : (b : Bool) → Within 0 (length s) (cond b (whole (parts utf8 D .codec) 0 s >>= λ z j. ok (toLayout z) j) (refuse (refusal 13 0)))
+    go true = within-then (whole (parts utf8 D .codec) 0 s) (λ z j. ok (toLayout z) j) (within-whole (parts utf8 D .codec) (parts utf8 D .inside) 0 s) (λ z j a b. ends a b)
+    go false = tells zero-le
+
+pub judge-refused : (cap : ℕ) (r : Res Layout) {k : Refusal} → Refused k ≡ judge cap r → r ≡ refuse k
 unfolding judge
 judge-refused cap (ok l j) {k} e = absurd (go (leb (length (rows l)) cap) e)
   where
@@ -52,5 +71,5 @@ judge-refused cap (ok l j) {k} e = absurd (go (leb (length (rows l)) cap) e)
 judge-refused cap (refuse j) {k} e = let q : j ≡ k = cc in ap refuse q
 
 -- what the reader's answer refuses with
-pub layout-refuses : (s t t′ : List ℕ) (k : ℕ) → Answers s t t′ (Refused k) → In layoutNumbers k
+pub layout-refuses : (s t t′ : List ℕ) (k : Refusal) → Answers s t t′ (Refused k) → In layoutNumbers (k .number)
 layout-refuses s t t′ k a = gives-is (In layoutNumbers) (layout-gives s) (judge-refused (length t / 9) (layoutOf s) (a .is))

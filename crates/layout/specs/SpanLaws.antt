@@ -6,7 +6,7 @@ use mathlib.Core.Bool.{Bool, true, false, _&&_}
 use mathlib.Core.List.{List, _∷_, _++_, map}
 use lib.ListN.{length}
 use lib.Dec.{leb}
-use Rattle.codec.specs.Codec.{Res, refuse, ok, Bytes, named, sized, times, distinct, _then_}
+use Rattle.codec.specs.Codec.{Res, refuse, refusal, ok, Bytes, named, sized, times, distinct, _then_}
 use Rattle.table.specs.Table.{allRows}
 use Rattle.table.specs.EachLaws.{Each, each-append, each-map, each-all, RowInside, PartInside, part-inside}
 use Rattle.wire.specs.Formats.{Name, name}
@@ -73,4 +73,4 @@ layout-lies s t j bs e = go (leb (length s) 4294967295) refl
   where
     go : (x : Bool) → leb (length s) 4294967295 ≡ x → Each (RowInside 10 15 (length s)) (rows t)
     go true q = read-lies utf8 D s t j bs (rw q at e)
-    go false q = absurd (let y : _≡_ {A = Res Layout} (refuse 13) (ok t j) = (rw q at e) in let z : _≡_ {A = ℕ} 0 1 = cc in omega arith)
+    go false q = absurd (let y : _≡_ {A = Res Layout} (refuse (refusal 13 0)) (ok t j) = (rw q at e) in let z : _≡_ {A = ℕ} 0 1 = cc in omega arith)

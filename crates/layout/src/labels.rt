@@ -1,6 +1,7 @@
 // Labels whose codes differ.
 use super::rows;
 use numbers::Got;
+use refusal::Refusal;
 ghost use mathlib.Core.Path.{_≡_};
 ghost use mathlib.Core.List.{[]};
 ghost use Prim.Native.Nat.{_<_};
@@ -32,7 +33,8 @@ pub(crate) fn labels(
             Got::Value { value: x, next: q } => match wire::name_at(s, q) {
                 Got::Value { value: l, next: e } => {
                     if marks::is_marked(marks, x as u16) {
-                        return Got::Refused(refusal::LABEL_TWICE);
+                        let number = refusal::LABEL_TWICE;
+                        return Got::Refused(Refusal { number, place: p });
                     }
                     marks::mark(marks, x as u16);
                     let row = rows::label_row(base + (q + 1), l, x);

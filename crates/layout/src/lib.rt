@@ -5,6 +5,7 @@ mod rows;
 mod sections;
 
 use numbers::Got;
+use refusal::Refusal;
 ghost use mathlib.Core.Path.{_≡_};
 ghost use Rattle.layout.specs.LayoutOf.{layoutOf};
 ghost use Rattle.layout.specs.Answers.{Answers, verdict};
@@ -15,7 +16,7 @@ pub const D: usize = 16;
 // The verdict on a layout: its version and how many rows it has; or the refusal.
 pub enum Verdict {
     Accepted { version: usize, rows: usize },
-    Refused(u32),
+    Refused(Refusal),
 }
 
 // What reading into a table answers: the version and the rows written; the version and the rows needed where the table
@@ -23,7 +24,7 @@ pub enum Verdict {
 pub enum Answer {
     Read { version: usize, rows: usize },
     Short { version: usize, rows: usize },
-    Refused(u32),
+    Refused(Refusal),
 }
 
 // The rows of a layout in the table, which is written only where all is accepted and it is long enough.
@@ -48,7 +49,10 @@ fn layout_verdict(layout: &[u8]) -> Verdict
     ensures { λ r. ⌜ r ≡ verdict (layoutOf (now (layout .entry))) ⌝ }
 {
     if layout.len() > 4294967295 {
-        return Verdict::Refused(refusal::SIZE);
+        return Verdict::Refused(Refusal {
+            number: refusal::SIZE,
+            place: 0,
+        });
     }
     match numbers::u16_at(layout, 0, refusal::LAYOUT_TRUNCATED) {
         Got::Value {

@@ -3,11 +3,16 @@ use super::labels;
 use super::members;
 use super::rows;
 use numbers::Got;
+use refusal::Refusal;
 ghost use mathlib.Core.Path.{_≡_};
 ghost use mathlib.Core.List.{[]};
+ghost use Prim.Native.Nat.{_<_};
+ghost use Rattle.codec.specs.Codec.{refusal};
+ghost use Rattle.numbers.specs.Numbers.{Past};
+ghost use Rattle.numbers.specs.declared.Got.the-variants as Got';
 ghost use Rattle.marks.specs.Marks.{Marks};
 ghost use Rattle.table.specs.Table.{Room, Ran};
-ghost use Rattle.layout.specs.Reader.{recordBody, structBody, labelBody, bodyOf, sectionsAt, groupAt, groupsAt};
+ghost use Rattle.layout.specs.Reader.{recordHead, recordBody, structBody, labelBody, bodyOf, sectionsAt, groupAt, groupsAt};
 ghost use Rattle.layout.specs.Labels.{Cleared};
 
 pub(crate) fn groups(s: &[u8], at: usize, table: &mut [u32]) -> Got
@@ -70,7 +75,12 @@ fn sections(
                         p = e;
                         todo -= 1;
                     }
-                    Got::Refused(why) => return Got::Refused(why),
+                    Got::Refused(why) => {
+                        return Got::Refused(Refusal {
+                            number: why.number,
+                            place: b + why.place,
+                        });
+                    }
                 }
             }
             Got::Refused(why) => return Got::Refused(why),
@@ -107,7 +117,7 @@ fn record_body(s: &[u8], base: usize, table: &mut [u32], n: usize) -> Got
     requires { ⌜ Room base (now s) 0 n ⌝ }
     ensures { λ r. ⌜ Ran 9 base (now (s .entry)) (recordBody base (now (s .entry))) n (now (table .entry)) (now (table .exit)) r ⌝ }
 {
-    match numbers::take(s, 0, 14, refusal::LAYOUT_TRUNCATED) {
+    match record_head(s) {
         Got::Value { value: _, next: p } => match wire::name_at(s, p) {
             Got::Value {
                 value: len,
@@ -127,6 +137,39 @@ fn record_body(s: &[u8], base: usize, table: &mut [u32], n: usize) -> Got
         },
         Got::Refused(why) => Got::Refused(why),
     }
+}
+
+// The place after a record's rtype, schema, base size and hash; 50 at the first of them that does not fit.
+fn record_head(s: &[u8]) -> Got
+    ensures { λ r. ⌜ (r ≡ recordHead (now (s .entry))) × Past 15 14 (now (s .entry)) 0 r ⌝ }
+{
+    let n = s.len();
+    if n < 2 {
+        return cut(0);
+    }
+    if n < 4 {
+        return cut(2);
+    }
+    if n < 6 {
+        return cut(4);
+    }
+    if n < 14 {
+        return cut(6);
+    }
+    Got::Value {
+        value: 14,
+        next: 14,
+    }
+}
+
+// What does not fit at `place`.
+fn cut(place: usize) -> Got
+    ensures { λ r. ⌜ r ≡ Got'.Refused (refusal 50 place) ⌝ }
+{
+    Got::Refused(Refusal {
+        number: refusal::LAYOUT_TRUNCATED,
+        place,
+    })
 }
 
 // The struct whose section's body is `s`, `base` bytes into the layout.

@@ -6,13 +6,14 @@ use mathlib.Core.Bool.{Bool, true, false}
 use mathlib.Core.List.{List, []}
 use lib.ListN.{length, getD, take, drop}
 use borrow.Author.Tests.{le-leb, lt-leb, lt-ltb, le-ltb}
-use Rattle.names.specs.Names.{rowSpan, spanOf, partIn}
+use Rattle.refusal.specs.declared.Refusal.{Refusal}
+use Rattle.names.specs.Names.{noText, rowSpan, spanOf, partIn}
 use Rattle.names.specs.declared.Span.{Span}
 use Rattle.names.specs.declared.Span.the-variants.{Part, Refused}
 
 -- the row is past the table, or in it
 module _ (width : ℕ) (hasText : ℕ → Bool) (n : ℕ) (rows : List ℕ) (index : ℕ) where
-  pub row-past : length rows / width ≤ index → Refused 90 ≡ spanOf width hasText n rows index
+  pub row-past : length rows / width ≤ index → noText ≡ spanOf width hasText n rows index
   unfolding spanOf
   row-past h = rw (le-ltb index (length rows / width) h)
 
@@ -22,7 +23,7 @@ module _ (width : ℕ) (hasText : ℕ → Bool) (n : ℕ) (rows : List ℕ) (ind
 
 -- a row in the table has no text, or has one within the bytes, or one that is not
 module _ (n : ℕ) (rows : List ℕ) (at : ℕ) {has : Bool} where
-  pub span-none : has ≡ false → Refused 90 ≡ rowSpan has n rows at
+  pub span-none : has ≡ false → noText ≡ rowSpan has n rows at
   unfolding rowSpan
   span-none e = rw e
 
@@ -31,7 +32,7 @@ module _ (n : ℕ) (rows : List ℕ) (at : ℕ) {has : Bool} where
     unfolding rowSpan
     span-in h = rw (e, ← ea, ← eb, le-leb (a + b) n h)
 
-    pub span-out : n < a + b → Refused 90 ≡ rowSpan has n rows at
+    pub span-out : n < a + b → noText ≡ rowSpan has n rows at
     unfolding rowSpan
     span-out h = rw (e, ← ea, ← eb, lt-leb (a + b) n h)
 
@@ -44,6 +45,6 @@ module _ (b : List ℕ) {span : Span} where
   unfolding partIn
   part-out {p} {n} e h = rw (e, lt-leb (p + n) (length b) h)
 
-  pub part-none : {k : ℕ} → span ≡ Refused k → [] ≡ partIn b span
+  pub part-none : {k : Refusal} → span ≡ Refused k → [] ≡ partIn b span
   unfolding partIn
   part-none e = rw e

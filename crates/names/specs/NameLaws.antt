@@ -7,7 +7,8 @@ use mathlib.Core.List.{List, []}
 use lib.ListN.{length, getD, take, drop}
 use lib.Dec.{leb, ltb, eqb, leb·zero}
 use borrow.Author.Tests.{lt-ltb, le-leb, leb-true, ne-eqb}
-use Rattle.names.specs.Names.{symbolText, itemText, rowSpan, spanOf, partIn}
+use Rattle.refusal.specs.declared.Refusal.{Refusal}
+use Rattle.names.specs.Names.{noText, symbolText, itemText, rowSpan, spanOf, partIn}
 use Rattle.names.specs.declared.Span.the-variants.{Part, Refused}
 
 module _ (width : ℕ) (hasText : ℕ → Bool) (n : ℕ) (table : List ℕ) (i : ℕ) where
@@ -18,11 +19,11 @@ module _ (width : ℕ) (hasText : ℕ → Bool) (n : ℕ) (table : List ℕ) (i 
   span-part l t h = rw (lt-ltb i (length table / width) l, t, le-leb (getD table (width * i + 1) 0 + getD table (width * i + 2) 0) n h)
 
   -- a row without a text gives 90
-  pub span-none : hasText (getD table (width * i) 0) ≡ false → spanOf width hasText n table i ≡ Refused 90
+  pub span-none : hasText (getD table (width * i) 0) ≡ false → spanOf width hasText n table i ≡ noText
   unfolding spanOf rowSpan
   span-none t = go (ltb i (length table / width)) refl
     where
-      go : (x : Bool) → ltb i (length table / width) ≡ x → spanOf width hasText n table i ≡ Refused 90
+      go : (x : Bool) → ltb i (length table / width) ≡ x → spanOf width hasText n table i ≡ noText
       go true q = rw (q, t)
       go false q = rw q
 
@@ -32,7 +33,7 @@ unfolding partIn
 part-bytes b start len h = rw (le-leb (start + len) (length b) h)
 
 -- a refusal has none
-pub part-none : (b : List ℕ) (k : ℕ) → partIn b (Refused k) ≡ []
+pub part-none : (b : List ℕ) (k : Refusal) → partIn b (Refused k) ≡ []
 unfolding partIn
 part-none b k = refl
 

@@ -5,6 +5,7 @@ use mathlib.Core.Bool.{Bool, not, _&&_, cond}
 use mathlib.Core.List.{List, []}
 use lib.ListN.{length, getD, take, drop}
 use lib.Dec.{leb, ltb, eqb}
+use Rattle.codec.specs.Codec.{refusal}
 use Rattle.names.specs.declared.Span.{Span}
 use Rattle.names.specs.declared.Span.the-variants.{Part, Refused}
 
@@ -16,15 +17,19 @@ symbolText kind = leb kind 4
 abbrev pub itemText : ℕ → Bool
 itemText kind = not (eqb kind 11) && (leb 10 kind && leb kind 15)
 
+-- what has no text is refused by 90, which is about no byte
+abbrev pub noText : Span
+noText = Refused (refusal 90 0)
+
 -- the second and third number of the row at `at`, a start and a length; 90 for a row without a text, or where they reach past n bytes
 unfoldable pub rowSpan : Bool → ℕ → List ℕ → ℕ → Span
 rowSpan has n rows at =
-    cond (has && leb (getD rows (at + 1) 0 + getD rows (at + 2) 0) n) (Part (getD rows (at + 1) 0) (getD rows (at + 2) 0)) (Refused 90)
+    cond (has && leb (getD rows (at + 1) 0 + getD rows (at + 2) 0) n) (Part (getD rows (at + 1) 0) (getD rows (at + 2) 0)) noText
 
 -- row `index` of a table of rows of that width, of which the kinds with a text are known; 90 past the table
 unfoldable pub spanOf : ℕ → (ℕ → Bool) → ℕ → List ℕ → ℕ → Span
 spanOf width hasText n rows index =
-    cond (ltb index (length rows / width)) (rowSpan (hasText (getD rows (width * index) 0)) n rows (width * index)) (Refused 90)
+    cond (ltb index (length rows / width)) (rowSpan (hasText (getD rows (width * index) 0)) n rows (width * index)) noText
 
 abbrev pub symbologySpan : ℕ → List ℕ → ℕ → Span
 symbologySpan n rows index = spanOf 5 symbolText n rows index
@@ -42,4 +47,4 @@ partIn b (Refused k) = []
 -- 0 for a span
 abbrev pub spanNumber : Span → ℕ
 spanNumber (Part b n) = 0
-spanNumber (Refused e) = e
+spanNumber (Refused e) = e .number

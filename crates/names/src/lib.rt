@@ -1,13 +1,14 @@
 // The text of a row, by its kind, start and length: a part of the bytes that the row was read from.
+use refusal::Refusal;
 ghost use mathlib.Core.Path.{_≡_};
 ghost use Prim.Native.Nat.{_+_, _≤_, _<_};
 ghost use lib.ListN.{length};
-ghost use Rattle.names.specs.Names.{symbolText, itemText, rowSpan, symbologySpan, layoutSpan, partIn};
+ghost use Rattle.names.specs.Names.{noText, symbolText, itemText, rowSpan, symbologySpan, layoutSpan, partIn};
 
-// A part of a slice by start and length; or the refusal.
+// A part of a slice by start and length; or the refusal, which is about no byte.
 pub enum Span {
     Part { start: usize, len: usize },
-    Refused(u32),
+    Refused(Refusal),
 }
 
 // Where the text of a symbology row stands in its block; 90 for an index past the table, a row without a text, or a span outside.
@@ -18,7 +19,7 @@ pub fn symbology_span(block: &[u8], rows: &[u32], index: usize) -> Span
         let at = 5 * index;
         return row_span(symbol_text(rows[at]), block.len(), rows, at);
     }
-    Span::Refused(refusal::ROWS_MALFORMED)
+    no_text()
 }
 
 // The text of a symbology row as a part of the caller's own block; empty where there is none.
@@ -36,7 +37,7 @@ pub fn layout_span(layout: &[u8], rows: &[u32], index: usize) -> Span
         let at = 9 * index;
         return row_span(item_text(rows[at]), layout.len(), rows, at);
     }
-    Span::Refused(refusal::ROWS_MALFORMED)
+    no_text()
 }
 
 // The text of a layout row as a part of the caller's own layout; empty where there is none.
@@ -96,8 +97,19 @@ fn row_span(has: bool, n: usize, rows: &[u32], at: usize) -> Span
         if start + len <= n {
             return Span::Part { start, len };
         }
+        return no_text();
     }
-    Span::Refused(refusal::ROWS_MALFORMED)
+    no_text()
+}
+
+// 90, for what has no text.
+fn no_text() -> Span
+    ensures { λ r. ⌜ r ≡ noText ⌝ }
+{
+    Span::Refused(Refusal {
+        number: refusal::ROWS_MALFORMED,
+        place: 0,
+    })
 }
 
 fn wide(x: u32) -> usize

@@ -7,7 +7,8 @@ use native.Mathlib.Numerals.{add-one}
 use native.Mathlib.Omega.{arith}
 use lib.ListN.{length, getD, take, drop, length-take, length-drop}
 use lib.Seq.{take-all}
-use Rattle.codec.specs.Codec.{Res, ok, refuse, raw, value, num}
+use Rattle.refusal.specs.declared.Refusal.{Refusal}
+use Rattle.codec.specs.Codec.{Res, ok, refuse, refusal, raw, value, num}
 use Rattle.codec.specs.StepLaws.{raw-got, raw-bad, num-got, num-bad}
 use Rattle.codec.specs.CaseLaws.{by-le}
 use Rattle.numbers.specs.Numbers.{gotOf, Past, past, refused, takeAt, numAt, u16At, part, le16, le32, le64}
@@ -21,7 +22,7 @@ module _ (why n : ℕ) (s : List ℕ) (at : ℕ) where
   unfolding takeAt
   take-ok h = rw (raw-got why n 0 s at h)
 
-  pub take-no : length s < at + n → takeAt why n s at ≡ Refused why
+  pub take-no : length s < at + n → takeAt why n s at ≡ Refused (refusal why at)
   unfolding takeAt
   take-no h = rw (raw-bad why n 0 s at h)
 
@@ -31,11 +32,11 @@ module _ (why n : ℕ) (s : List ℕ) (at : ℕ) where
       (λ h. (let q = sym (take-ok h) ∙ e in let y : at + n ≡ p = cc in sym y, h))
       (λ h. let q = sym (take-no h) ∙ e in absurd (let z : _≡_ {A = ℕ} 0 1 = cc in omega arith))
 
-  pub take-refused : {k : ℕ} → takeAt why n s at ≡ Refused k → (k ≡ why) × (length s < at + n)
+  pub take-refused : {k : Refusal} → takeAt why n s at ≡ Refused k → (k ≡ refusal why at) × (length s < at + n)
   take-refused {k} e =
       by-le (at + n) (length s)
       (λ h. let q = sym (take-ok h) ∙ e in absurd (let z : _≡_ {A = ℕ} 0 1 = cc in omega arith))
-      (λ h. (let q = sym (take-no h) ∙ e in let y : why ≡ k = cc in sym y, h))
+      (λ h. (let q = sym (take-no h) ∙ e in let y : refusal why at ≡ k = cc in sym y, h))
 
 -- ---- numbers
 
@@ -98,7 +99,7 @@ module _ (why w : ℕ) (s : List ℕ) (at : ℕ) where
   unfolding numAt
   num-ok h = rw (num-got why w 0 s at h)
 
-  pub num-no : length s < at + w → numAt why w s at ≡ Refused why
+  pub num-no : length s < at + w → numAt why w s at ≡ Refused (refusal why at)
   unfolding numAt
   num-no h = rw (num-bad why w 0 s at h)
 
@@ -135,3 +136,7 @@ past-mk x y z = past x y z
 -- the part of a slice that a section's body is
 pub part-length : (s : List ℕ) (b e : ℕ) → e ≤ length s → length (part s b e) ≡ e - b
 part-length s b e h = simp (length-take, length-drop) (omega arith)
+
+-- a place in it is a place of the slice
+pub part-place : (s : List ℕ) (b e : ℕ) {n : ℕ} → n ≤ length (part s b e) → b ≤ e → e ≤ length s → b + n ≤ length s
+part-place s b e l x y = omega (arith, part-length s b e y)

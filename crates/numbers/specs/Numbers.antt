@@ -5,6 +5,7 @@ use mathlib.Core.Bool.{Bool}
 use mathlib.Core.List.{List}
 use lib.ListN.{length, getD, take, drop}
 use lib.Dec.{leb}
+use Rattle.refusal.specs.declared.Refusal.{Refusal}
 use Rattle.codec.specs.Codec.{Res, ok, refuse, raw, num}
 use Rattle.numbers.specs.declared.Got.{Got}
 use Rattle.numbers.specs.declared.Got.the-variants.{Value, Refused}
@@ -41,7 +42,7 @@ gotOn (Refused k) f = Refused k
 -- a number that was read past `at`: at least m bytes, within the section, and the number is below b
 pub data Past (b m : ℕ) (s : List ℕ) (at : ℕ) : Got → Type 0 where
   past : {v p : ℕ} → at + m ≤ p → p ≤ length s → v < b → Past b m s at (Value v p)
-  refused : {k : ℕ} → Past b m s at (Refused k)
+  refused : {k : Refusal} → Past b m s at (Refused k)
 
 -- little-endian numbers, 0 for a byte past the end
 abbrev pub le16 : List ℕ → ℕ → ℕ
@@ -56,4 +57,4 @@ le64 b i = le32 b i + 4294967296 * le32 b (i + 4)
 -- the number of document 01: 0 for what was read
 abbrev pub gotNumber : Got → ℕ
 gotNumber (Value v p) = 0
-gotNumber (Refused k) = k
+gotNumber (Refused k) = k .number

@@ -1,4 +1,5 @@
 // Numbers and bytes at a place of a slice. Any slice and any place get an answer.
+use refusal::Refusal;
 ghost use mathlib.Core.Path.{_≡_};
 ghost use Prim.Native.Nat.{_+_, _-_, _*_, _≤_, _<_};
 ghost use lib.ListN.{length, getD, drop};
@@ -7,7 +8,7 @@ ghost use Rattle.numbers.specs.Numbers.{takeAt, numAt, le16, le32, le64,
 // What reading at a place gives: a number and the place after it, or a refusal.
 pub enum Got {
     Value { value: usize, next: usize },
-    Refused(u32),
+    Refused(Refusal),
 }
 
 // How many bytes are left at `at`; none past the end.
@@ -17,7 +18,7 @@ pub fn left(s: &[u8], at: usize) -> usize
     if at <= s.len() { s.len() - at } else { 0 }
 }
 
-// The place after n bytes from `at` on; `why` where they run past the end.
+// The place after n bytes from `at` on; `why` at `at` where they run past the end.
 pub fn take(s: &[u8], at: usize, n: usize, why: u32) -> Got
     ensures { λ r. ⌜ (r ≡ takeAt why n (now (s .entry)) at) × Past (n + 1) n (now (s .entry)) at r ⌝ }
 {
@@ -29,10 +30,13 @@ pub fn take(s: &[u8], at: usize, n: usize, why: u32) -> Got
             };
         }
     }
-    Got::Refused(why)
+    Got::Refused(Refusal {
+        number: why,
+        place: at,
+    })
 }
 
-// The byte at `at`; `why` where there is none.
+// The byte at `at`; `why` at `at` where there is none.
 pub fn u8_at(s: &[u8], at: usize, why: u32) -> Got
     ensures { λ r. ⌜ (r ≡ numAt why 1 (now (s .entry)) at) × Past 256 1 (now (s .entry)) at r ⌝ }
 {
@@ -42,11 +46,14 @@ pub fn u8_at(s: &[u8], at: usize, why: u32) -> Got
             next: at + 1,
         }
     } else {
-        Got::Refused(why)
+        Got::Refused(Refusal {
+            number: why,
+            place: at,
+        })
     }
 }
 
-// The u16 at `at`; `why` where it runs past the end.
+// The u16 at `at`; `why` at `at` where it runs past the end.
 pub fn u16_at(s: &[u8], at: usize, why: u32) -> Got
     ensures { λ r. ⌜ (r ≡ numAt why 2 (now (s .entry)) at) × Past 65536 2 (now (s .entry)) at r ⌝ }
 {
@@ -56,11 +63,14 @@ pub fn u16_at(s: &[u8], at: usize, why: u32) -> Got
             next: at + 2,
         }
     } else {
-        Got::Refused(why)
+        Got::Refused(Refusal {
+            number: why,
+            place: at,
+        })
     }
 }
 
-// The u32 at `at`; `why` where it runs past the end.
+// The u32 at `at`; `why` at `at` where it runs past the end.
 pub fn u32_at(s: &[u8], at: usize, why: u32) -> Got
     ensures { λ r. ⌜ (r ≡ numAt why 4 (now (s .entry)) at) × Past 4294967296 4 (now (s .entry)) at r ⌝ }
 {
@@ -70,7 +80,10 @@ pub fn u32_at(s: &[u8], at: usize, why: u32) -> Got
             next: at + 4,
         }
     } else {
-        Got::Refused(why)
+        Got::Refused(Refusal {
+            number: why,
+            place: at,
+        })
     }
 }
 

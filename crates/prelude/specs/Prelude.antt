@@ -6,8 +6,8 @@ use mathlib.Core.Bool.{Bool, false, _&&_, cond}
 use mathlib.Core.List.{List, [], _∷_}
 use lib.ListN.{length}
 use lib.Dec.{leb, ltb}
-use Rattle.codec.specs.Codec.{Res, ok, refuse}
-use Rattle.codec.specs.Format.{Format, byte, numTest, _then_, named}
+use Rattle.codec.specs.Codec.{Res, ok, refuse, value}
+use Rattle.codec.specs.Format.{Format, fixed, numTest, _then_, named}
 use Rattle.prelude.specs.declared.Stage.{Stage}
 use Rattle.prelude.specs.declared.Stage.the-variants.{Needs, Refused, Whole}
 
@@ -16,11 +16,11 @@ pub record Prelude : Type 0 where
   pub version : ℕ
   pub len : ℕ
 
--- 44 42 4E; another byte is 10
-unfoldable pub magic : Format (Unit {0} × (Unit {0} × Unit {0})) false
-magic = byte 10 10 68 then byte 10 10 66 then byte 10 10 78
+-- 44 42 4E, as one number; another byte is 10, at the first of the three
+unfoldable pub magic : Format (Unit {0}) false
+magic = fixed 10 10 3 (value (68 ∷ 66 ∷ 78 ∷ []))
 
--- versions 1 to 4
+-- versions 1 to 4; another is 11
 abbrev pub isVersion : ℕ → Bool
 isVersion v = leb 1 v && leb v 4
 
@@ -28,7 +28,7 @@ isVersion v = leb 1 v && leb v 4
 unfoldable pub prelude : Format Prelude false
 prelude = named
     (λ z. record { version = z .1 .0; len = z .1 .1 })
-    (λ p. ((tt, (tt, tt)), (p .version, p .len)))
+    (λ p. (tt, (p .version, p .len)))
     (λ x. refl)
     (magic then numTest isVersion 11 11 1 then numTest (leb 100) 12 12 4)
 
@@ -48,5 +48,5 @@ preludeOf s = cond (ltb (length s) 8) (Needs (8 - length s)) (said (prelude .cod
 -- a stage's refusal number; 0 where it is none
 abbrev pub stageNumber : Stage → ℕ
 stageNumber (Needs n) = 0
-stageNumber (Refused e) = e
+stageNumber (Refused e) = e .number
 stageNumber (Whole v len) = 0

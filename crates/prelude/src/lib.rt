@@ -1,6 +1,9 @@
 // The prelude: the eight bytes that begin a stream, and the verdict on them.
+use refusal::Refusal;
 ghost use mathlib.Core.Path.{_≡_};
+ghost use Rattle.codec.specs.Codec.{refusal};
 ghost use Rattle.prelude.specs.Prelude.{preludeOf};
+ghost use Rattle.prelude.specs.declared.Stage.{Stage};
 
 // The bytes of a prelude.
 const METADATA_PRELUDE_LEN: usize = 8;
@@ -11,11 +14,11 @@ const METADATA_FIXED_LEN: usize = 100;
 // How far bytes have come: so many more are needed, or they are refused, or there is a block of this version and length.
 pub enum Stage {
     Needs(usize),
-    Refused(u32),
+    Refused(Refusal),
     Whole { version: u8, len: usize },
 }
 
-// The verdict on a prelude: the bytes missing, 10, 11, 12, or its version and block length. Bytes past the eighth are not looked at.
+// The verdict on a prelude: the bytes missing, or 10 at place 0, 11 at 3, 12 at 4, or its version and block length. Bytes past the eighth are not looked at.
 pub fn prelude(s: &[u8]) -> Stage
     ensures { λ r. ⌜ r ≡ preludeOf (now (s .entry)) ⌝ }
 {
@@ -24,24 +27,31 @@ pub fn prelude(s: &[u8]) -> Stage
         return Stage::Needs(METADATA_PRELUDE_LEN - n);
     }
     if s[0] != b'D' {
-        return Stage::Refused(refusal::MAGIC);
+        return refused(refusal::MAGIC, 0);
     }
     if s[1] != b'B' {
-        return Stage::Refused(refusal::MAGIC);
+        return refused(refusal::MAGIC, 0);
     }
     if s[2] != b'N' {
-        return Stage::Refused(refusal::MAGIC);
+        return refused(refusal::MAGIC, 0);
     }
     let version = s[3];
     if version < 1 {
-        return Stage::Refused(refusal::VERSION);
+        return refused(refusal::VERSION, 3);
     }
     if 4 < version {
-        return Stage::Refused(refusal::VERSION);
+        return refused(refusal::VERSION, 3);
     }
     let len = numbers::u32_of(s, 4);
     if len < METADATA_FIXED_LEN {
-        return Stage::Refused(refusal::BLOCK_LENGTH);
+        return refused(refusal::BLOCK_LENGTH, 4);
     }
     Stage::Whole { version, len }
+}
+
+// The refusal by a number at a place of the prelude.
+fn refused(number: u32, place: usize) -> Stage
+    ensures { λ r. ⌜ r ≡ Stage.Refused (refusal number place) ⌝ }
+{
+    Stage::Refused(Refusal { number, place })
 }

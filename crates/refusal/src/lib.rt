@@ -1,4 +1,29 @@
-// The refusal numbers of document 01, each with a name.
+// A refusal, and the refusal numbers of documents 01 and 02, each with a name.
+ghost use mathlib.Core.Path.{_≡_};
+ghost use Rattle.refusal.specs.Places.{hasPlace};
+
+// A number of the table, and the place of what it is about, counted in the bytes that were given. 13, 1, 2, 3, 60 to 83 and those
+// from 90 on are about no byte: their place is 0.
+pub struct Refusal {
+    pub number: u32,
+    pub place: usize,
+}
+
+// Whether a refusal by this number is about a place: every refusal from reading is, 10 to 12 and 20 to 55.
+pub fn has_place(number: u32) -> bool
+    ensures { λ r. ⌜ r ≡ hasPlace number ⌝ }
+{
+    if number < 10 {
+        return false;
+    }
+    if number <= 12 {
+        return true;
+    }
+    if number < 20 {
+        return false;
+    }
+    number <= 55
+}
 
 // The state, the store and the tables.
 pub const HELD_BEYOND: u32 = 1;
@@ -25,13 +50,13 @@ pub const STYPE_IN: u32 = 22;
 
 pub const STYPE_OUT: u32 = 23;
 
-pub const LAYOUT_PAST_END: u32 = 24;
+pub const LAYOUT_LENGTH_MISSING: u32 = 24;
 
 pub const LAYOUT_BELOW_4: u32 = 25;
 
 pub const NO_LAYOUT: u32 = 26;
 
-pub const SYMBOLOGY_PAST_END: u32 = 27;
+pub const SYMBOLOGY_LENGTH_MISSING: u32 = 27;
 
 pub const SYMBOLOGY_NOT_SPANNED: u32 = 28;
 
@@ -57,6 +82,11 @@ pub const START_DATE: u32 = 38;
 pub const END_DATE: u32 = 39;
 
 pub const SYMBOL_NOT_UTF8: u32 = 40;
+
+// The bytes that a block's lengths announce.
+pub const LAYOUT_PAST_END: u32 = 44;
+
+pub const SYMBOLOGY_PAST_END: u32 = 45;
 
 // The layout.
 pub const LAYOUT_TRUNCATED: u32 = 50;

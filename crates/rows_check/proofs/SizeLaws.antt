@@ -7,6 +7,7 @@ use mathlib.Core.List.{List, _++_}
 use lib.ListN.{length, length-append}
 use lib.Dec.{eqb, leb}
 use borrow.Author.Tests.{leb-true, leb-false, le-leb, lt-leb, ne-eqb}
+use Rattle.codec.specs.Codec.{refusal}
 use Rattle.layout.specs.LayoutOf.{D}
 use Rattle.rows_check.specs.Tree.{cell, rowCount, after, countOf, namesFrom, nextSection, kinds, structsFrom, labelsFrom}
 use Rattle.rows_check.specs.Check.{both, every, passes, wellFormed, countsFit, printedSection, fitsAll, sectionsFit, size, risesAt, fitFault, fault}
@@ -129,11 +130,11 @@ fit-no false n h = refl
 -- ---- the ways out: what was tested, and what the answer is then
 
 module _ (rows text : List ℕ) where
-  refused : (whole : Bool) (n : ℕ) → 0 < n → fault whole rows text ≡ n → Refused n ≡ sizedOf whole rows text
+  refused : (whole : Bool) (n : ℕ) → 0 < n → fault whole rows text ≡ n → Refused (refusal n 0) ≡ sizedOf whole rows text
   unfolding sizedOf
   refused whole n h e = rw (e, ne-eqb 0 n (λ z. omega arith))
 
-  pub exit-90 : (whole : Bool) → wellFormed rows text ≡ false → Refused 90 ≡ sizedOf whole rows text
+  pub exit-90 : (whole : Bool) → wellFormed rows text ≡ false → Refused (refusal 90 0) ≡ sizedOf whole rows text
   unfolding fault
   exit-90 whole a = refused whole 90 (omega arith) (rw a)
 
@@ -143,27 +144,27 @@ module _ (rows text : List ℕ) where
     unfolding fault sizedOf made
     formed-only er es el = rw (er, es, el, a)
 
-    pub exit-91 : countsFit rows text ≡ false → Refused 91 ≡ sizedOf true rows text
+    pub exit-91 : countsFit rows text ≡ false → Refused (refusal 91 0) ≡ sizedOf true rows text
     unfolding fault fitFault
     exit-91 b = refused true 91 (omega arith) (rw (a, b))
 
     module _ (b : countsFit rows text ≡ true) where
-      pub exit-92 : passes 92 rows text 0 (rowCount rows) ≡ false → Refused 92 ≡ sizedOf true rows text
+      pub exit-92 : passes 92 rows text 0 (rowCount rows) ≡ false → Refused (refusal 92 0) ≡ sizedOf true rows text
       unfolding fault fitFault
       exit-92 d = refused true 92 (omega arith) (rw (a, b, d))
 
       module _ (d : passes 92 rows text 0 (rowCount rows) ≡ true) where
-        pub exit-93 : passes 93 rows text 0 (rowCount rows) ≡ false → Refused 93 ≡ sizedOf true rows text
+        pub exit-93 : passes 93 rows text 0 (rowCount rows) ≡ false → Refused (refusal 93 0) ≡ sizedOf true rows text
         unfolding fault fitFault
         exit-93 e = refused true 93 (omega arith) (rw (a, b, d, e))
 
         module _ (e : passes 93 rows text 0 (rowCount rows) ≡ true) (n : ℕ) (f : n ≡ sizeOf (sectionsFit rows text) (size rows text)) where
-          pub exit-94 : 4294967296 ≤ n → Refused 94 ≡ sizedOf true rows text
+          pub exit-94 : 4294967296 ≤ n → Refused (refusal 94 0) ≡ sizedOf true rows text
           unfolding fault fitFault
           exit-94 h = refused true 94 (omega arith) (rw (a, b, d, e, fit-no _ _ (rw f at h)))
 
           module _ (h : n < 4294967296) where
-            pub exit-95 : every (risesAt rows) 0 (rowCount rows - 1) ≡ false → Refused 95 ≡ sizedOf true rows text
+            pub exit-95 : every (risesAt rows) 0 (rowCount rows - 1) ≡ false → Refused (refusal 95 0) ≡ sizedOf true rows text
             unfolding fault fitFault
             exit-95 g = refused true 95 (omega arith) (rw (a, b, d, e, fit-yes _ _ (rw f at h) .0, g))
 

@@ -10,6 +10,8 @@ use Rattle.rows_check.specs.CheckLaws.{both-left, both-right}
 use native.Mathlib.Omega.{arith}
 use lib.Dec.{eqb}
 use borrow.Author.Tests.{eqb-true, eqb-false}
+use Rattle.refusal.specs.declared.Refusal.{Refusal}
+use Rattle.codec.specs.Codec.{refusal}
 use Rattle.codec.specs.CaseLaws.{by-bool}
 use Rattle.rows_check.specs.declared.Sized.the-variants.{Length, Refused}
 
@@ -64,19 +66,19 @@ module _ (k : ℕ) (whole : Bool) (rows text : List ℕ) where
   unfolding made
   made-told b r s l e = go (eqb 0 k) refl e
     where
-      go : (a : Bool) → eqb 0 k ≡ a → Length b r s l ≡ cond a (made whole rows text) (Refused k) → (k ≡ 0) × Fitted whole rows text b r s l
+      go : (a : Bool) → eqb 0 k ≡ a → Length b r s l ≡ cond a (made whole rows text) (Refused (refusal k 0)) → (k ≡ 0) × Fitted whole rows text b r s l
       go true z e = (sym (eqb-true 0 k z), record { bytes = cc; records = cc; structs = cc; labels = cc })
       go false z e = let o : _≡_ {A = ℕ} 0 1 = cc in absurd (omega arith)
 
-  pub refused-told : (n : ℕ) → Refused n ≡ unless k (made whole rows text) → (n ≡ 0 → ⊥) × (k ≡ n)
+  pub refused-told : (n : Refusal) → Refused n ≡ unless k (made whole rows text) → (k ≡ 0 → ⊥) × (n ≡ refusal k 0)
   unfolding made
   refused-told n e = go (eqb 0 k) refl e
     where
-      go : (a : Bool) → eqb 0 k ≡ a → Refused n ≡ cond a (made whole rows text) (Refused k) → (n ≡ 0 → ⊥) × (k ≡ n)
+      go : (a : Bool) → eqb 0 k ≡ a → Refused n ≡ cond a (made whole rows text) (Refused (refusal k 0)) → (k ≡ 0 → ⊥) × (n ≡ refusal k 0)
       go true z e = let o : _≡_ {A = ℕ} 0 1 = cc in absurd (omega arith)
       go false z e =
-          let f : k ≡ n = cc in
-          ((λ m. eqb-false 0 k z (sym (f ∙ m))), f)
+          let f : n ≡ refusal k 0 = cc in
+          ((λ m. eqb-false 0 k z (sym m)), f)
 
   -- the number of the answer is the one that refuses them
   pub made-number : sizedNumber (unless k (made whole rows text)) ≡ k
@@ -88,7 +90,7 @@ module _ (whole : Bool) (rows text : List ℕ) where
   unfolding sizedOf
   sized-length b r s l e = made-told (fault whole rows text) whole rows text b r s l e
 
-  pub sized-fault : (n : ℕ) → Refused n ≡ sizedOf whole rows text → (n ≡ 0 → ⊥) × (fault whole rows text ≡ n)
+  pub sized-fault : (n : Refusal) → Refused n ≡ sizedOf whole rows text → (fault whole rows text ≡ 0 → ⊥) × (n ≡ refusal (fault whole rows text) 0)
   unfolding sizedOf
   sized-fault n e = refused-told (fault whole rows text) whole rows text n e
 

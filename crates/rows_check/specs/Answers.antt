@@ -6,6 +6,7 @@ use mathlib.Core.List.{List}
 use Rattle.rows_check.specs.Tree.{rowCount, byKind, kinds}
 use Rattle.rows_check.specs.Check.{both, rowFits, countFits, nameShort, nameClean, passes, size, fault}
 use lib.Dec.{eqb}
+use Rattle.codec.specs.Codec.{refusal}
 use Rattle.layout.specs.LayoutOf.{D}
 use Rattle.rows_check.specs.declared.Sized.{Sized}
 use Rattle.rows_check.specs.declared.Sized.the-variants.{Length, Refused}
@@ -34,9 +35,9 @@ sizeOf b n = cond b (min 4294967296 n) 4294967296
 unfoldable pub made : Bool → List ℕ → List ℕ → Sized
 made whole rows text = Length (cond whole (size rows text) 0) (kinds rows 10) (kinds rows 13) (kinds rows 14)
 
--- x, or the number that refuses it
+-- x, or the number that refuses it, which is about no byte
 abbrev pub unless : ℕ → Sized → Sized
-unless k x = cond (eqb 0 k) x (Refused k)
+unless k x = cond (eqb 0 k) x (Refused (refusal k 0))
 
 -- what the rows make, or the number that refuses them
 unfoldable pub sizedOf : Bool → List ℕ → List ℕ → Sized
@@ -45,4 +46,4 @@ sizedOf whole rows text = unless (fault whole rows text) (made whole rows text)
 -- the number of document 01: 0 for rows that pass
 abbrev pub sizedNumber : Sized → ℕ
 sizedNumber (Length b r s l) = 0
-sizedNumber (Refused e) = e
+sizedNumber (Refused e) = e .number

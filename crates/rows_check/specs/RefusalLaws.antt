@@ -1,9 +1,10 @@
 -- Which numbers the check of rows gives.
 -- Assumes nothing.
 use Prim.Native.Nat.{ℕ}
-use mathlib.Core.Path.{_≡_, refl, sym, subst, _∙_}
+use mathlib.Core.Path.{_≡_, refl, sym, subst}
 use mathlib.Core.Bool.{Bool, true, false, cond}
 use mathlib.Core.List.{List}
+use Rattle.refusal.specs.declared.Refusal.{Refusal}
 use Rattle.codec.specs.Refusals.{In, Fault}
 use Rattle.rows_check.specs.Tree.{rowCount}
 use Rattle.rows_check.specs.Check.{wellFormed, countsFit, passes, sizesFit, labelsRise, faultNumbers, fitFault, fault}
@@ -29,7 +30,7 @@ module _ (whole : Bool) (rows text : List ℕ) where
       go true true true true true true true n = absurd (n refl)
 
   -- what the check's answer refuses with
-  pub check-refuses : {k : ℕ} → Refused k ≡ sizedOf whole rows text → In (faultNumbers whole) k
+  pub check-refuses : {k : Refusal} → Refused k ≡ sizedOf whole rows text → In (faultNumbers whole) (k .number)
   check-refuses {k} e =
       let (n, f) = sized-fault whole rows text k e in
-      subst (In (faultNumbers whole)) f (check-fault (λ z. n (sym f ∙ z)))
+      subst (λ (r : Refusal). In (faultNumbers whole) (r .number)) (sym f) (check-fault n)

@@ -5,14 +5,16 @@ pub mod kinds;
 mod order;
 mod sizes;
 
+use refusal::Refusal;
 ghost use mathlib.Core.Path.{_≡_};
 ghost use mathlib.Core.Bool.{true};
+ghost use Rattle.codec.specs.Codec.{refusal};
+ghost use Rattle.rows_check.specs.declared.Sized.the-variants as Sized';
 ghost use Rattle.rows_check.specs.Tree.{rowCount, kinds};
 ghost use Rattle.rows_check.specs.Check.{every, wellFormed};
 ghost use Rattle.rows_check.specs.Answers.{rowGood, sizedOf};
 
-// The length of the layout, 0 where it was not asked for, and how many records, structs and label defs it has; or the number
-// that refuses the rows.
+// The length of the layout, 0 where it was not asked for, and how many records, structs and label defs it has; or the refusal.
 pub enum Sized {
     Length {
         bytes: usize,
@@ -20,7 +22,7 @@ pub enum Sized {
         structs: usize,
         labels: usize,
     },
-    Refused(u32),
+    Refused(Refusal),
 }
 
 // What the rows make, whose names are parts of the text; or 90. Where `whole` holds, how long the layout is; or 90 to 95.
@@ -33,7 +35,7 @@ pub fn layout_size(rows: &[u32], text: &[u8], whole: bool) -> Sized
     let l = k.labels;
     let good = fits::all_good(rows, text);
     if !order::well_formed(good, rows, text, r, s, l) {
-        return Sized::Refused(refusal::ROWS_MALFORMED);
+        return refused(refusal::ROWS_MALFORMED);
     }
     if whole {
         return whole_size(good, rows, text, r, s, l);
@@ -54,20 +56,20 @@ fn whole_size(good: bool, rows: &[u32], text: &[u8], r: usize, s: usize, l: usiz
     ensures { λ x. ⌜ x ≡ sizedOf true (now (rows .entry)) (now (text .entry)) ⌝ }
 {
     if !order::counts_fit(good, rows, text, r, s, l) {
-        return Sized::Refused(refusal::COUNT_LARGE);
+        return refused(refusal::COUNT_LARGE);
     }
     if !fits::all_pass(good, 92, rows, text) {
-        return Sized::Refused(refusal::NAME_LONG);
+        return refused(refusal::NAME_LONG);
     }
     if !fits::all_pass(good, 93, rows, text) {
-        return Sized::Refused(refusal::NAME_TEXT);
+        return refused(refusal::NAME_TEXT);
     }
     let bytes = sizes::total_size(rows, text, r, s, l);
     if sizes::CAP <= bytes {
-        return Sized::Refused(refusal::SECTION_LARGE);
+        return refused(refusal::SECTION_LARGE);
     }
     if !order::labels_rise(rows) {
-        return Sized::Refused(refusal::LABELS_NOT_RISING);
+        return refused(refusal::LABELS_NOT_RISING);
     }
     Sized::Length {
         bytes,
@@ -75,4 +77,11 @@ fn whole_size(good: bool, rows: &[u32], text: &[u8], r: usize, s: usize, l: usiz
         structs: s,
         labels: l,
     }
+}
+
+// The refusal of rows, which is about no byte.
+fn refused(number: u32) -> Sized
+    ensures { λ r. ⌜ r ≡ Sized'.Refused (refusal number 0) ⌝ }
+{
+    Sized::Refused(Refusal { number, place: 0 })
 }

@@ -8,7 +8,8 @@ use lib.ListN.{length, length-map}
 use lib.Seq.{take-all}
 use lib.Dec.{eqb}
 use borrow.Author.Tests.{ne-eqb}
-use Rattle.codec.specs.Codec.{Res, ok, refuse, _>>=_, need}
+use Rattle.refusal.specs.declared.Refusal.{Refusal}
+use Rattle.codec.specs.Codec.{Res, ok, refuse, refusal, _>>=_, need}
 use Rattle.numbers.specs.Numbers.{le16}
 use Rattle.layout.specs.Layout.{RecordL, StructL, Layout, fromLayout}
 use Rattle.layout.specs.LayoutOf.{D, layoutOf}
@@ -111,19 +112,19 @@ module _ (s : List ℕ) where
 
 module _ (sheet : List ℕ) (width : ℕ) (s : List ℕ) where
   after : Res Layout → Res Layout
-  after r = r >>= λ t j. need (eqb 0 (rulesOf sheet width (fromLayout t .0))) (rulesOf sheet width (fromLayout t .0)) j >>= λ _ j. ok t j
+  after r = r >>= λ t j. need (eqb 0 (rulesOf sheet width (fromLayout t .0))) (rulesOf sheet width (fromLayout t .0)) 0 >>= λ _ _. ok t j
 
   fine : (r : Res Layout) {v n k : ℕ} → verdict r ≡ Verdict'.Accepted v n → k ≡ rulesIn sheet width r → k ≡ 0 → Verdict'.Accepted v n ≡ verdict (after r)
   unfolding after
   fine (ok t j) q e z = sym q ∙ rw (sym (e) ∙ z)
   fine (refuse k) q e z = absurd (let w = sym (verdict-refused k) ∙ q in let y : _≡_ {A = ℕ} 0 1 = cc in omega arith)
 
-  broken : (r : Res Layout) {v n k : ℕ} → verdict r ≡ Verdict'.Accepted v n → k ≡ rulesIn sheet width r → (k ≡ 0 → ⊥) → Verdict'.Refused k ≡ verdict (after r)
+  broken : (r : Res Layout) {v n k : ℕ} → verdict r ≡ Verdict'.Accepted v n → k ≡ rulesIn sheet width r → (k ≡ 0 → ⊥) → Verdict'.Refused (refusal k 0) ≡ verdict (after r)
   unfolding after
-  broken (ok t j) {k = k} q e z = rw (← e, ne-eqb 0 k (λ x. z (sym x))) (sym (verdict-refused k))
+  broken (ok t j) {k = k} q e z = rw (← e, ne-eqb 0 k (λ x. z (sym x))) (sym (verdict-refused (refusal k 0)))
   broken (refuse m) q e z = absurd (let w = sym (verdict-refused m) ∙ q in let y : _≡_ {A = ℕ} 0 1 = cc in omega arith)
 
-  unread : (r : Res Layout) {k : ℕ} → verdict r ≡ Verdict'.Refused k → Verdict'.Refused k ≡ verdict (after r)
+  unread : (r : Res Layout) {k : Refusal} → verdict r ≡ Verdict'.Refused k → Verdict'.Refused k ≡ verdict (after r)
   unfolding after
   unread (ok t j) q = absurd (let w = sym (verdict-accepted t j) ∙ q in let y : _≡_ {A = ℕ} 0 1 = cc in omega arith)
   unread (refuse m) q = sym q
@@ -132,10 +133,10 @@ module _ (sheet : List ℕ) (width : ℕ) (s : List ℕ) where
   unfolding ruledOf after
   ruled-fine q e z = fine (layoutOf s) q e z
 
-  pub ruled-broken : {v n k : ℕ} → verdict (layoutOf s) ≡ Verdict'.Accepted v n → k ≡ rulesIn sheet width (layoutOf s) → (k ≡ 0 → ⊥) → Verdict'.Refused k ≡ verdict (ruledOf sheet width s)
+  pub ruled-broken : {v n k : ℕ} → verdict (layoutOf s) ≡ Verdict'.Accepted v n → k ≡ rulesIn sheet width (layoutOf s) → (k ≡ 0 → ⊥) → Verdict'.Refused (refusal k 0) ≡ verdict (ruledOf sheet width s)
   unfolding ruledOf after
   ruled-broken q e z = broken (layoutOf s) q e z
 
-  pub ruled-unread : {k : ℕ} → verdict (layoutOf s) ≡ Verdict'.Refused k → Verdict'.Refused k ≡ verdict (ruledOf sheet width s)
+  pub ruled-unread : {k : Refusal} → verdict (layoutOf s) ≡ Verdict'.Refused k → Verdict'.Refused k ≡ verdict (ruledOf sheet width s)
   unfolding ruledOf after
   ruled-unread q = unread (layoutOf s) q

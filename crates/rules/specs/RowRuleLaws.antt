@@ -1,9 +1,11 @@
 -- The rules over rows see no version; the ways out of a verdict on rows. Assumes nothing.
 use Prim.Native.Nat.{ℕ}
-use mathlib.Core.Path.{_≡_, sym, _∙_}
+use mathlib.Core.Path.{_≡_, sym, ap, _∙_}
 use mathlib.Core.Bool.{Bool}
 use mathlib.Core.List.{List}
 use borrow.Author.Tests.{ne-eqb}
+use Rattle.refusal.specs.declared.Refusal.{Refusal}
+use Rattle.codec.specs.Codec.{refusal}
 use Rattle.layout.specs.Layout.{fromLayout}
 use Rattle.rows_check.specs.Tree.{treeOf}
 use Rattle.rows_check.specs.TreeLaws.{tree-records, tree-structs, tree-labels}
@@ -22,16 +24,16 @@ rows-rules sheet width version rows text =
     rw (tree-records version rows text, tree-structs version rows text, tree-labels version rows text, tree-records 0 rows text, tree-structs 0 rows text, tree-labels 0 rows text)
 
 module _ (sheet : List ℕ) (width : ℕ) (whole : Bool) (rows text : List ℕ) where
-  refused : {k : ℕ} → (k ≡ 0 → ⊥) → rowsFault sheet width whole rows text ≡ k → Refused k ≡ ruledRows sheet width whole rows text
+  refused : {k : ℕ} → (k ≡ 0 → ⊥) → rowsFault sheet width whole rows text ≡ k → Refused (refusal k 0) ≡ ruledRows sheet width whole rows text
   unfolding ruledRows
   refused {k} n e = rw (e, ne-eqb 0 k (λ z. n (sym z)))
 
   -- 90 to 95 come first
-  pub ruled-malformed : {k : ℕ} → (k ≡ 0 → ⊥) × (fault whole rows text ≡ k) → Refused k ≡ ruledRows sheet width whole rows text
+  pub ruled-malformed : {k : Refusal} → (fault whole rows text ≡ 0 → ⊥) × (k ≡ refusal (fault whole rows text) 0) → Refused k ≡ ruledRows sheet width whole rows text
   unfolding rowsFault
-  ruled-malformed {k} (n, e) = refused n (rw (e, ne-eqb k 0 n))
+  ruled-malformed {k} (n, e) = ap Refused e ∙ refused n (rw (ne-eqb (fault whole rows text) 0 n))
 
-  pub ruled-broken : {k : ℕ} → fault whole rows text ≡ 0 → k ≡ rowsRules sheet width rows text → (k ≡ 0 → ⊥) → Refused k ≡ ruledRows sheet width whole rows text
+  pub ruled-broken : {k : ℕ} → fault whole rows text ≡ 0 → k ≡ rowsRules sheet width rows text → (k ≡ 0 → ⊥) → Refused (refusal k 0) ≡ ruledRows sheet width whole rows text
   unfolding rowsFault
   ruled-broken f e n = refused n (rw f (sym e))
 
@@ -47,7 +49,7 @@ module _ (sheet : List ℕ) (width : ℕ) (whole : Bool) (rows text : List ℕ) 
   unfolding ruledRows
   ruled-length b r s l e = made-told (rowsFault sheet width whole rows text) whole rows text b r s l e
 
-  pub ruled-fault : (k : ℕ) → Refused k ≡ ruledRows sheet width whole rows text → (k ≡ 0 → ⊥) × (rowsFault sheet width whole rows text ≡ k)
+  pub ruled-fault : (k : Refusal) → Refused k ≡ ruledRows sheet width whole rows text → (rowsFault sheet width whole rows text ≡ 0 → ⊥) × (k ≡ refusal (rowsFault sheet width whole rows text) 0)
   unfolding ruledRows
   ruled-fault k e = refused-told (rowsFault sheet width whole rows text) whole rows text k e
 

@@ -14,7 +14,7 @@ use Rattle.rules.specs.Rules.{first, Seq, rulesOf, ruledOf}
 
 -- a layout with a fault is refused by its number
 pub ruled-is : (sheet : List ℕ) (width : ℕ) (s : List ℕ) → ruledOf sheet width s
-    ≡ (layoutOf s >>= λ t j. need (eqb 0 (rulesOf sheet width (fromLayout t .0))) (rulesOf sheet width (fromLayout t .0)) j >>= λ _ j. ok t j)
+    ≡ (layoutOf s >>= λ t j. need (eqb 0 (rulesOf sheet width (fromLayout t .0))) (rulesOf sheet width (fromLayout t .0)) 0 >>= λ _ _. ok t j)
 unfolding ruledOf
 ruled-is sheet width s = refl
 

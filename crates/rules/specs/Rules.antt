@@ -130,5 +130,5 @@ ruledNumbers = layoutNumbers ++ ruleNumbers
 unfoldable pub ruledOf : List ℕ → ℕ → List ℕ → Res Layout
 ruledOf sheet width s =
     layoutOf s >>= λ t j.
-    need (eqb 0 (rulesOf sheet width (fromLayout t .0))) (rulesOf sheet width (fromLayout t .0)) j >>= λ _ j.
+    need (eqb 0 (rulesOf sheet width (fromLayout t .0))) (rulesOf sheet width (fromLayout t .0)) 0 >>= λ _ _.
     ok t j

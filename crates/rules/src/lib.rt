@@ -1,6 +1,7 @@
 // The rules of a layout, numbers 60 to 83, over a layout's bytes or over rows.
 use layout::Answer;
 use layout::Verdict;
+use refusal::Refusal;
 use rows_check::Sized;
 ghost use mathlib.Core.Path.{_≡_};
 ghost use mathlib.Core.Bool.{true};
@@ -103,7 +104,10 @@ pub fn check_layout(layout: &[u8], width: u16, sheet: &[u16; 520], by_marks: boo
             if why == 0 {
                 return Verdict::Accepted { version, rows };
             }
-            Verdict::Refused(why)
+            Verdict::Refused(Refusal {
+                number: why,
+                place: 0,
+            })
         }
         Verdict::Refused(why) => Verdict::Refused(why),
     }
@@ -135,7 +139,10 @@ pub fn check_rows(
             };
             let why = formed_rules(rows, text, sheet, records, structs, how);
             if why != 0 {
-                return Sized::Refused(why);
+                return Sized::Refused(Refusal {
+                    number: why,
+                    place: 0,
+                });
             }
             Sized::Length {
                 bytes,

@@ -3,6 +3,7 @@
 mod fields;
 mod lines;
 mod options;
+mod place;
 mod print;
 mod records;
 mod refusals;
@@ -17,17 +18,18 @@ use feed::Answer;
 use feed::State;
 use libc::STDIN_FILENO;
 use options::Options;
+use refusal::Refusal;
 ghost use lib.ListN.{length};
 ghost use mathlib.Core.Path.{_≡_};
 
 // Where the status goes, if it is asked for.
 const STATUS_FILENO: i32 = 3;
 
-// What came of a turn of reading: a read that failed, so many bytes held, or an answer.
+// What came of a turn of reading: a read that failed, so many bytes held, or an answer on so many.
 enum Turn {
     Failed,
     Held(usize),
-    Answered(Answer),
+    Answered { held: usize, answer: Answer },
 }
 
 fn main() {
@@ -78,8 +80,8 @@ fn show_stream(fd: i32, name: &[u8], sheet: &[u16; 520], is_made: bool) -> u64 {
     let mut symbology = symbology_table();
     let mut layout = layout_table();
     let seen = read_start(fd, &mut store, sheet, &mut symbology, &mut layout);
-    if let Turn::Answered(a) = seen {
-        return report(a, &store, &symbology, &layout, is_made);
+    if let Turn::Answered { held, answer } = seen {
+        return report(answer, front(&store, held), &symbology, &layout, is_made);
     }
     tell::failed(name);
     2
@@ -123,7 +125,10 @@ fn read_start(
         }
         turns -= 1;
     }
-    Turn::Answered(Answer::Needs(0))
+    Turn::Answered {
+        held,
+        answer: Answer::Needs(0),
+    }
 }
 
 // Reads once, at most 4,096 bytes, and feeds what came. Where nothing did, the answer is the last.
@@ -155,37 +160,52 @@ fn turn_of(taken: usize, held: usize, answer: Answer) -> Turn {
             return Turn::Held(held);
         }
     }
-    Turn::Answered(answer)
+    Turn::Answered { held, answer }
 }
 
-// Writes what the answer says, and answers the status.
-fn report(a: Answer, store: &[u8], symbology: &[u32], layout: &[u32], is_made: bool) -> u64 {
+// The first n bytes; all where there are fewer.
+fn front(s: &[u8], n: usize) -> &[u8] {
+    if s.len() < n {
+        return s;
+    }
+    &s[0..n]
+}
+
+// Writes what the answer on the held bytes says, and answers the status.
+fn report(a: Answer, held: &[u8], symbology: &[u32], layout: &[u32], is_made: bool) -> u64 {
     match a {
         Answer::Done(f) => {
-            accepted(f, store, symbology, layout, is_made);
+            accepted(f, held, symbology, layout, is_made);
             print::text(b"accepted");
             ended(print::end(), 0)
         }
         Answer::Needs(n) => ended(lines::value(lines::BYTES_NEEDED, n as u64), 1),
-        Answer::Refused(e) => ended(refusals::show(e, is_made), 1),
+        Answer::Refused(why) => ended(refusals::show(why, held, is_made), 1),
         Answer::Short {
             symbology: s,
             layout: l,
         } => {
-            refusals::show(3, is_made);
+            refusals::show(table_short(), held, is_made);
             lines::value(lines::SYMBOLOGY_NEEDED, s as u64);
             ended(lines::value(lines::LAYOUT_NEEDED, l as u64), 1)
         }
     }
 }
 
-// The fields of an accepted block, which stands in the store after the prelude, and its rows.
-fn accepted(f: Fields, store: &[u8], symbology: &[u32], layout: &[u32], is_made: bool) {
-    if store.len() < 8 {
+fn table_short() -> Refusal {
+    Refusal {
+        number: refusal::TABLE_SHORT,
+        place: 0,
+    }
+}
+
+// The fields of an accepted block, which stands in the held bytes after the prelude, and its rows.
+fn accepted(f: Fields, held: &[u8], symbology: &[u32], layout: &[u32], is_made: bool) {
+    if held.len() < 8 {
         return;
     }
-    let version = store[3];
-    let block = &store[8..];
+    let version = held[3];
+    let block = &held[8..];
     fields::show(f, version, block, is_made);
     symbols::show(block, symbology, f.symbology_rows);
     records::show(block, layout, f.layout_rows);

@@ -1,8 +1,10 @@
 // A sentence for each refusal number that a reader gives; 90 to 96 are the writer's.
 use crate::lines;
+use crate::place;
 use crate::print;
 use crate::words;
 use libc::STDOUT_FILENO;
+use refusal::Refusal;
 
 // The least number of a layout.
 const FIRST_OF_LAYOUTS: u32 = 50;
@@ -10,15 +12,20 @@ const FIRST_OF_LAYOUTS: u32 = 50;
 // The least number of a rule on layouts.
 const FIRST_RULE: u32 = 60;
 
-// The number and its sentence; where a rule on layouts gave it, also which type sheet that was. Answers whether it was written.
-pub(crate) fn show(n: u32, is_made: bool) -> bool {
+// The number and its sentence; where it has a place, also that in the held bytes; where a rule on layouts gave it, also which type
+// sheet that was. Answers whether it was written.
+pub(crate) fn show(why: Refusal, held: &[u8], is_made: bool) -> bool {
+    let n = why.number;
     print::text(b"refused ");
     print::number(n as u64);
     sentence(n);
-    if n < FIRST_RULE {
-        return print::end();
+    let is_written = print::end();
+    if refusal::has_place(n) {
+        return place::show(n, why.place, held);
     }
-    print::end();
+    if n < FIRST_RULE {
+        return is_written;
+    }
     lines::value(lines::TYPE_SHEET, is_made as u64)
 }
 
@@ -46,10 +53,10 @@ fn of_blocks(n: u32) {
 21: The schema is unknown.
 22: The stype_in is unknown.
 23: The stype_out is unknown or absent.
-24: The layout goes past the end of the block.
+24: The layout's length is missing.
 25: There is a layout below version 4.
 26: There is no layout in version 4.
-27: The symbology section is missing or goes past the end.
+27: The symbology's length is missing.
 28: The symbology does not span its section.
 30: A symbol list has no count.
 31: A symbol list's count is too large.
@@ -62,6 +69,8 @@ fn of_blocks(n: u32) {
 38: An interval's start is no date.
 39: An interval's end is no date.
 40: An interval's symbol is not UTF-8.
+44: The layout goes past the end of the block.
+45: The symbology goes past the end of the block.
 ",
         n as u64,
     );

@@ -20,7 +20,8 @@ Shows the start of a DBN stream: the file FILE, or standard input where it is - 
 
 Status: 0 accepted, 1 refused or cut short, 2 a file or an option that cannot be used. scripts/show ends with it;
 the program itself ends with 0. In texts of the stream a backslash is written \\\\ and any byte that is no printable
-ASCII \\xNN.
+ASCII \\xNN. A refusal from reading also tells its place, counted from the prelude or from the block after it, and the bytes
+around it in hexadecimal: that byte is in brackets, which are empty where the bytes end there.
 ",
     )
 }

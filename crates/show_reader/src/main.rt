@@ -2,6 +2,7 @@
 // the section's own part the name and the label.
 use libc::STDOUT_FILENO;
 use numbers::Got;
+use refusal::Refusal;
 ghost use Rattle.numbers.specs.Numbers.{Past};
 
 fn main() {
@@ -81,8 +82,11 @@ fn show_text(s: &[u8], at: usize, name: Got)
     }
 }
 
-fn show_refusal(why: u32) {
+// A refusal, with its place in what was read.
+fn show_refusal(why: Refusal) {
     io::write_all(STDOUT_FILENO, b"refused ");
-    io::print_decimal(STDOUT_FILENO, why as u64);
+    io::print_decimal(STDOUT_FILENO, why.number as u64);
+    io::write_all(STDOUT_FILENO, b" at ");
+    io::print_decimal(STDOUT_FILENO, why.place as u64);
     io::write_all(STDOUT_FILENO, b"\n");
 }

@@ -47,10 +47,10 @@ pub record SectionPromise (write : Bool) (z : Res Symbology) (t t′ : List ℕ)
 -- 0 for what is accepted
 abbrev pub foundNumber : Found → ℕ
 foundNumber (Found'.Accepted n j) = 0
-foundNumber (Found'.Refused e) = e
+foundNumber (Found'.Refused k) = k .number
 
 -- 0 for what is accepted, its rows written or counted
 abbrev pub sectionNumber : SectionAnswer → ℕ
 sectionNumber (SectionAnswer'.Read n j) = 0
 sectionNumber (SectionAnswer'.Counted n) = 0
-sectionNumber (SectionAnswer'.Refused e) = e
+sectionNumber (SectionAnswer'.Refused k) = k .number

@@ -1,12 +1,13 @@
 -- What a caller may use of the symbology's definitions. Assumes nothing.
 use Prim.Native.Nat.{ℕ, _+_, _*_, _/_, _≤_}
-use mathlib.Core.Path.{_≡_, refl, sym, _∙_, subst}
+use mathlib.Core.Path.{_≡_, refl, sym, ap, _∙_, subst}
 use mathlib.Core.Bool.{Bool, true, false, _&&_, cond}
 use mathlib.Core.List.{List, _++_, map}
 use lib.ListN.{length, drop}
 use lib.Dec.{leb}
 use borrow.Author.Tests.{le-leb}
-use Rattle.codec.specs.Codec.{Res, ok, refuse, _>>=_, need, isNil}
+use Rattle.refusal.specs.declared.Refusal.{Refusal}
+use Rattle.codec.specs.Codec.{Res, ok, refuse, moved, shifted, _>>=_, need, isNil}
 use Rattle.text.specs.Utf8.{utf8}
 use Rattle.dates.specs.Date.{isDate}
 use Rattle.table.specs.Table.{flat, allRows}
@@ -26,7 +27,7 @@ symbology-parse width base s h = rw (le-leb (base + length s) 4294967295 h)
 
 -- a section of its own, by the format and what it leaves over; other bytes, by the format
 pub section-parse : (width base : ℕ) (s : List ℕ) → base + length s ≤ 4294967295
-    → sectionOf true width base s ≡ (Symbology.symbology utf8 isDate width .codec .parse base s 0 >>= λ t j. need (isNil (drop j s)) unspanned j >>= λ _ j. ok t j)
+    → sectionOf true width base s ≡ (Symbology.symbology utf8 isDate width .codec .parse base s 0 >>= λ t j. need (isNil (drop j s)) unspanned j >>= λ _ _. ok t j)
 unfolding sectionOf
 section-parse width base s h = rw (symbology-parse width base s h)
 
@@ -61,7 +62,7 @@ pub record Was (written write : Bool) (z : Res Symbology) (t t′ : List ℕ) (n
 data Says (write : Bool) (z : Res Symbology) (t t′ : List ℕ) : SectionAnswer → Type 0 where
   read : {n j : ℕ} → Was true write z t t′ n → Says write z t t′ (SectionAnswer'.Read n j)
   short : {n : ℕ} → Was false write z t t′ n → Says write z t t′ (SectionAnswer'.Counted n)
-  no : {k : ℕ} → z ≡ refuse k → t′ ≡ t → Says write z t t′ (SectionAnswer'.Refused k)
+  no : {k : Refusal} → z ≡ refuse k → t′ ≡ t → Says write z t t′ (SectionAnswer'.Refused k)
 
 module _ {write : Bool} {z : Res Symbology} {t t′ : List ℕ} {r r′ : SectionAnswer} (f : SectionPromise write z t t′ r) (e : r ≡ r′) where
   says : Says write z t t′ r′
@@ -90,12 +91,36 @@ module _ {write : Bool} {z : Res Symbology} {t t′ : List ℕ} {r : SectionAnsw
       go : Says write z t t′ (SectionAnswer'.Counted n) → Was false write z t t′ n
       go (short w) = w
 
-  pub rows-refused : {k : ℕ} → r ≡ SectionAnswer'.Refused k → (z ≡ refuse k) × (t′ ≡ t)
+  pub rows-refused : {k : Refusal} → r ≡ SectionAnswer'.Refused k → (z ≡ refuse k) × (t′ ≡ t)
   rows-refused {k} e = go (says f e)
     where
       go : Says write z t t′ (SectionAnswer'.Refused k) → (z ≡ refuse k) × (t′ ≡ t)
       go (no q l) = (q, l)
 
-pub refused-promise : {write : Bool} {t : List ℕ} {k : ℕ} → SectionPromise write (refuse k) t t (SectionAnswer'.Refused k)
+pub refused-promise : {write : Bool} {t : List ℕ} {k : Refusal} → SectionPromise write (refuse k) t t (SectionAnswer'.Refused k)
 unfolding sectionAnswer sectionTable
 refused-promise = record { is = refl; leaves = refl }
+
+-- ---- a section that begins at place p of a block
+
+-- its answer there: a refusal's place counts from the block
+abbrev pub movedIn : ℕ → SectionAnswer → SectionAnswer
+movedIn p (SectionAnswer'.Read n j) = SectionAnswer'.Read n j
+movedIn p (SectionAnswer'.Counted n) = SectionAnswer'.Counted n
+movedIn p (SectionAnswer'.Refused k) = SectionAnswer'.Refused (moved p k)
+
+pub promise-moved : (p : ℕ) {write : Bool} {z : Res Symbology} {t t′ : List ℕ} {r : SectionAnswer} → SectionPromise write z t t′ r → SectionPromise write (shifted p z) t t′ (movedIn p r)
+unfolding sectionAnswer sectionTable
+promise-moved p {write} {z} {t} f = record { is = ap (movedIn p) (f .is) ∙ answer z; leaves = f .leaves ∙ table z }
+  where
+    by : (b : Bool) (n j : ℕ) → movedIn p (cond b (SectionAnswer'.Read n j) (SectionAnswer'.Counted n)) ≡ cond b (SectionAnswer'.Read n j) (SectionAnswer'.Counted n)
+    by true n j = refl
+    by false n j = refl
+
+    answer : (z : Res Symbology) → movedIn p (sectionAnswer write (length t / 5) z) ≡ sectionAnswer write (length t / 5) (shifted p z)
+    answer (ok x j) = by (write && leb (length (symbologyRows x)) (length t / 5)) (length (symbologyRows x)) j
+    answer (refuse k) = refl
+
+    table : (z : Res Symbology) → sectionTable write t z ≡ sectionTable write t (shifted p z)
+    table (ok x j) = refl
+    table (refuse k) = refl

@@ -7,7 +7,8 @@ use native.Mathlib.Nat.{add-zero, div-zero}
 use native.Mathlib.Omega.{arith}
 use lib.ListN.{length, length-append}
 use borrow.Author.Tests.{le-ltb}
-use Rattle.codec.specs.Codec.{ok, refuse, _>>=_}
+use Rattle.refusal.specs.declared.Refusal.{Refusal}
+use Rattle.codec.specs.Codec.{ok, refuse, moved, shifted, _>>=_}
 use Rattle.table.specs.Table.{Out, row, seq, onGot, putRow, Put, fill, Fills, answer, Room, Ran, Within, stopped, refused}
 use Rattle.numbers.specs.declared.Got.{Got}
 use Rattle.numbers.specs.declared.Got.the-variants.{Value, Refused}
@@ -70,7 +71,7 @@ seq-go w (ok rs q) f n t t₁ {m} {p} e g =
     (join w rs n t t₁ g (f q))
 seq-go w (refuse k) f n t t₁ e g = absurd (let z : _≡_ {A = ℕ} 0 1 = cc in omega arith)
 
-seq-stop : (w : ℕ) (o : Out) (f : ℕ → Out) (n : ℕ) (t t′ : List ℕ) {k : ℕ} → answer n o ≡ Refused k → (answer n (seq o f) ≡ Refused k) × Fills w t n (seq o f) t′
+seq-stop : (w : ℕ) (o : Out) (f : ℕ → Out) (n : ℕ) (t t′ : List ℕ) {k : Refusal} → answer n o ≡ Refused k → (answer n (seq o f) ≡ Refused k) × Fills w t n (seq o f) t′
 unfolding seq
 seq-stop w (ok rs q) f n t t′ e = absurd (let z : _≡_ {A = ℕ} 0 1 = cc in omega arith)
 seq-stop w (refuse j) f n t t′ e = (e, tt)
@@ -81,7 +82,7 @@ module _ {w base n : ℕ} {s : List ℕ} {o : Out} {t t₁ : List ℕ} {r₁ : G
       let q = seq-go w o f n t t₁ (sym (g .answered) ∙ e) (g .filled) in
       record { answered = h .answered ∙ sym (q .0); filled = q .1 _ (h .filled); within = h .within }
 
-  pub ran-stop : {base′ k : ℕ} {s′ : List ℕ} (f : ℕ → Out) → r₁ ≡ Refused k → Ran w base′ s′ (seq o f) n t t₁ (Refused k)
+  pub ran-stop : {base′ : ℕ} {k : Refusal} {s′ : List ℕ} (f : ℕ → Out) → r₁ ≡ Refused k → Ran w base′ s′ (seq o f) n t t₁ (Refused k)
   ran-stop f e =
       let q = seq-stop w o f n t t₁ (sym (g .answered) ∙ e) in
       record { answered = sym (q .0); filled = q .1; within = refused }
@@ -91,6 +92,25 @@ module _ {w base n : ℕ} {s : List ℕ} {o : Out} {t t₁ : List ℕ} {r₁ : G
     where
       go : Within base s (Value m p) → (m ≤ base + p) × (p ≤ length s)
       go (stopped x y) = (x, y)
+
+  -- what refuses is the reader's refusal
+  pub ran-refused : {k : Refusal} → r₁ ≡ Refused k → o ≡ refuse k
+  ran-refused {k} e = go o (sym (g .answered) ∙ e)
+    where
+      go : (o : Out) → answer n o ≡ Refused k → o ≡ refuse k
+      go (ok rs p) q = absurd (let z : _≡_ {A = ℕ} 0 1 = cc in omega arith)
+      go (refuse j) q = let x : j ≡ k = cc in ap refuse x
+
+  -- a list of its own that begins at place b here: what is read, and what is refused
+  pub ran-shifted : (b : ℕ) {m p : ℕ} → r₁ ≡ Value m p → Ran w base s (shifted b o) n t t₁ r₁
+  ran-shifted b {m} {p} e = go o g (sym (g .answered) ∙ e)
+    where
+      go : (o : Out) → Ran w base s o n t t₁ r₁ → answer n o ≡ Value m p → Ran w base s (shifted b o) n t t₁ r₁
+      go (ok rs p) h q = h
+      go (refuse j) h q = absurd (let z : _≡_ {A = ℕ} 0 1 = cc in omega arith)
+
+  pub ran-moved : (b : ℕ) {k : Refusal} → r₁ ≡ Refused k → Ran w base s (shifted b o) n t t₁ (Refused (moved b k))
+  ran-moved b e = rw (ran-refused e) (record { answered = refl; filled = tt; within = refused })
 
 -- a number that was read, a row, a refusal, another name of the same
 module _ {w base n : ℕ} {s t t₁ : List ℕ} {r : Got} where
@@ -114,10 +134,10 @@ module _ {w base n : ℕ} {s t t₁ : List ℕ} {r : Got} where
         within = g .within;
       }
 
-pub ran-no : {w base n k : ℕ} {s : List ℕ} {o : Out} {t t′ : List ℕ} → o ≡ refuse k → Ran w base s o n t t′ (Refused k)
+pub ran-no : {w base n : ℕ} {k : Refusal} {s : List ℕ} {o : Out} {t t′ : List ℕ} → o ≡ refuse k → Ran w base s o n t t′ (Refused k)
 ran-no e = rw e (record { answered = refl; filled = tt; within = refused })
 
-pub ran-on-no : {w base n k : ℕ} {s t : List ℕ} {d : Got} (f : ℕ → ℕ → Out) → d ≡ Refused k → Ran w base s (onGot d f) n t t (Refused k)
+pub ran-on-no : {w base n : ℕ} {k : Refusal} {s t : List ℕ} {d : Got} (f : ℕ → ℕ → Out) → d ≡ Refused k → Ran w base s (onGot d f) n t t (Refused k)
 ran-on-no f e = ran-no (rw e)
 
 module _ {w base n₀ p n : ℕ} {s : List ℕ} {o₀ o : Out} {t₀ t : List ℕ} (g : Going w base s o₀ n₀ t₀ o p n t) where
@@ -144,7 +164,7 @@ module _ {w base n₀ p n : ℕ} {s : List ℕ} {o₀ o : Out} {t₀ t : List �
         wide = l ∙ g .wide;
       }
 
-  pub going-halt : {base′ k : ℕ} {s′ t′ : List ℕ} {o′ : Out} {r : Got} (f : ℕ → Out) → o ≡ seq o′ f → Ran w base′ s′ o′ n t t′ r → r ≡ Refused k → Ran w base s o₀ n₀ t₀ t′ (Refused k)
+  pub going-halt : {base′ : ℕ} {k : Refusal} {s′ t′ : List ℕ} {o′ : Out} {r : Got} (f : ℕ → Out) → o ≡ seq o′ f → Ran w base′ s′ o′ n t t′ r → r ≡ Refused k → Ran w base s o₀ n₀ t₀ t′ (Refused k)
   going-halt {t′ = t′} {o′} f e h i =
       let z = seq-stop w o′ f n t t′ (sym (h .answered) ∙ i) in
       record { answered = sym (g .answers ∙ rw e (z .0)); filled = g .fills t′ (subst (λ x. Fills w t n x t′) (sym e) (z .1)); within = refused }
@@ -156,5 +176,5 @@ module _ {w base n₀ p n : ℕ} {s : List ℕ} {o₀ o : Out} {t₀ t : List �
     within = stopped (g .few) (g .inside);
   }
 
-  pub going-no : {k : ℕ} → o ≡ refuse k → Ran w base s o₀ n₀ t₀ t (Refused k)
+  pub going-no : {k : Refusal} → o ≡ refuse k → Ran w base s o₀ n₀ t₀ t (Refused k)
   going-no e = record { answered = sym (g .answers ∙ rw e); filled = g .fills t (subst (λ x. Fills w t n x t) (sym e) tt); within = refused }

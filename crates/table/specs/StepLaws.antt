@@ -3,6 +3,7 @@ use Prim.Native.Nat.{ℕ, zero, suc, _-_, _≤_, _<_}
 use native.Mathlib.Omega.{arith}
 use mathlib.Core.Path.{_≡_, refl, ap}
 use mathlib.Core.List.{List, [], _∷_, _++_, map}
+use Rattle.refusal.specs.declared.Refusal.{Refusal}
 use Rattle.codec.specs.Codec.{Res, ok, refuse, _>>=_, Codec, num, timesParse}
 use Rattle.numbers.specs.Numbers.{numAt}
 use Rattle.numbers.specs.NumberLaws.{numOf, num-is}
@@ -26,7 +27,7 @@ module _ {A : Type 0} (c : Codec A) (f : A → List ℕ) (base : ℕ) (s : List 
   items-row zero at h e = let z : ⊥ = omega arith in absurd z
   items-row (suc n) at {x} {p} h e = let k : suc n - 1 ≡ n = omega arith in rw (e, k) (items-tail x (timesParse c n base s p))
 
-  pub items-no : (n at : ℕ) {k : ℕ} → 0 < n → c .parse base s at ≡ refuse k → said (map f) (timesParse c n base s at) ≡ refuse k
+  pub items-no : (n at : ℕ) {k : Refusal} → 0 < n → c .parse base s at ≡ refuse k → said (map f) (timesParse c n base s at) ≡ refuse k
   items-no zero at h e = let z : ⊥ = omega arith in absurd z
   items-no (suc n) at h e = rw e
 
@@ -112,7 +113,7 @@ pub seq-ok : (rs : List (List ℕ)) (p : ℕ) (f : ℕ → Out) → seq (ok rs p
 unfolding seq
 seq-ok rs p f = refl
 
-pub seq-no : (k : ℕ) (f : ℕ → Out) → seq (refuse k) f ≡ refuse k
+pub seq-no : (k : Refusal) (f : ℕ → Out) → seq (refuse k) f ≡ refuse k
 unfolding seq
 seq-no k f = refl
 

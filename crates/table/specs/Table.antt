@@ -7,6 +7,7 @@ use mathlib.Core.List.{List, [], _∷_, _++_, map}
 use lib.ListN.{length}
 use lib.Seq.{sets}
 use lib.Dec.{ltb}
+use Rattle.refusal.specs.declared.Refusal.{Refusal}
 use Rattle.codec.specs.Codec.{Res, ok, refuse, _>>=_}
 use Rattle.numbers.specs.declared.Got.{Got}
 use Rattle.numbers.specs.declared.Got.the-variants.{Value, Refused}
@@ -66,7 +67,7 @@ answer n (refuse k) = Refused k
 -- a place within the section, and rows counted within the bytes passed
 pub data Within (base : ℕ) (s : List ℕ) : Got → Type 0 where
   stopped : {m p : ℕ} → m ≤ base + p → p ≤ length s → Within base s (Value m p)
-  refused : {k : ℕ} → Within base s (Refused k)
+  refused : {k : Refusal} → Within base s (Refused k)
 
 -- what a reader of rows at `at` asks: places from `base` on fit a u32, and there are no more rows than bytes before
 pub record Room (base : ℕ) (s : List ℕ) (at n : ℕ) : Type 0 where

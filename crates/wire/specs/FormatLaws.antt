@@ -5,7 +5,7 @@ use mathlib.Core.Path.{_≡_, refl}
 use mathlib.Core.Bool.{Bool, true, false}
 use mathlib.Core.List.{List, [], _∷_, _++_, append-nil}
 use lib.ListN.{length}
-use Rattle.codec.specs.Codec.{Bytes, little, raw, byte, named, checked, placed, sized, boxed, _then_}
+use Rattle.codec.specs.Codec.{Bytes, little, raw, fixed, named, checked, placed, sized, boxed, _then_}
 use Rattle.codec.specs.Format.{Format}
 use Rattle.wire.specs.Formats.{Name, section, noNul, textOf, text, name}
 
@@ -35,23 +35,23 @@ module _ {A : Type 0} (F : Format A false) where
 module _ (utf8 : List ℕ → Bool) where
   -- a name without its place
   pub name-bare : (n : Name) → name utf8 .codec .bare n ≡ record { start = 0; text = n .text }
-  unfolding name named _then_ text sized textOf placed checked raw byte
+  unfolding name named _then_ text sized textOf placed checked raw fixed
   name-bare n = refl
 
   -- what is said of its place is said of its start
   pub name-start : (P : ℕ → List ℕ → Type 0) (n : Name) → name utf8 .codec .each P n → P (n .start) (n .text)
-  unfolding name named _then_ text sized textOf placed checked raw byte
+  unfolding name named _then_ text sized textOf placed checked raw fixed
   name-start P n e = e .0
 
   pub name-each : (P : ℕ → List ℕ → Type 0) (n : Name) → P (n .start) (n .text) → name utf8 .codec .each P n
-  unfolding name named _then_ text sized textOf placed checked raw byte
+  unfolding name named _then_ text sized textOf placed checked raw fixed
   name-each P n h = (h, tt)
 
   -- its bytes, and that it has bytes
   pub name-print : (n : Name) → name utf8 .codec .print n ≡ little 1 (length (n .text)) ++ (n .text ++ (0 ∷ []))
-  unfolding name named _then_ text sized textOf placed checked raw byte
+  unfolding name named _then_ text sized textOf placed checked raw fixed
   name-print n = refl
 
   pub name-legal : (n : Name) → length (n .text) < 256 → Bytes (n .text) → noNul (n .text) ≡ true → utf8 (n .text) ≡ true → name utf8 .codec .legal n
-  unfolding name named _then_ text sized textOf placed checked raw byte
+  unfolding name named _then_ text sized textOf placed checked raw fixed
   name-legal n l b c u = ((l, (((refl, b), c), u)), omega arith)

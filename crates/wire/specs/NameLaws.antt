@@ -8,7 +8,8 @@ use mathlib.Core.List.{List, [], _∷_}
 use lib.ListN.{length, getD, take, drop, length-take, length-drop}
 use lib.Seq.{take-length}
 use borrow.Author.Tests.{ne-eqb}
-use Rattle.codec.specs.Codec.{Res, ok, refuse, raw, num, byte, _then_, named, checked, placed, sized, among}
+use Rattle.refusal.specs.declared.Refusal.{Refusal}
+use Rattle.codec.specs.Codec.{Res, ok, refuse, refusal, raw, num, fixed, _then_, named, checked, placed, sized, among}
 use Rattle.codec.specs.StepLaws.{raw-got, raw-bad, byte-got, byte-bad}
 use Rattle.codec.specs.CaseLaws.{by-bool, by-le, by-eqb}
 use Rattle.text.specs.Utf8.{utf8}
@@ -53,7 +54,7 @@ text-plain t e = text-fine t (plain-nul t e) (plain-utf8 t e)
 
 -- a text without fault passes both tests, and one with a fault is refused by it
 data Judged (t : List ℕ) : Type 0 where
-  bad : {k : ℕ} → textFault t ≡ k → (k ≡ 0 → ⊥) → ((base : ℕ) (s : List ℕ) (i n : ℕ) → raw 50 n .parse base s i ≡ ok t (i + n) → textOf utf8 n .codec .parse base s i ≡ refuse k) → Judged t
+  bad : {k : ℕ} → textFault t ≡ k → (k ≡ 0 → ⊥) → ((base : ℕ) (s : List ℕ) (i n : ℕ) → raw 50 n .parse base s i ≡ ok t (i + n) → textOf utf8 n .codec .parse base s i ≡ refuse (refusal k i)) → Judged t
   good : textFault t ≡ 0 → ((base : ℕ) (s : List ℕ) (i n : ℕ) → raw 50 n .parse base s i ≡ ok t (i + n) → textOf utf8 n .codec .parse base s i ≡ ok (base + i, t) (i + n)) → Judged t
 
 judged : (t : List ℕ) → Judged t
@@ -69,7 +70,7 @@ judged t =
 -- ---- a name: n is its length byte, t its text
 
 module _ (base : ℕ) (s : List ℕ) (i : ℕ) where
-  name-none : length s ≤ i → name .parse base s i ≡ refuse 50
+  name-none : length s ≤ i → name .parse base s i ≡ refuse (refusal 50 i)
   unfolding Formats.name named _then_ text sized
   name-none h = rw (byte-bad 50 base s i h)
 
@@ -77,26 +78,26 @@ module _ (base : ℕ) (s : List ℕ) (i : ℕ) where
     name-len : num 50 1 .parse base s i ≡ ok n (i + 1)
     name-len = byte-got 50 base s i h ∙ ap (λ v. ok v (i + 1)) (sym en)
 
-    name-cut : length s < i + 1 + n → name .parse base s i ≡ refuse 50
+    name-cut : length s < i + 1 + n → name .parse base s i ≡ refuse (refusal 50 (i + 1))
     unfolding Formats.name named _then_ text sized textOf placed checked
     name-cut h1 = rw (name-len, raw-bad 50 n base s (i + 1) h1)
 
-    name-bad : {k : ℕ} → textOf utf8 n .codec .parse base s (i + 1) ≡ refuse k → name .parse base s i ≡ refuse k
+    name-bad : {k : Refusal} → textOf utf8 n .codec .parse base s (i + 1) ≡ refuse k → name .parse base s i ≡ refuse k
     unfolding Formats.name named _then_ text sized
     name-bad e = rw (name-len, e)
 
     module _ {t : List ℕ} (e : textOf utf8 n .codec .parse base s (i + 1) ≡ ok (base + (i + 1), t) (i + 1 + n)) where
-      name-end : length s ≤ i + 1 + n → name .parse base s i ≡ refuse 50
-      unfolding Formats.name named _then_ text sized byte
+      name-end : length s ≤ i + 1 + n → name .parse base s i ≡ refuse (refusal 50 (i + 1 + n))
+      unfolding Formats.name named _then_ text sized fixed
       name-end h2 = rw (name-len, e, byte-bad 50 base s (i + 1 + n) h2)
 
       module _ (h2 : i + 1 + n < length s) where
-        name-open : (getD s (i + 1 + n) 0 ≡ 0 → ⊥) → name .parse base s i ≡ refuse 54
-        unfolding Formats.name named _then_ text sized byte
+        name-open : (getD s (i + 1 + n) 0 ≡ 0 → ⊥) → name .parse base s i ≡ refuse (refusal 54 (i + 1 + n))
+        unfolding Formats.name named _then_ text sized fixed
         name-open z = rw (name-len, e, byte-got 50 base s (i + 1 + n) h2, ne-eqb 0 (getD s (i + 1 + n) 0) (λ q. z (sym q)))
 
         name-got : getD s (i + 1 + n) 0 ≡ 0 → name .parse base s i ≡ ok (record { start = base + (i + 1); text = t }) (i + 1 + n + 1)
-        unfolding Formats.name named _then_ text sized byte
+        unfolding Formats.name named _then_ text sized fixed
         name-got z = rw (name-len, e, byte-got 50 base s (i + 1 + n) h2, z)
 
 -- what the reader of names tells of the name, wherever the bytes stand
@@ -117,16 +118,16 @@ module _ (s : List ℕ) (i : ℕ) where
     pub parse : (base : ℕ) → name .parse base s i ≡ nameOf base s i g
     pub place : {n q : ℕ} → g ≡ Value n q → (n ≡ len) × (q ≡ i + 1 + n + 1) × (length (take n (drop (i + 1) s)) ≡ n)
 
-  exit-no : (k : ℕ) → ((base : ℕ) → name .parse base s i ≡ refuse k) → Exit (Refused k)
+  exit-no : (k : Refusal) → ((base : ℕ) → name .parse base s i ≡ refuse k) → Exit (Refused k)
   unfolding nameAt
   exit-no k e = record { is = rw (e 0); parse = e; place = λ q. absurd (let z : _≡_ {A = ℕ} 0 1 = cc in omega arith) }
 
-  exit-none : length s ≤ i → Exit (Refused 50)
-  exit-none h = exit-no 50 (λ base. name-none base s i h)
+  exit-none : length s ≤ i → Exit (Refused (refusal 50 i))
+  exit-none h = exit-no _ (λ base. name-none base s i h)
 
   module _ (h : i < length s) where
-    exit-cut : length s < i + 1 + len → Exit (Refused 50)
-    exit-cut h1 = exit-no 50 (λ base. name-cut base s i len h refl h1)
+    exit-cut : length s < i + 1 + len → Exit (Refused (refusal 50 (i + 1)))
+    exit-cut h1 = exit-no _ (λ base. name-cut base s i len h refl h1)
 
     module _ (h1 : i + 1 + len ≤ length s) where
       body : (base : ℕ) → raw 50 len .parse base s (i + 1) ≡ ok text-of (i + 1 + len)
@@ -135,11 +136,11 @@ module _ (s : List ℕ) (i : ℕ) where
       text-long : length text-of ≡ len
       text-long = simp (length-take, length-drop) (omega arith)
 
-      exit-bad : (textFault text-of ≡ 0 → ⊥) → Exit (Refused (textFault text-of))
+      exit-bad : (textFault text-of ≡ 0 → ⊥) → Exit (Refused (refusal (textFault text-of) (i + 1)))
       exit-bad z = go (judged text-of)
         where
-          go : Judged text-of → Exit (Refused (textFault text-of))
-          go (bad {k} e _ f) = exit-no _ (λ base. name-bad base s i len h refl (f base s (i + 1) len (body base)) ∙ ap refuse (sym e))
+          go : Judged text-of → Exit (Refused (refusal (textFault text-of) (i + 1)))
+          go (bad {k} e _ f) = exit-no _ (λ base. name-bad base s i len h refl (f base s (i + 1) len (body base)) ∙ ap (λ (n : ℕ). refuse (refusal n (i + 1))) (sym e))
           go (good e _) = absurd (z e)
 
       module _ (z : textFault text-of ≡ 0) where
@@ -150,12 +151,12 @@ module _ (s : List ℕ) (i : ℕ) where
             go (bad e n _) = absurd (n (sym e ∙ z))
             go (good _ f) = f base s (i + 1) len (body base)
 
-        exit-end : length s ≤ i + 1 + len → Exit (Refused 50)
-        exit-end h2 = exit-no 50 (λ base. name-end base s i len h refl (read base) h2)
+        exit-end : length s ≤ i + 1 + len → Exit (Refused (refusal 50 (i + 1 + len)))
+        exit-end h2 = exit-no _ (λ base. name-end base s i len h refl (read base) h2)
 
         module _ (h2 : i + 1 + len < length s) where
-          exit-open : (getD s (i + 1 + len) 0 ≡ 0 → ⊥) → Exit (Refused 54)
-          exit-open n = exit-no 54 (λ base. name-open base s i len h refl (read base) h2 n)
+          exit-open : (getD s (i + 1 + len) 0 ≡ 0 → ⊥) → Exit (Refused (refusal 54 (i + 1 + len)))
+          exit-open n = exit-no _ (λ base. name-open base s i len h refl (read base) h2 n)
 
           exit-got : getD s (i + 1 + len) 0 ≡ 0 → Exit (Value len (i + 1 + len + 1))
           unfolding nameAt
@@ -173,19 +174,19 @@ module _ (s : List ℕ) (i : ℕ) where
 
   any-exit : (g : Got) × Exit g
   any-exit =
-      by-le (length s) i (λ h. (Refused 50, exit-none h))
+      by-le (length s) i (λ h. (_, exit-none h))
       (λ h.
       by-le (i + 1 + len) (length s)
       (λ h1.
       by-eqb (textFault text-of) 0
       (λ _ z.
-      by-le (length s) (i + 1 + len) (λ h2. (Refused 50, exit-end h h1 z h2))
+      by-le (length s) (i + 1 + len) (λ h2. (_, exit-end h h1 z h2))
       (λ h2.
       by-eqb (getD s (i + 1 + len) 0) 0
-      (λ _ n. (Value len (i + 1 + len + 1), exit-got h h1 z h2 n))
-      (λ _ n. (Refused 54, exit-open h h1 z h2 n))))
-      (λ _ z. (Refused (textFault text-of), exit-bad h h1 z)))
-      (λ h1. (Refused 50, exit-cut h h1)))
+      (λ _ n. (_, exit-got h h1 z h2 n))
+      (λ _ n. (_, exit-open h h1 z h2 n))))
+      (λ _ z. (_, exit-bad h h1 z)))
+      (λ h1. (_, exit-cut h h1)))
 
   pub name-is : (base : ℕ) → name .parse base s i ≡ nameOf base s i (nameAt s i)
   name-is base = let (g, x) = any-exit in x .parse base ∙ ap (nameOf base s i) (sym (x .is))
@@ -195,30 +196,30 @@ module _ (s : List ℕ) (i : ℕ) where
   name-place e = let (g, x) = any-exit in x .place (sym (x .is) ∙ e)
 
   -- what the code of the reader meets
-  pub name-none-at : length s - i < 1 → Refused 50 ≡ nameAt s i
+  pub name-none-at : length s - i < 1 → Refused (refusal 50 i) ≡ nameAt s i
   name-none-at h = sym (exit-none (omega arith) .is)
 
   module _ (h : 1 ≤ length s - i) {n : ℕ} (en : n ≡ len) where
-    pub name-cut-at : length s - (i + 1) < n → Refused 50 ≡ nameAt s i
+    pub name-cut-at : length s - (i + 1) < n → Refused (refusal 50 (i + 1)) ≡ nameAt s i
     name-cut-at h1 = sym (exit-cut (omega arith) (omega arith) .is)
 
     module _ (h1 : n ≤ length s - (i + 1)) {why : ℕ} (ew : why ≡ textFault (part s (i + 1) (i + 1 + n))) where
       text-is : part s (i + 1) (i + 1 + n) ≡ text-of
       text-is = let d : i + 1 + n - (i + 1) ≡ len = omega arith in rw d refl
 
-      pub name-bad-at : (why ≡ 0 → ⊥) → Refused why ≡ nameAt s i
-      name-bad-at z = let e = ew ∙ ap textFault text-is in ap Refused e ∙ sym (exit-bad (omega arith) (omega arith) (λ q. z (e ∙ q)) .is)
+      pub name-bad-at : (why ≡ 0 → ⊥) → Refused (refusal why (i + 1)) ≡ nameAt s i
+      name-bad-at z = let e = ew ∙ ap textFault text-is in ap (λ (n : ℕ). Refused (refusal n (i + 1))) e ∙ sym (exit-bad (omega arith) (omega arith) (λ q. z (e ∙ q)) .is)
 
       module _ (z : why ≡ 0) where
         fine : textFault text-of ≡ 0
         fine = ap textFault (sym text-is) ∙ sym ew ∙ z
 
-        pub name-end-at : length s - (i + 1 + n) < 1 → Refused 50 ≡ nameAt s i
-        name-end-at h2 = sym (exit-end (omega arith) (omega arith) fine (omega arith) .is)
+        pub name-end-at : length s - (i + 1 + n) < 1 → Refused (refusal 50 (i + 1 + n)) ≡ nameAt s i
+        name-end-at h2 = ap (λ (m : ℕ). Refused (refusal 50 (i + 1 + m))) en ∙ sym (exit-end (omega arith) (omega arith) fine (omega arith) .is)
 
         module _ (h2 : 1 ≤ length s - (i + 1 + n)) where
-          pub name-open-at : (getD s (i + 1 + n) 0 ≡ 0 → ⊥) → Refused 54 ≡ nameAt s i
-          name-open-at o = sym (exit-open (omega arith) (omega arith) fine (omega arith) (rw en at o) .is)
+          pub name-open-at : (getD s (i + 1 + n) 0 ≡ 0 → ⊥) → Refused (refusal 54 (i + 1 + n)) ≡ nameAt s i
+          name-open-at o = ap (λ (m : ℕ). Refused (refusal 54 (i + 1 + m))) en ∙ sym (exit-open (omega arith) (omega arith) fine (omega arith) (rw en at o) .is)
 
           pub name-got-at : getD s (i + 1 + n) 0 ≡ 0 → Value n (i + 1 + n + 1) ≡ nameAt s i
           name-got-at o = ap (λ (m : ℕ). Value m (i + 1 + m + 1)) en ∙ sym (exit-got (omega arith) (omega arith) fine (omega arith) (rw en at o) .is)
@@ -228,5 +229,5 @@ pub name-ok : (base : ℕ) (s : List ℕ) (at : ℕ) {len p : ℕ} → nameAt s 
 name-ok base s at {len} {p} e =
     (record { start = base + (at + 1); text = take len (drop (at + 1) s) }, name-is s at base ∙ ap (nameOf base s at) e, refl, name-place s at e .2)
 
-pub name-no : (base : ℕ) (s : List ℕ) (at : ℕ) {k : ℕ} → nameAt s at ≡ Refused k → name .parse base s at ≡ refuse k
+pub name-no : (base : ℕ) (s : List ℕ) (at : ℕ) {k : Refusal} → nameAt s at ≡ Refused k → name .parse base s at ≡ refuse k
 name-no base s at e = name-is s at base ∙ ap (nameOf base s at) e

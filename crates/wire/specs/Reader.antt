@@ -3,6 +3,7 @@
 use Prim.Native.Nat.{ℕ, _+_, _≤_}
 use mathlib.Core.List.{List, [], _∷_}
 use lib.ListN.{length}
+use Rattle.refusal.specs.declared.Refusal.{Refusal}
 use Rattle.codec.specs.Codec.{faultOf, Codec}
 use Rattle.codec.specs.Format.{raw}
 use Rattle.text.specs.Utf8.{utf8}
@@ -39,4 +40,4 @@ sectionNumbers = 50 ∷ 51 ∷ []
 -- a part of s from `at` on
 pub data Lies (s : List ℕ) (at : ℕ) : Got → Type 0 where
   lies : {b e : ℕ} → at ≤ b → b ≤ e → e ≤ length s → Lies s at (Value b e)
-  outside : {k : ℕ} → Lies s at (Refused k)
+  outside : {k : Refusal} → Lies s at (Refused k)

@@ -5,6 +5,7 @@ use mathlib.Core.Path.{_≡_, refl}
 use mathlib.Core.Bool.{Bool, false}
 use mathlib.Core.List.{List}
 use lib.ListN.{length}
+use Rattle.refusal.specs.declared.Refusal.{Refusal}
 use Rattle.codec.specs.Format.{Format, raw}
 use Rattle.codec.specs.Refusals.{In}
 use Rattle.text.specs.Utf8.{utf8}
@@ -23,14 +24,14 @@ module _ (P : ℕ → Type 0) where
   unfolding section
   section-numbers F h f = (f, (h 50 refl, (h 51 refl, h 50 refl)))
 
-module _ (s : List ℕ) (at : ℕ) {k : ℕ} where
-  pub name-refuses : nameAt s at ≡ Refused k → In nameNumbers k
+module _ (s : List ℕ) (at : ℕ) {k : Refusal} where
+  pub name-refuses : nameAt s at ≡ Refused k → In nameNumbers (k .number)
   unfolding nameAt
   name-refuses e =
       got-refuses (In nameNumbers) (λ n. length (n .text)) (Formats.name utf8 .codec .parse 0 s at)
       (Formats.name utf8 .refuses (In nameNumbers) (name-numbers (In nameNumbers) utf8 (λ k i. i)) 0 s at) e
 
-  pub section-refuses : sectionAt s at ≡ Refused k → In sectionNumbers k
+  pub section-refuses : sectionAt s at ≡ Refused k → In sectionNumbers (k .number)
   unfolding sectionAt
   section-refuses e =
       got-refuses (In sectionNumbers) (λ _. at + 2) (section (raw 50 0) .codec .parse 0 s at)

@@ -7,7 +7,8 @@ use mathlib.Core.Bool.{false}
 use mathlib.Core.List.{List}
 use lib.ListN.{length, take, drop}
 use borrow.Author.Tests.{le-leb, lt-leb}
-use Rattle.codec.specs.Codec.{Res, ok, refuse, _>>=_, raw, whole, boxed}
+use Rattle.refusal.specs.declared.Refusal.{Refusal}
+use Rattle.codec.specs.Codec.{Res, ok, refuse, refusal, shifted, _>>=_, raw, whole, boxed}
 use Rattle.codec.specs.Format as format
 use Rattle.codec.specs.Format.{Format}
 use Rattle.codec.specs.StepLaws.{raw-got, raw-bad}
@@ -32,27 +33,27 @@ lies-at {s} {at} {b} {e} h q = go (rw q at h)
 -- ---- each exit, for any contents
 
 module _ {A : Type 0} (F : Format A false) (s : List ℕ) (at : ℕ) where
-  short : {k : ℕ} → u16At s at ≡ Refused k → section F .codec .parse 0 s at ≡ refuse k
+  short : {k : Refusal} → u16At s at ≡ Refused k → section F .codec .parse 0 s at ≡ refuse k
   unfolding section boxed
   short e = rw (num-is 50 2 s at 0, e)
 
   module _ {len b : ℕ} (e : u16At s at ≡ Value len b) where
-    below : len < 2 → section F .codec .parse 0 s at ≡ refuse 51
+    below : len < 2 → section F .codec .parse 0 s at ≡ refuse (refusal 51 at)
     unfolding section boxed
     below h = rw (num-is 50 2 s at 0, e, lt-leb 2 len h)
 
-    past-end : 2 ≤ len → length s < b + (len - 2) → section F .codec .parse 0 s at ≡ refuse 50
+    past-end : 2 ≤ len → length s < b + (len - 2) → section F .codec .parse 0 s at ≡ refuse (refusal 50 b)
     unfolding section boxed
     past-end h i = rw (num-is 50 2 s at 0, e, le-leb 2 len h, raw-bad 50 (len - 2) 0 s b i)
 
     opened : 2 ≤ len → b + (len - 2) ≤ length s
-        → section F .codec .parse 0 s at ≡ (F .codec .parse b (take (len - 2) (drop b s)) 0 >>= λ x j. ok (x, drop j (take (len - 2) (drop b s))) (b + (len - 2)))
+        → section F .codec .parse 0 s at ≡ (shifted b (F .codec .parse b (take (len - 2) (drop b s)) 0) >>= λ x j. ok (x, drop j (take (len - 2) (drop b s))) (b + (len - 2)))
     unfolding section boxed whole
     opened h i =
         rw (num-is 50 2 s at 0, e, le-leb 2 len h, raw-got 50 (len - 2) 0 s b i, zero-add b)
         (go (F .codec .parse b (take (len - 2) (drop b s)) 0) (take (len - 2) (drop b s)))
       where
-        go : (r : Res A) (body : List ℕ) → ((_>>=_ {B = A × List ℕ} r λ x j. ok (x, drop j body) (length body)) >>= λ z _. ok z (b + (len - 2))) ≡ (_>>=_ {B = A × List ℕ} r λ x j. ok (x, drop j body) (b + (len - 2)))
+        go : (r : Res A) (body : List ℕ) → (shifted b (_>>=_ {B = A × List ℕ} r λ x j. ok (x, drop j body) (length body)) >>= λ z _. ok z (b + (len - 2))) ≡ (_>>=_ {B = A × List ℕ} (shifted b r) λ x j. ok (x, drop j body) (b + (len - 2)))
         go (ok x j) body = refl
         go (refuse k) body = refl
 
@@ -65,16 +66,16 @@ nothing-read : (b : ℕ) (t : List ℕ) → raw 50 0 .parse b t 0 ≡ ok (take 0
 nothing-read b t = raw-got 50 0 b t 0 (omega arith)
 
 module _ (s : List ℕ) (at : ℕ) where
-  pub section-short : {k : ℕ} → u16At s at ≡ Refused k → Refused k ≡ sectionAt s at
+  pub section-short : {k : Refusal} → u16At s at ≡ Refused k → Refused k ≡ sectionAt s at
   unfolding sectionAt nothing
   section-short e = rw (short nothing s at e)
 
   module _ {len b : ℕ} (e : u16At s at ≡ Value len b) where
-    pub section-51 : len < 2 → Refused 51 ≡ sectionAt s at
+    pub section-51 : len < 2 → Refused (refusal 51 at) ≡ sectionAt s at
     unfolding sectionAt nothing
     section-51 h = rw (below nothing s at e h)
 
-    pub section-50 : 2 ≤ len → length s - b < len - 2 → Refused 50 ≡ sectionAt s at
+    pub section-50 : 2 ≤ len → length s - b < len - 2 → Refused (refusal 50 b) ≡ sectionAt s at
     unfolding sectionAt nothing
     section-50 h i = let w = u16-value s at e in rw (past-end nothing s at e h (omega arith))
 
@@ -97,7 +98,7 @@ pub record Body (s : List ℕ) (at b e : ℕ) : Type 0 where
 -- a section is found, or refused whatever its contents
 data Exit (s : List ℕ) (at : ℕ) : Type 1 where
   found : {b e : ℕ} → sectionAt s at ≡ Value b e → Body s at b e → Exit s at
-  refused : {k : ℕ} → sectionAt s at ≡ Refused k → ((A : Type 0) (F : Format A false) → section F .codec .parse 0 s at ≡ refuse k) → Exit s at
+  refused : {k : Refusal} → sectionAt s at ≡ Refused k → ((A : Type 0) (F : Format A false) → section F .codec .parse 0 s at ≡ refuse k) → Exit s at
 
 exit : (s : List ℕ) (at : ℕ) → Exit s at
 exit s at = go (u16At s at) refl
@@ -120,13 +121,13 @@ section-of s at {b} {e} q = go (exit s at)
     go (refused f _) = let z = sym f ∙ q in absurd (let y : _≡_ {A = ℕ} 0 1 = cc in omega arith)
 
 module _ {A : Type 0} (F : Format A false) (s : List ℕ) (at : ℕ) where
-  pub section-got : {b e : ℕ} → sectionAt s at ≡ Value b e → section F .codec .parse 0 s at ≡ (F .codec .parse b (part s b e) 0 >>= λ x j. ok (x, drop j (part s b e)) e)
+  pub section-got : {b e : ℕ} → sectionAt s at ≡ Value b e → section F .codec .parse 0 s at ≡ (shifted b (F .codec .parse b (part s b e) 0) >>= λ x j. ok (x, drop j (part s b e)) e)
   section-got {b} {e} q =
       let w = section-of s at q in
       let d : b + (w .len - 2) - b ≡ w .len - 2 = omega arith in
       rw (w .end, d) (opened F s at (w .number) (w .two) (omega (arith, w .end, w .inside)))
 
-  pub section-bad : {k : ℕ} → sectionAt s at ≡ Refused k → section F .codec .parse 0 s at ≡ refuse k
+  pub section-bad : {k : Refusal} → sectionAt s at ≡ Refused k → section F .codec .parse 0 s at ≡ refuse k
   section-bad {k} q = go (exit s at)
     where
       go : Exit s at → section F .codec .parse 0 s at ≡ refuse k

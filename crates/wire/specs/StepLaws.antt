@@ -5,7 +5,8 @@ use mathlib.Core.Path.{_≡_, refl, sym, ap, _∙_}
 use mathlib.Core.Bool.{false}
 use mathlib.Core.List.{List, [], _∷_, _++_}
 use lib.ListN.{length, take, drop}
-use Rattle.codec.specs.Codec.{Res, ok, refuse, _>>=_, Codec, named, timesParse}
+use Rattle.refusal.specs.declared.Refusal.{Refusal}
+use Rattle.codec.specs.Codec.{Res, ok, refuse, moved, shifted, _>>=_, Codec, named, timesParse}
 use Rattle.codec.specs.Format.{Format}
 use Rattle.numbers.specs.Numbers.{part}
 use Rattle.table.specs.Table.{Out, allRows, said, seq, onGot}
@@ -40,7 +41,7 @@ module _ {A B : Type 0} (F : Format A false) (to : A × List ℕ → B) (from : 
   parts-end (suc n) at h = let z : ⊥ = omega arith in absurd z
 
   pub parts-run : (n at : ℕ) {b e : ℕ} → 0 < n → sectionAt s at ≡ Value b e
-      → said (allRows f) (timesParse item n 0 s at) ≡ seq (said (λ x. f (to (x, []))) (F .codec .parse b (part s b e) 0)) (λ _. said (allRows f) (timesParse item (n - 1) 0 s e))
+      → said (allRows f) (timesParse item n 0 s at) ≡ seq (shifted b (said (λ x. f (to (x, []))) (F .codec .parse b (part s b e) 0))) (λ _. said (allRows f) (timesParse item (n - 1) 0 s e))
   unfolding named
   parts-run zero at h q = let z : ⊥ = omega arith in absurd z
   parts-run (suc n) at {b} {e} h q = let k : suc n - 1 ≡ n = omega arith in rw (section-got F s at q, k) (go (F .codec .parse b (part s b e) 0))
@@ -50,12 +51,12 @@ module _ {A B : Type 0} (F : Format A false) (to : A × List ℕ → B) (from : 
       tail x l (refuse k) = refl
 
       go : (r : Res A)
-          → said (allRows f) (((_>>=_ {B = A × List ℕ} r λ x j. ok (x, drop j (part s b e)) e) >>= λ x j. ok (to x) j) >>= λ x j. timesParse item n 0 s j >>= λ xs k. ok (x ∷ xs) k)
-          ≡ seq (said (λ x. f (to (x, []))) r) (λ _. said (allRows f) (timesParse item n 0 s e))
+          → said (allRows f) (((_>>=_ {B = A × List ℕ} (shifted b r) λ x j. ok (x, drop j (part s b e)) e) >>= λ x j. ok (to x) j) >>= λ x j. timesParse item n 0 s j >>= λ xs k. ok (x ∷ xs) k)
+          ≡ seq (shifted b (said (λ x. f (to (x, []))) r)) (λ _. said (allRows f) (timesParse item n 0 s e))
       go (ok x j) = tail x (drop j (part s b e)) (timesParse item n 0 s e) ∙ sym (seq-ok (f (to (x, []))) j (λ _. said (allRows f) (timesParse item n 0 s e)))
-      go (refuse k) = sym (seq-no k (λ _. said (allRows f) (timesParse item n 0 s e)))
+      go (refuse k) = sym (seq-no (moved b k) (λ _. said (allRows f) (timesParse item n 0 s e)))
 
-  pub parts-no : (n at : ℕ) {k : ℕ} → 0 < n → sectionAt s at ≡ Refused k → said (allRows f) (timesParse item n 0 s at) ≡ refuse k
+  pub parts-no : (n at : ℕ) {k : Refusal} → 0 < n → sectionAt s at ≡ Refused k → said (allRows f) (timesParse item n 0 s at) ≡ refuse k
   unfolding named
   parts-no zero at h q = let z : ⊥ = omega arith in absurd z
   parts-no (suc n) at h q = rw (section-bad F s at q)

@@ -1,5 +1,6 @@
 // Names and sections at a place of a slice. Any slice and any place get an answer.
 use numbers::Got;
+use refusal::Refusal;
 ghost use mathlib.Core.Path.{_≡_};
 ghost use Prim.Native.Nat.{_+_, _<_};
 ghost use Rattle.codec.specs.Codec.{among};
@@ -11,23 +12,36 @@ pub fn name_at(s: &[u8], at: usize) -> Got
     ensures { λ r. ⌜ (r ≡ nameAt (now (s .entry)) at) × Past 256 2 (now (s .entry)) at r ⌝ }
 {
     if numbers::left(s, at) < 1 {
-        return Got::Refused(refusal::LAYOUT_TRUNCATED);
+        return Got::Refused(Refusal {
+            number: refusal::LAYOUT_TRUNCATED,
+            place: at,
+        });
     }
     let len = numbers::wide(s[at]);
     let b = at + 1;
     if numbers::left(s, b) < len {
-        return Got::Refused(refusal::LAYOUT_TRUNCATED);
+        return Got::Refused(Refusal {
+            number: refusal::LAYOUT_TRUNCATED,
+            place: b,
+        });
     }
     let e = b + len;
     let why = text_fault(&s[b..e]);
     if why != 0 {
-        return Got::Refused(why);
+        return Got::Refused(Refusal {
+            number: why,
+            place: b,
+        });
     }
     if numbers::left(s, e) < 1 {
-        return Got::Refused(refusal::LAYOUT_TRUNCATED);
+        return Got::Refused(Refusal {
+            number: refusal::LAYOUT_TRUNCATED,
+            place: e,
+        });
     }
     if s[e] != 0 {
-        return Got::Refused(refusal::NAME_NOT_CLOSED);
+        let number = refusal::NAME_NOT_CLOSED;
+        return Got::Refused(Refusal { number, place: e });
     }
     Got::Value {
         value: len,
@@ -42,11 +56,17 @@ pub fn section_at(s: &[u8], at: usize) -> Got
     match numbers::u16_at(s, at, refusal::LAYOUT_TRUNCATED) {
         Got::Value { value, next } => {
             if value < 2 {
-                return Got::Refused(refusal::SECTION_SHORT);
+                return Got::Refused(Refusal {
+                    number: refusal::SECTION_SHORT,
+                    place: at,
+                });
             }
             let n = value - 2;
             if numbers::left(s, next) < n {
-                return Got::Refused(refusal::LAYOUT_TRUNCATED);
+                return Got::Refused(Refusal {
+                    number: refusal::LAYOUT_TRUNCATED,
+                    place: next,
+                });
             }
             Got::Value {
                 value: next,

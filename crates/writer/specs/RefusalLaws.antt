@@ -1,4 +1,4 @@
--- Which numbers the writer gives.
+-- Which numbers the writer gives; none is about a byte.
 -- Assumes nothing.
 use Prim.Native.Nat.{ℕ}
 use native.Mathlib.Omega.{arith}
@@ -8,6 +8,8 @@ use mathlib.Core.List.{List}
 use lib.ListN.{length}
 use lib.Dec.{leb, eqb}
 use borrow.Author.Tests.{eqb-false}
+use Rattle.refusal.specs.declared.Refusal.{Refusal}
+use Rattle.codec.specs.Codec.{refusal}
 use Rattle.codec.specs.Refusals.{In, Fault}
 use Rattle.codec.specs.RefusalLaws.{in-more}
 use Rattle.rules.specs.RowRules.{rowRuleNumbers, rowsFault}
@@ -17,18 +19,22 @@ use Rattle.writer.specs.Write.{roomy, writeNumbers, writeLayout, Writes}
 use Rattle.writer.specs.declared.Written.{Written}
 use Rattle.writer.specs.declared.Written.the-variants.{Length, Refused}
 
+-- one of the writer's numbers, with place 0
+abbrev Placeless : Refusal → Type 0
+Placeless k = In writeNumbers (k .number) × (k .place ≡ 0)
+
 -- by a number that is no refusal where it is 0
-judged-refuses : (n : ℕ) (x : Written) {k : ℕ} → Fault (In writeNumbers) n → (x ≡ Refused k → In writeNumbers k) → cond (eqb 0 n) x (Refused n) ≡ Refused k → In writeNumbers k
+judged-refuses : (n : ℕ) (x : Written) {k : Refusal} → Fault (In writeNumbers) n → (x ≡ Refused k → Placeless k) → cond (eqb 0 n) x (Refused (refusal n 0)) ≡ Refused k → Placeless k
 judged-refuses n x {k} f h e = go (eqb 0 n) refl e
   where
-    go : (b : Bool) → eqb 0 n ≡ b → cond b x (Refused n) ≡ Refused k → In writeNumbers k
+    go : (b : Bool) → eqb 0 n ≡ b → cond b x (Refused (refusal n 0)) ≡ Refused k → Placeless k
     go true z e = h e
-    go false z e = let q : n ≡ k = cc in subst (In writeNumbers) q (f (λ i. eqb-false 0 n z (sym i)))
+    go false z e = let q : refusal n 0 ≡ k = cc in subst Placeless q (f (λ i. eqb-false 0 n z (sym i)), refl)
 
 module _ (sheet : List ℕ) (width version : ℕ) (rows text : List ℕ) where
-  pub answer-refuses : (room : ℕ) {k : ℕ} → writeLayout sheet width version rows text room ≡ Refused k → In writeNumbers k
+  answer-placeless : (room : ℕ) {k : Refusal} → writeLayout sheet width version rows text room ≡ Refused k → Placeless k
   unfolding writeLayout
-  answer-refuses room {k} e =
+  answer-placeless room {k} e =
       judged-refuses (rowsFault sheet width true rows text) inner
       (λ n. in-more (rowRuleNumbers true) writeNumbers refl (rowsFault sheet width true rows text) (rows-refuse sheet width true rows text n))
       (roomy-refuses (leb (length (printed version rows text)) room)) e
@@ -36,10 +42,17 @@ module _ (sheet : List ℕ) (width version : ℕ) (rows text : List ℕ) where
       inner : Written
       inner = roomy (printed version rows text) room (Length (length (printed version rows text)))
 
-      roomy-refuses : (b : Bool) → cond b (Length (length (printed version rows text))) (Refused 96) ≡ Refused k → In writeNumbers k
+      roomy-refuses : (b : Bool) → cond b (Length (length (printed version rows text))) (Refused (refusal 96 0)) ≡ Refused k → Placeless k
       roomy-refuses true e = let z : _≡_ {A = ℕ} 0 1 = cc in absurd (omega arith)
-      roomy-refuses false e = let q : 96 ≡ k = cc in subst (In writeNumbers) q refl
+      roomy-refuses false e = let q : refusal 96 0 ≡ k = cc in subst Placeless q (refl, refl)
+
+  pub answer-refuses : (room : ℕ) {k : Refusal} → writeLayout sheet width version rows text room ≡ Refused k → In writeNumbers (k .number)
+  answer-refuses room e = answer-placeless room e .0
 
   -- what the writer's answer refuses with
-  pub write-refuses : (out out′ : List ℕ) {k : ℕ} → Writes sheet width version rows text out out′ (Refused k) → In writeNumbers k
+  pub write-refuses : (out out′ : List ℕ) {k : Refusal} → Writes sheet width version rows text out out′ (Refused k) → In writeNumbers (k .number)
   write-refuses out out′ p = answer-refuses (length out) (sym (p .is))
+
+  -- a refusal to write is about no byte
+  pub write-placeless : (out out′ : List ℕ) {k : Refusal} → Writes sheet width version rows text out out′ (Refused k) → k .place ≡ 0
+  write-placeless out out′ p = answer-placeless (length out) (sym (p .is)) .1

@@ -8,7 +8,8 @@ use mathlib.Core.List.{List, _++_, map}
 use lib.ListN.{length, drop}
 use lib.Dec.{leb, eqb}
 use borrow.Author.Tests.{eqb-true, leb-true, le-leb}
-use Rattle.codec.specs.Codec.{ok, Bytes}
+use Rattle.refusal.specs.declared.Refusal.{Refusal}
+use Rattle.codec.specs.Codec.{ok, refusal, Bytes}
 use Rattle.text.specs.Utf8.{utf8}
 use Rattle.layout.specs.Layout.{Layout, fromLayout, locateLayout, printLayout}
 use Rattle.layout.specs.LayoutOf.{D}
@@ -47,7 +48,7 @@ pub out-written : (n : ℕ) (bytes out : List ℕ) → outAfter (Length n) bytes
 unfolding outAfter
 out-written n bytes out = refl
 
-pub out-refused : (k : ℕ) (bytes out : List ℕ) → outAfter (Refused k) bytes out ≡ out
+pub out-refused : (k : Refusal) (bytes out : List ℕ) → outAfter (Refused k) bytes out ≡ out
 unfolding outAfter
 out-refused k bytes out = refl
 
@@ -72,7 +73,7 @@ module _ (sheet : List ℕ) (width version : ℕ) (table text : List ℕ) (room 
   accepted n e = go (eqb 0 (rowsFault sheet width true table text)) refl (leb (length (printed version table text)) room) refl e
     where
       go : (b : Bool) → eqb 0 (rowsFault sheet width true table text) ≡ b → (c : Bool) → leb (length (printed version table text)) room ≡ c
-          → cond b (cond c (Length (length (printed version table text))) (Refused 96)) (Refused (rowsFault sheet width true table text)) ≡ Length n
+          → cond b (cond c (Length (length (printed version table text))) (Refused (refusal 96 0))) (Refused (refusal (rowsFault sheet width true table text) 0)) ≡ Length n
           → Accepts sheet width version table text room n
       go true y true z e =
           let m : n ≡ length (printed version table text) = cc in

@@ -1,4 +1,4 @@
--- What the writer answers and what it leaves of the output: 90 to 95, then the rules, then 96.
+-- What the writer answers and what it leaves of the output: 90 to 95, then the rules, then 96. Each is about no byte: its place is 0.
 -- Assumes nothing.
 use mathlib.Core.Bool.{true, cond}
 use Prim.Native.Nat.{ℕ}
@@ -6,6 +6,7 @@ use mathlib.Core.Path.{_≡_}
 use mathlib.Core.List.{List, [], _∷_, _++_}
 use lib.ListN.{length, drop}
 use lib.Dec.{leb, eqb}
+use Rattle.codec.specs.Codec.{refusal}
 use Rattle.rules.specs.RowRules.{rowRuleNumbers, rowsFault}
 use Rattle.rows_check.specs.Check.{printed}
 use Rattle.rows_check.specs.Tree.{skip}
@@ -16,11 +17,11 @@ use Rattle.writer.specs.declared.Written.the-variants.{Length, Refused}
 
 -- 90 to 95, then 60 to 83, or x
 abbrev pub ruled : List ℕ → ℕ → List ℕ → List ℕ → Written → Written
-ruled sheet width rows text x = cond (eqb 0 (rowsFault sheet width true rows text)) x (Refused (rowsFault sheet width true rows text))
+ruled sheet width rows text x = cond (eqb 0 (rowsFault sheet width true rows text)) x (Refused (refusal (rowsFault sheet width true rows text) 0))
 
 -- 96, or x
 abbrev pub roomy : List ℕ → ℕ → Written → Written
-roomy bytes room x = cond (leb (length bytes) room) x (Refused 96)
+roomy bytes room x = cond (leb (length bytes) room) x (Refused (refusal 96 0))
 
 -- what refuses to write: the rows, their rules, the room
 abbrev pub writeNumbers : List ℕ
@@ -59,4 +60,4 @@ pub record TextsInside (kind : ℕ) (rows text : List ℕ) (q n : ℕ) : Type 0 
 -- 0 for a written layout
 abbrev pub writtenNumber : Written → ℕ
 writtenNumber (Length n) = 0
-writtenNumber (Refused e) = e
+writtenNumber (Refused e) = e .number

@@ -4,14 +4,15 @@ mod parts;
 mod put;
 mod sections;
 
+use refusal::Refusal;
 use rows_check::Sized;
 ghost use mathlib.Core.Path.{_≡_};
 ghost use Rattle.writer.specs.Write.{Writes};
 
-// How many bytes were written, or the number that refuses the rows or the output.
+// How many bytes were written, or what refuses the rows or the output, which is about no byte.
 pub enum Written {
     Length(usize),
-    Refused(u32),
+    Refused(Refusal),
 }
 
 // Writes the layout of the rows at the front of the output. Tries 90 to 95, then the rules with the symbol width and
@@ -34,7 +35,10 @@ pub fn write_layout(
             labels,
         } => {
             if out.len() < bytes {
-                return Written::Refused(refusal::OUTPUT_SHORT);
+                return Written::Refused(Refusal {
+                    number: refusal::OUTPUT_SHORT,
+                    place: 0,
+                });
             }
             let n = sections::put_layout(out, wide(version), rows, text, records, structs, labels);
             Written::Length(n)

@@ -9,7 +9,7 @@ returns : tie.Need-returns
 returns c = let p = c .before .before .before .before .before .before .before .before .read-block .ensures in let e = sym (p .answer) ∙ c .before .before .f .given .1 in record { number = simp e; out = simp e (c .fields-out .ensures); symbology = p .symbology; layout = p .layout }
 
 returns-2 : tie.Need-returns-2
-returns-2 c = let p = c .before .before .before .before .before .before .before .read-block .ensures in let e = sym (p .answer) ∙ c .before .e .given .1 in record { number = simp e; out = simp e; symbology = p .symbology; layout = p .layout }
+returns-2 c = let p = c .before .before .before .before .before .before .before .before .before .read-block .ensures in let e = sym (p .answer) ∙ c .before .before .before .e .given .1 in record { number = simp e; out = rw e (c .put-place .ensures); symbology = p .symbology; layout = p .layout }
 
 returns-3 : tie.Need-returns-3
 returns-3 c = let p = c .before .before .before .before .before .before .before .read-block .ensures in let e = sym (p .answer) ∙ c .before .s .given .1 in record { number = simp e; out = simp e; symbology = p .symbology; layout = p .layout }
@@ -22,6 +22,7 @@ dbn-block-spec =
     (λ c. search needs)
     (λ c κs. search needs)
     (λ c. search needs)
+    (λ c κs. search needs)
     (λ c. search needs)
     (λ c. search needs)
     (λ c. search needs)

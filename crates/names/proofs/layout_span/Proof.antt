@@ -13,7 +13,9 @@ returns c =
     (rw (c .before .item-text .ensures) at (c .row-span .ensures)) ∙ row-there 9 itemText _ (args .rows .now) (args .index) (c .before .before .before .if1 .taken)
 
 returns-2 : tie.Need-returns-2
-returns-2 c = row-past 9 itemText _ (c .before .before .before .args .rows .now) (c .before .before .before .args .index) (c .if1 .left)
+returns-2 c =
+    let args = c .before .before .before .before .args in
+    c .no-text .ensures ∙ row-past 9 itemText _ (args .rows .now) (args .index) (c .before .if1 .left)
 
 pub layout-span-spec : {M : Type 1} → statement M
 layout-span-spec =
@@ -25,4 +27,5 @@ layout-span-spec =
     (λ c κs. search needs)
     (λ c κs. search needs)
     returns
+    (λ c κs. search needs)
     returns-2)

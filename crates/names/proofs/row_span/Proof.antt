@@ -1,5 +1,6 @@
 -- Whether there is a text, then whether its span lies within.
 -- Assumes nothing.
+use mathlib.Core.Path.{_∙_}
 use Rattle.names.proofs.NameLaws.{span-none, span-in, span-out}
 use borrow.Author.Needs.{needs}
 use Rattle.names.proofs.row_span.Statement.{statement}
@@ -12,11 +13,11 @@ returns c =
 
 returns-2 : tie.Need-returns-2
 returns-2 c =
-    let args = c .before .before .before .before .before .before .before .args in
-    span-out _ (args .rows .now) (args .at) (c .before .before .before .before .before .if1 .taken) (c .before .before .before .wide .ensures .0) (c .before .wide2 .ensures .0) (c .if2 .left)
+    let args = c .before .before .before .before .before .before .before .before .args in
+    c .no-text .ensures ∙ span-out _ (args .rows .now) (args .at) (c .before .before .before .before .before .before .if1 .taken) (c .before .before .before .before .wide .ensures .0) (c .before .before .wide2 .ensures .0) (c .before .if2 .left)
 
 returns-3 : tie.Need-returns-3
-returns-3 c = span-none _ (c .before .before .args .rows .now) (c .before .before .args .at) (c .if1 .left)
+returns-3 c = c .no-text2 .ensures ∙ span-none _ (c .before .before .before .args .rows .now) (c .before .before .before .args .at) (c .before .if1 .left)
 
 pub row-span-spec : {M : Type 1} → statement M
 row-span-spec =
@@ -32,5 +33,7 @@ row-span-spec =
     (λ c κs. search needs)
     (λ c. search needs)
     returns
+    (λ c κs. search needs)
     returns-2
+    (λ c κs. search needs)
     returns-3)

@@ -13,7 +13,9 @@ returns c =
     (rw (c .before .symbol-text .ensures) at (c .row-span .ensures)) ∙ row-there 5 symbolText _ (args .rows .now) (args .index) (c .before .before .before .if1 .taken)
 
 returns-2 : tie.Need-returns-2
-returns-2 c = row-past 5 symbolText _ (c .before .before .before .args .rows .now) (c .before .before .before .args .index) (c .if1 .left)
+returns-2 c =
+    let args = c .before .before .before .before .args in
+    c .no-text .ensures ∙ row-past 5 symbolText _ (args .rows .now) (args .index) (c .before .if1 .left)
 
 pub symbology-span-spec : {M : Type 1} → statement M
 symbology-span-spec =
@@ -25,4 +27,5 @@ symbology-span-spec =
     (λ c κs. search needs)
     (λ c κs. search needs)
     returns
+    (λ c κs. search needs)
     returns-2)

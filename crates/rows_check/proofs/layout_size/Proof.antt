@@ -12,7 +12,7 @@ well-formed-requires : tie.Need-well-formed-requires
 well-formed-requires c κs = (c .before .kinds-of .ensures, good-90 _ _ _ (c .all-good .ensures))
 
 returns : tie.Need-returns
-returns c = exit-90 _ _ _ (sym (c .before .well-formed .ensures) ∙ not-true (c .before .well-formed .result) (c .if1 .taken))
+returns c = c .refused .ensures ∙ exit-90 _ _ _ (sym (c .before .before .well-formed .ensures) ∙ not-true (c .before .before .well-formed .result) (c .before .if1 .taken))
 
 whole-size-requires : tie.Need-whole-size-requires
 whole-size-requires c κs = (c .before .before .before .before .kinds-of .ensures, (c .before .before .before .all-good .ensures, sym (c .before .before .well-formed .ensures) ∙ not-false (c .before .before .well-formed .result) (c .before .if1 .left)))
@@ -31,6 +31,7 @@ layout-size-spec =
     (λ c κs. search needs)
     (λ c κs. search needs)
     well-formed-requires
+    (λ c κs. search needs)
     returns
     whole-size-requires
     returns-2

@@ -15,34 +15,34 @@ counts-fit-requires : tie.Need-counts-fit-requires
 counts-fit-requires c κs = (c .before .before .pre .0, good-91 _ _ _ (c .before .before .pre .1 .0))
 
 returns : tie.Need-returns
-returns c = exit-91 _ _ (c .before .before .before .before .pre .1 .1) (sym (c .before .counts-fit .ensures) ∙ not-true (c .before .counts-fit .result) (c .if1 .taken))
+returns c = c .refused .ensures ∙ exit-91 _ _ (c .before .before .before .before .before .pre .1 .1) (sym (c .before .before .counts-fit .ensures) ∙ not-true (c .before .before .counts-fit .result) (c .before .if1 .taken))
 
 all-pass-requires : tie.Need-all-pass-requires
 all-pass-requires c κs = good-92 _ _ _ (c .before .before .before .before .pre .1 .0)
 
 returns-2 : tie.Need-returns-2
-returns-2 c = exit-92 _ _ (c .before .before .before .before .before .before .pre .1 .1) (sym (c .before .before .before .counts-fit .ensures) ∙ not-false (c .before .before .before .counts-fit .result) (c .before .before .if1 .left)) (sym (c .before .all-pass .ensures) ∙ not-true (c .before .all-pass .result) (c .if2 .taken))
+returns-2 c = c .refused2 .ensures ∙ exit-92 _ _ (c .before .before .before .before .before .before .before .pre .1 .1) (sym (c .before .before .before .before .counts-fit .ensures) ∙ not-false (c .before .before .before .before .counts-fit .result) (c .before .before .before .if1 .left)) (sym (c .before .before .all-pass .ensures) ∙ not-true (c .before .before .all-pass .result) (c .before .if2 .taken))
 
 all-pass-requires-2 : tie.Need-all-pass-requires-2
 all-pass-requires-2 c κs = good-93 _ _ _ (c .before .before .before .before .before .before .pre .1 .0)
 
 returns-3 : tie.Need-returns-3
 returns-3 c =
-    exit-93 _ _ (c .before .before .before .before .before .before .before .before .pre .1 .1) (sym (c .before .before .before .before .before .counts-fit .ensures) ∙ not-false (c .before .before .before .before .before .counts-fit .result) (c .before .before .before .before .if1 .left)) (sym (c .before .before .before .all-pass .ensures) ∙ not-false (c .before .before .before .all-pass .result) (c .before .before .if2 .left))
-    (sym (c .before .all-pass2 .ensures) ∙ not-true (c .before .all-pass2 .result) (c .if3 .taken))
+    c .refused3 .ensures ∙ exit-93 _ _ (c .before .before .before .before .before .before .before .before .before .pre .1 .1) (sym (c .before .before .before .before .before .before .counts-fit .ensures) ∙ not-false (c .before .before .before .before .before .before .counts-fit .result) (c .before .before .before .before .before .if1 .left)) (sym (c .before .before .before .before .all-pass .ensures) ∙ not-false (c .before .before .before .before .all-pass .result) (c .before .before .before .if2 .left))
+    (sym (c .before .before .all-pass2 .ensures) ∙ not-true (c .before .before .all-pass2 .result) (c .before .if3 .taken))
 
 total-size-requires : tie.Need-total-size-requires
 total-size-requires c κs = let w = formed _ _ (c .before .before .before .before .before .before .before .before .pre .1 .1) in (c .before .before .before .before .before .before .before .before .pre .0, (record-sections _ _ w, (struct-sections _ _ w, label-def-sections _ _ w)))
 
 returns-4 : tie.Need-returns-4
 returns-4 c =
-    exit-94 _ _ (c .before .before .before .before .before .before .before .before .before .before .pre .1 .1) (sym (c .before .before .before .before .before .before .before .counts-fit .ensures) ∙ not-false (c .before .before .before .before .before .before .before .counts-fit .result) (c .before .before .before .before .before .before .if1 .left)) (sym (c .before .before .before .before .before .all-pass .ensures) ∙ not-false (c .before .before .before .before .before .all-pass .result) (c .before .before .before .before .if2 .left))
-    (sym (c .before .before .before .all-pass2 .ensures) ∙ not-false (c .before .before .before .all-pass2 .result) (c .before .before .if3 .left)) (c .before .total-size .result) (c .before .total-size .ensures) (c .if4 .taken)
+    c .refused4 .ensures ∙ exit-94 _ _ (c .before .before .before .before .before .before .before .before .before .before .before .pre .1 .1) (sym (c .before .before .before .before .before .before .before .before .counts-fit .ensures) ∙ not-false (c .before .before .before .before .before .before .before .before .counts-fit .result) (c .before .before .before .before .before .before .before .if1 .left)) (sym (c .before .before .before .before .before .before .all-pass .ensures) ∙ not-false (c .before .before .before .before .before .before .all-pass .result) (c .before .before .before .before .before .if2 .left))
+    (sym (c .before .before .before .before .all-pass2 .ensures) ∙ not-false (c .before .before .before .before .all-pass2 .result) (c .before .before .before .if3 .left)) (c .before .before .total-size .result) (c .before .before .total-size .ensures) (c .before .if4 .taken)
 
 returns-5 : tie.Need-returns-5
 returns-5 c =
-    exit-95 _ _ (c .before .before .before .before .before .before .before .before .before .before .before .before .pre .1 .1) (sym (c .before .before .before .before .before .before .before .before .before .counts-fit .ensures) ∙ not-false (c .before .before .before .before .before .before .before .before .before .counts-fit .result) (c .before .before .before .before .before .before .before .before .if1 .left)) (sym (c .before .before .before .before .before .before .before .all-pass .ensures) ∙ not-false (c .before .before .before .before .before .before .before .all-pass .result) (c .before .before .before .before .before .before .if2 .left))
-    (sym (c .before .before .before .before .before .all-pass2 .ensures) ∙ not-false (c .before .before .before .before .before .all-pass2 .result) (c .before .before .before .before .if3 .left)) (c .before .before .before .total-size .result) (c .before .before .before .total-size .ensures) (c .before .before .if4 .left) (sym (c .before .labels-rise .ensures) ∙ not-true (c .before .labels-rise .result) (c .if5 .taken))
+    c .refused5 .ensures ∙ exit-95 _ _ (c .before .before .before .before .before .before .before .before .before .before .before .before .before .pre .1 .1) (sym (c .before .before .before .before .before .before .before .before .before .before .counts-fit .ensures) ∙ not-false (c .before .before .before .before .before .before .before .before .before .before .counts-fit .result) (c .before .before .before .before .before .before .before .before .before .if1 .left)) (sym (c .before .before .before .before .before .before .before .before .all-pass .ensures) ∙ not-false (c .before .before .before .before .before .before .before .before .all-pass .result) (c .before .before .before .before .before .before .before .if2 .left))
+    (sym (c .before .before .before .before .before .before .all-pass2 .ensures) ∙ not-false (c .before .before .before .before .before .before .all-pass2 .result) (c .before .before .before .before .before .if3 .left)) (c .before .before .before .before .total-size .result) (c .before .before .before .before .total-size .ensures) (c .before .before .before .if4 .left) (sym (c .before .before .labels-rise .ensures) ∙ not-true (c .before .before .labels-rise .result) (c .before .if5 .taken))
 
 returns-6 : tie.Need-returns-6
 returns-6 c =
@@ -56,13 +56,18 @@ whole-size-spec =
     tie.close
     (tie.spec
     counts-fit-requires
+    (λ c κs. search needs)
     returns
     all-pass-requires
+    (λ c κs. search needs)
     returns-2
     all-pass-requires-2
+    (λ c κs. search needs)
     returns-3
     total-size-requires
+    (λ c κs. search needs)
     returns-4
+    (λ c κs. search needs)
     (λ c κs. search needs)
     returns-5
     returns-6)

@@ -45,30 +45,38 @@ shared-slice-read-is-stype c = search needs
 is-stype-requires : tie.Need-is-stype-requires
 is-stype-requires c κs = search needs
 
+refused-requires : tie.Need-refused-requires
+refused-requires c κs = search needs
+
 returns : tie.Need-returns
-returns c =
-    let start = c .before .before .before .before .before .before .before .before .before .before .before .before .before .before in
-    fault-0 (start .args .v) (start .args .block .now) (start .pre) (was-text (start .args .v .«dataset_cstr_len») (start .args .block .now) (c .before .before .before .before .before .before .before .before .before .before .before .is-utf8 .ensures) (c .before .before .before .before .before .before .before .before .before .before .if1 .taken)) (was isSchema (c .before .before .before .before .before .before .before .before .before .half .ensures .0) (c .before .before .before .before .before .before .before .before .is-schema .ensures) (c .before .before .before .before .before .before .before .if2 .taken)) (sym (c .before .before .before .before .is-stype-in .ensures) ∙ c .before .before .before .if3 .taken) (sym (c .before .is-stype .ensures) ∙ c .if4 .taken)
+returns c = c .refused .ensures ∙ fault-0 (c .before .before .before .before .before .before .before .before .before .before .before .before .before .before .before .args .v) (c .before .before .before .before .before .before .before .before .before .before .before .before .before .before .before .args .block .now) (c .before .before .before .before .before .before .before .before .before .before .before .before .before .before .before .pre) (was-text (c .before .before .before .before .before .before .before .before .before .before .before .before .before .before .before .args .v .«dataset_cstr_len») (c .before .before .before .before .before .before .before .before .before .before .before .before .before .before .before .args .block .now) (c .before .before .before .before .before .before .before .before .before .before .before .before .is-utf8 .ensures) (c .before .before .before .before .before .before .before .before .before .before .before .if1 .taken)) (was isSchema (c .before .before .before .before .before .before .before .before .before .before .half .ensures .0) (c .before .before .before .before .before .before .before .before .before .is-schema .ensures) (c .before .before .before .before .before .before .before .before .if2 .taken)) (sym (c .before .before .before .before .before .is-stype-in .ensures) ∙ c .before .before .before .before .if3 .taken) (sym (c .before .before .is-stype .ensures) ∙ c .before .if4 .taken)
+
+add-refused : tie.Need-add-refused
+add-refused c = search needs
+
+refused-requires-2 : tie.Need-refused-requires-2
+refused-requires-2 c κs = search needs
 
 returns-2 : tie.Need-returns-2
-returns-2 c =
-    let start = c .before .before .before .before .before .before .before .before .before .before .before .before .before .before in
-    fault-23 (start .args .v) (start .args .block .now) (start .pre) (was-text (start .args .v .«dataset_cstr_len») (start .args .block .now) (c .before .before .before .before .before .before .before .before .before .before .before .is-utf8 .ensures) (c .before .before .before .before .before .before .before .before .before .before .if1 .taken)) (was isSchema (c .before .before .before .before .before .before .before .before .before .half .ensures .0) (c .before .before .before .before .before .before .before .before .is-schema .ensures) (c .before .before .before .before .before .before .before .if2 .taken)) (sym (c .before .before .before .before .is-stype-in .ensures) ∙ c .before .before .before .if3 .taken) (sym (c .before .is-stype .ensures) ∙ c .if4 .left)
+returns-2 c = c .refused2 .ensures ∙ fault-23 (c .before .before .before .before .before .before .before .before .before .before .before .before .before .before .before .args .v) (c .before .before .before .before .before .before .before .before .before .before .before .before .before .before .before .args .block .now) (c .before .before .before .before .before .before .before .before .before .before .before .before .before .before .before .pre) (was-text (c .before .before .before .before .before .before .before .before .before .before .before .before .before .before .before .args .v .«dataset_cstr_len») (c .before .before .before .before .before .before .before .before .before .before .before .before .before .before .before .args .block .now) (c .before .before .before .before .before .before .before .before .before .before .before .before .is-utf8 .ensures) (c .before .before .before .before .before .before .before .before .before .before .before .if1 .taken)) (was isSchema (c .before .before .before .before .before .before .before .before .before .before .half .ensures .0) (c .before .before .before .before .before .before .before .before .before .is-schema .ensures) (c .before .before .before .before .before .before .before .before .if2 .taken)) (sym (c .before .before .before .before .before .is-stype-in .ensures) ∙ c .before .before .before .before .if3 .taken) (sym (c .before .before .is-stype .ensures) ∙ c .before .if4 .left)
+
+refused-requires-3 : tie.Need-refused-requires-3
+refused-requires-3 c κs = search needs
 
 returns-3 : tie.Need-returns-3
-returns-3 c =
-    let start = c .before .before .before .before .before .before .before .before .before .before .before in
-    fault-22 (start .args .v) (start .args .block .now) (start .pre) (was-text (start .args .v .«dataset_cstr_len») (start .args .block .now) (c .before .before .before .before .before .before .before .before .is-utf8 .ensures) (c .before .before .before .before .before .before .before .if1 .taken)) (was isSchema (c .before .before .before .before .before .before .half .ensures .0) (c .before .before .before .before .before .is-schema .ensures) (c .before .before .before .before .if2 .taken)) (sym (c .before .is-stype-in .ensures) ∙ c .if3 .left)
+returns-3 c = c .refused3 .ensures ∙ fault-22 (c .before .before .before .before .before .before .before .before .before .before .before .before .args .v) (c .before .before .before .before .before .before .before .before .before .before .before .before .args .block .now) (c .before .before .before .before .before .before .before .before .before .before .before .before .pre) (was-text (c .before .before .before .before .before .before .before .before .before .before .before .before .args .v .«dataset_cstr_len») (c .before .before .before .before .before .before .before .before .before .before .before .before .args .block .now) (c .before .before .before .before .before .before .before .before .before .is-utf8 .ensures) (c .before .before .before .before .before .before .before .before .if1 .taken)) (was isSchema (c .before .before .before .before .before .before .before .half .ensures .0) (c .before .before .before .before .before .before .is-schema .ensures) (c .before .before .before .before .before .if2 .taken)) (sym (c .before .before .is-stype-in .ensures) ∙ c .before .if3 .left)
+
+refused-requires-4 : tie.Need-refused-requires-4
+refused-requires-4 c κs = search needs
 
 returns-4 : tie.Need-returns-4
-returns-4 c =
-    let start = c .before .before .before .before .before .before .before in
-    fault-21 (start .args .v) (start .args .block .now) (start .pre) (was-text (start .args .v .«dataset_cstr_len») (start .args .block .now) (c .before .before .before .before .is-utf8 .ensures) (c .before .before .before .if1 .taken)) (was isSchema (c .before .before .half .ensures .0) (c .before .is-schema .ensures) (c .if2 .left))
+returns-4 c = c .refused4 .ensures ∙ fault-21 (c .before .before .before .before .before .before .before .before .args .v) (c .before .before .before .before .before .before .before .before .args .block .now) (c .before .before .before .before .before .before .before .before .pre) (was-text (c .before .before .before .before .before .before .before .before .args .v .«dataset_cstr_len») (c .before .before .before .before .before .before .before .before .args .block .now) (c .before .before .before .before .before .is-utf8 .ensures) (c .before .before .before .before .if1 .taken)) (was isSchema (c .before .before .before .half .ensures .0) (c .before .before .is-schema .ensures) (c .before .if2 .left))
+
+refused-requires-5 : tie.Need-refused-requires-5
+refused-requires-5 c κs = search needs
 
 returns-5 : tie.Need-returns-5
-returns-5 c =
-    let start = c .before .before .before .before in
-    fault-20 (start .args .v) (start .args .block .now) (start .pre) (was-text (start .args .v .«dataset_cstr_len») (start .args .block .now) (c .before .is-utf8 .ensures) (c .if1 .left))
+returns-5 c = c .refused5 .ensures ∙ fault-20 (c .before .before .before .before .before .args .v) (c .before .before .before .before .before .args .block .now) (c .before .before .before .before .before .pre) (was-text (c .before .before .before .before .before .args .v .«dataset_cstr_len») (c .before .before .before .before .before .args .block .now) (c .before .before .is-utf8 .ensures) (c .before .if1 .left))
 
 pub check-header-spec : {M : Type 1} → statement M
 check-header-spec =
@@ -87,8 +95,14 @@ check-header-spec =
     add-is-stype
     shared-slice-read-is-stype
     is-stype-requires
+    refused-requires
     returns
+    add-refused
+    refused-requires-2
     returns-2
+    refused-requires-3
     returns-3
+    refused-requires-4
     returns-4
+    refused-requires-5
     returns-5)

@@ -1,6 +1,9 @@
 -- By what the length says and whether the version has a layout. Assumes nothing.
 use mathlib.Core.Path.{sym, _∙_}
 use native.Mathlib.Omega.{arith}
+use Rattle.numbers.specs.NumberLaws.{part-place}
+use Rattle.layout.specs.AnswerLaws.{verdict-no}
+use Rattle.rules.specs.RefusalLaws.{ruled-within}
 use Rattle.block.specs.Parts.{lays-no}
 use Rattle.block.proofs.PartLaws.{within-at, layout-cut, lays-26, lays-25, lays-none, lays-bad, lays-ok}
 use borrow.Author.Needs.{needs}
@@ -56,12 +59,15 @@ returns-3 c =
     let start2 = c .before .before .before .before .before .before .before .before .start .given in
     lays-ok (start .args .sheet .now) _ (start .args .block .now) _ (sym (span-at .0) ∙ start2 .1) (within-at (span-at .1) (start2 .1)) (start .pre .1) (c .before .before .before .before .before .before .if1 .taken) (omega (arith, c .before .before .before .before .before .if2 .left)) (sym (c .before .version .given .1) ∙ c .before .before .before .check-layout .ensures)
 
+in-block-requires : tie.Need-in-block-requires
+in-block-requires c κs =
+    let w = within-at (c .before .before .before .before .before .before .before .before .before .before .span-at .ensures .1) (c .before .before .before .before .before .before .before .before .start .given .1) in
+    let e = verdict-no _ (sym (c .before .why .given .1) ∙ c .before .before .before .check-layout .ensures) in
+    omega (arith, part-place (c .before .before .before .before .before .before .before .before .before .before .before .before .args .block .now) _ _ (ruled-within _ _ _ e) (omega arith) (w .1), c .before .before .before .before .before .before .before .before .before .before .before .before .pre .1)
+
 returns-4 : tie.Need-returns-4
 returns-4 c =
-    let start = c .before .before .before .before .before .before .before .before .before .before .before .before in
-    let span-at = c .before .before .before .before .before .before .before .before .before .before .span-at .ensures in
-    let start2 = c .before .before .before .before .before .before .before .before .start .given in
-    lays-bad (start .args .sheet .now) _ (start .args .block .now) _ (sym (span-at .0) ∙ start2 .1) (within-at (span-at .1) (start2 .1)) (start .pre .1) (c .before .before .before .before .before .before .if1 .taken) (omega (arith, c .before .before .before .before .before .if2 .left)) (sym (c .before .why .given .1) ∙ c .before .before .before .check-layout .ensures)
+    rw (c .in-block .ensures) (lays-bad (c .before .before .before .before .before .before .before .before .before .before .before .before .before .args .sheet .now) _ (c .before .before .before .before .before .before .before .before .before .before .before .before .before .args .block .now) _ (sym (c .before .before .before .before .before .before .before .before .before .before .before .span-at .ensures .0) ∙ c .before .before .before .before .before .before .before .before .before .start .given .1) (within-at (c .before .before .before .before .before .before .before .before .before .before .before .span-at .ensures .1) (c .before .before .before .before .before .before .before .before .before .start .given .1)) (c .before .before .before .before .before .before .before .before .before .before .before .before .before .pre .1) (c .before .before .before .before .before .before .before .if1 .taken) (omega (arith, c .before .before .before .before .before .before .if2 .left)) (sym (c .before .before .why .given .1) ∙ c .before .before .before .before .check-layout .ensures))
 
 returns-5 : tie.Need-returns-5
 returns-5 c =
@@ -88,6 +94,7 @@ layout-part-spec =
     check-layout-requires
     enum-known-version
     enum-known-why
+    in-block-requires
     returns-2
     enum-known-why-2
     returns-3

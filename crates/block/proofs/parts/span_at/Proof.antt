@@ -12,7 +12,7 @@ sub-if1 : tie.Need-sub-if1
 sub-if1 c = search needs
 
 returns : tie.Need-returns
-returns c = (span-none _ _ _ (omega arith), outside-mk)
+returns c = (span-none _ _ _ _ (omega arith), outside-mk)
 
 add-start : tie.Need-add-start
 add-start c = search needs
@@ -26,12 +26,12 @@ sub-if2 c = search needs
 returns-2 : tie.Need-returns-2
 returns-2 c =
     let args = c .before .before .before .before .args in
-    (span-past _ _ _ _ (omega arith) (c .before .u32-of .ensures .0 ∙ sym (u32-is (args .block .now) (args .at))) (omega arith), outside-mk)
+    (span-past _ _ _ _ _ (omega arith) (c .before .u32-of .ensures .0 ∙ sym (u32-is (args .block .now) (args .at))) (omega arith), outside-mk)
 
 returns-3 : tie.Need-returns-3
 returns-3 c =
     let args = c .before .before .before .before .args in
-    (span-part _ _ _ _ (omega arith) (c .before .u32-of .ensures .0 ∙ sym (u32-is (args .block .now) (args .at))) (omega arith), within-mk (le-refl _) (omega arith))
+    (span-part _ _ _ _ _ (omega arith) (c .before .u32-of .ensures .0 ∙ sym (u32-is (args .block .now) (args .at))) (omega arith), within-mk (le-refl _) (omega arith))
 
 pub span-at-spec : {M : Type 1} → statement M
 span-at-spec =

@@ -1,12 +1,13 @@
 -- The invariant: the sections left give what all give; each body is its own part of the layout. Assumes nothing.
 use native.Mathlib.Omega.{arith}
 use borrow.Author.Needs.{needs}
-use mathlib.Core.Path.{sym, _∙_}
+use mathlib.Core.Path.{refl, sym, _∙_}
 use mathlib.Core.List.{[]}
+use Rattle.numbers.specs.NumberLaws.{part-place}
 use Rattle.wire.specs.SectionLaws.{lies-at}
 use Rattle.table.specs.PartLaws.{part-room, part-few}
-use Rattle.layout.proofs.Laws.{sections-run, sections-no, sections-end}
-use Rattle.table.specs.ReadingLaws.{Going, going, going-run, going-halt, going-no, going-end, ran-at}
+use Rattle.layout.proofs.Laws.{sections-run, sections-no, sections-end, body-within}
+use Rattle.table.specs.ReadingLaws.{Going, going, going-run, going-halt, going-no, going-end, ran-at, ran-refused, ran-shifted, ran-moved}
 use Rattle.layout.proofs.Labelling.{cleared-at}
 use Rattle.layout.specs.Reader.{sectionsAt}
 use Rattle.marks.specs.Marks.{Marks}
@@ -50,15 +51,21 @@ loop-again c =
     let body = c .before .before .before .before .before .body in
     let w = lies-at (section-at .1) (b .1) in (
       going-run (c .before .before .before .before .before .before .before .before .before .before .before .before .before .before .loop .inv .0) _ (sections-run _ _ _ _ (c .before .before .before .before .before .before .before .before .before .before .before .before .before .loop-test .taken) (sym (section-at .0) ∙ b .1))
-          (body .ensures .0) (c .before .m .given .1) (body .kept .1 .1 .1 .0) (part-few _ _ _ (ran-at (body .ensures .0) (c .before .m .given .1)) (w .1) (w .2)),
+          (ran-shifted (body .ensures .0) _ (c .before .m .given .1)) (c .before .m .given .1) (body .kept .1 .1 .1 .0) (part-few _ _ _ (ran-at (body .ensures .0) (c .before .m .given .1)) (w .1) (w .2)),
       cleared-at (body .ensures .1) (c .before .m .given .1),
     )
 
+add-place : tie.Need-add-t26 Inv-loop μ-loop
+add-place c =
+    let w = lies-at (c .before .before .before .before .before .before .before .before .before .before .before .before .before .section-at .ensures .1) (c .before .before .before .before .before .before .before .before .before .before .before .b .given .1) in
+    let h = part-place _ _ _ (body-within _ _ _ (ran-refused (c .before .before .before .before .before .before .body .ensures .0) (c .before .before .why .given .1))) (w .1) (w .2) in
+    omega (arith, h, c .before .before .before .before .before .before .before .before .before .before .before .before .before .before .before .before .before .before .pre .0 .small)
+
 same-length : tie.Need-same-length Inv-loop μ-loop
-same-length c = c .before .before .before .before .before .body .kept .1 .1 .1 .0 ∙ c .before .before .before .before .before .before .before .before .before .before .before .before .before .before .loop .inv .0 .wide
+same-length c = c .before .before .before .before .before .before .body .kept .1 .1 .1 .0 ∙ c .before .before .before .before .before .before .before .before .before .before .before .before .before .before .before .loop .inv .0 .wide
 
 returns : tie.Need-returns Inv-loop μ-loop
-returns c = (going-halt (c .before .before .before .before .before .before .before .before .before .before .before .before .before .before .loop .inv .0) _ (sections-run _ _ _ _ (c .before .before .before .before .before .before .before .before .before .before .before .before .before .loop-test .taken) (sym (c .before .before .before .before .before .before .before .before .before .before .before .before .section-at .ensures .0) ∙ c .before .before .before .before .before .before .before .before .before .before .b .given .1)) (c .before .before .before .before .before .body .ensures .0) (c .before .why .given .1), tt)
+returns c = (going-halt (c .before .before .before .before .before .before .before .before .before .before .before .before .before .before .before .loop .inv .0) _ (sections-run _ _ _ _ (c .before .before .before .before .before .before .before .before .before .before .before .before .before .before .loop-test .taken) (sym (c .before .before .before .before .before .before .before .before .before .before .before .before .before .section-at .ensures .0) ∙ c .before .before .before .before .before .before .before .before .before .before .before .b .given .1)) (ran-moved (c .before .before .before .before .before .before .body .ensures .0) _ (c .before .before .why .given .1)) refl, tt)
 
 same-length-2 : tie.Need-same-length-2 Inv-loop μ-loop
 same-length-2 c = c .before .before .before .before .before .loop .inv .0 .wide
@@ -90,6 +97,7 @@ sections-spec =
     loop-less
     loop-again
     (λ c. search needs)
+    add-place
     same-length
     returns
     (λ c. search needs)
