@@ -2,6 +2,11 @@
  *
  * Answers. Every function answers a refusal number, 0 for accepted, unless it says yes or no. dbn_sentence tells a number in words.
  *
+ * Places. A refusal from reading, 10 to 12 and 20 to 55, also has a place (dbn_has_place), the byte where it happened: the first byte of the
+ * number or text that broke its rule, or where something was to begin that does not fit, which may be the end of the bytes; for 28 the first
+ * byte that the contents do not reach. It counts from the prelude for 10 to 12, and else from the block or the layout that was given; from
+ * the block in dbn_feed, too. docs/REFUSALS.md has the place and the smallest input of every such number.
+ *
  * Buffers. A slice is a pointer and a length in elements. It may be NULL where the length is 0, and is not read then; `sheet` and `out` are
  * never NULL. A pointer is aligned for its element: 2 bytes for uint16_t, 4 for uint32_t, 8 for uint64_t. A buffer that is lent for
  * writing (store, symbology, layout, rows, output, out, where they are not const) overlaps no other buffer of the call; two that are
@@ -33,7 +38,7 @@
 
 /* The version of this header, major x 10000 + minor x 100 + patch. */
 #define DBN_START_VERSION_MAJOR 0
-#define DBN_START_VERSION_MINOR 3
+#define DBN_START_VERSION_MINOR 4
 #define DBN_START_VERSION_PATCH 0
 #define DBN_START_VERSION (DBN_START_VERSION_MAJOR * 10000 + DBN_START_VERSION_MINOR * 100 + DBN_START_VERSION_PATCH)
 
@@ -55,10 +60,10 @@ extern "C" {
     X(SCHEMA, 21, "the schema is not known")                                                       \
     X(STYPE_IN, 22, "the input symbol type is not known")                                          \
     X(STYPE_OUT, 23, "the output symbol type is not known")                                        \
-    X(LAYOUT_PAST_END, 24, "the layout goes past the end of the block")                            \
+    X(LAYOUT_LENGTH_MISSING, 24, "the length of the layout is missing")                            \
     X(LAYOUT_BELOW_4, 25, "a layout below version 4")                                              \
     X(NO_LAYOUT, 26, "no layout in version 4")                                                     \
-    X(SYMBOLOGY_PAST_END, 27, "the symbology length is missing, or its section goes past the end") \
+    X(SYMBOLOGY_LENGTH_MISSING, 27, "the length of the symbology is missing")                      \
     X(SYMBOLOGY_NOT_SPANNED, 28, "the symbology does not span its section")                        \
     X(LIST_COUNT_MISSING, 30, "the count of a symbol list is missing")                             \
     X(LIST_COUNT_LARGE, 31, "the count of a symbol list is too large")                             \
@@ -71,6 +76,8 @@ extern "C" {
     X(START_DATE, 38, "an interval's start date is no date")                                       \
     X(END_DATE, 39, "an interval's end date is no date")                                           \
     X(SYMBOL_NOT_UTF8, 40, "an interval's symbol is not UTF-8")                                    \
+    X(LAYOUT_PAST_END, 44, "the layout goes past the end of the block")                            \
+    X(SYMBOLOGY_PAST_END, 45, "the symbology goes past the end of the block")                      \
     X(LAYOUT_TRUNCATED, 50, "the layout is cut short")                                             \
     X(SECTION_SHORT, 51, "a section's length is below 2")                                          \
     X(NAME_HOLDS_NUL, 52, "a name holds a NUL")                                                    \
@@ -126,6 +133,11 @@ static inline const char *dbn_sentence(uint32_t number) {
     }
 }
 
+/* 1 where a refusal by this number has a place, else 0. */
+static inline int dbn_has_place(uint32_t number) {
+    return (number >= 10 && number <= 12) || (number >= 20 && number <= 55);
+}
+
 /* The type sheet, DBN_SHEET numbers: what the layout of version 4 is judged by. Below version 4 it is not looked at. From
  * DBN_SHEET_SIZES on stand the natural sizes of the 256 type ids (0: none), from DBN_SHEET_LABEL_USERS on a nonzero number for each id
  * whose def index names a label def. */
@@ -179,13 +191,14 @@ enum dbn_out {
     DBN_OUT_SYMBOLOGY_ROWS = 10,
     DBN_OUT_LAYOUT_ROWS = 11,
     DBN_OUT_PRESENT = 12, /* the bits of enum dbn_present */
+    DBN_OUT_PLACE = 13,   /* of a refusal that has one */
     DBN_OUT_TAKEN = 16,   /* from here on dbn_feed alone */
     DBN_OUT_HELD = 17,
     DBN_OUT_NEEDED = 18
 };
 
 /* The places of `out` of the other functions. */
-enum dbn_prelude_out { DBN_PRELUDE_MISSING = 0, DBN_PRELUDE_VERSION = 1, DBN_PRELUDE_LENGTH = 2 };
+enum dbn_prelude_out { DBN_PRELUDE_MISSING = 0, DBN_PRELUDE_VERSION = 1, DBN_PRELUDE_LENGTH = 2, DBN_PRELUDE_PLACE = 3 };
 enum dbn_write_out { DBN_WRITE_LENGTH = 0 };
 enum dbn_name_out { DBN_NAME_START = 0, DBN_NAME_LENGTH = 1 };
 
@@ -213,28 +226,30 @@ uint32_t dbn_text(const uint8_t *s, size_t n);
 /* 1 where the number is a date, year x 10000 + month x 100 + day, else 0. */
 uint32_t dbn_date(uint32_t yyyymmdd);
 
-/* The verdict on a prelude. Fewer than 8 bytes: 0 and out = {8 - n, 0, 0, 0}. Else 10, 11 or 12, or 0 and
- * out = {0, version, block length, 0}. Bytes past the eighth are not looked at. */
+/* The verdict on a prelude. Fewer than 8 bytes: 0 and out = {8 - n, 0, 0, 0}. Else 10, 11 or 12 and out[DBN_PRELUDE_PLACE] is the place, or 0
+ * and out = {0, version, block length, 0}. Bytes past the eighth are not looked at. */
 uint32_t dbn_prelude(const uint8_t *s, size_t n, uint64_t out[4]);
 
 /* Reads a block given whole (the bytes after the prelude), its rows into the tables of sn and ln numbers. 0: out[0] to out[12] as enum
- * dbn_out names them, and out[13] to out[15] are 0. 3: out[DBN_OUT_SYMBOLOGY_ROWS] and out[DBN_OUT_LAYOUT_ROWS] are the rows needed. */
+ * dbn_out names them, and out[13] to out[15] are 0. 3: out[DBN_OUT_SYMBOLOGY_ROWS] and out[DBN_OUT_LAYOUT_ROWS] are the rows needed.
+ * 20 to 55: out[DBN_OUT_PLACE] is the place in the block. 11: it is 3, where a prelude has the version. */
 uint32_t dbn_block(uint8_t version, const uint8_t *block, size_t n, const uint16_t sheet[520], uint32_t *symbology, size_t sn,
                    uint32_t *layout, size_t ln, uint64_t out[16]);
 
 /* Feeds a piece of a stream after the first `held` bytes of the store, 0 at the start. Always: out[DBN_OUT_TAKEN] is the count taken,
  * out[DBN_OUT_HELD] the count then held, out[DBN_OUT_NEEDED] the count still needed, 0 when done or refused. Done is 0 with nothing
- * needed, and out[0] to out[15] are as those of dbn_block. 3: the rows needed, as dbn_block tells them. With 8 bytes held, 2 means that the store is
+ * needed, and out[0] to out[15] are as those of dbn_block. 3: the rows needed, as dbn_block tells them. 10 to 12: out[DBN_OUT_PLACE] is the place
+ * in the prelude; 20 to 55: in the block, which begins at byte 8 of the store. With 8 bytes held, 2 means that the store is
  * below 8 + block length; a call with a longer store that begins with the same bytes goes on, and so does one with longer tables after 3. */
 uint32_t dbn_feed(uint64_t held, uint8_t *store, size_t storelen, const uint8_t *piece, size_t n, const uint16_t sheet[520],
                   uint32_t *symbology, size_t sn, uint32_t *layout, size_t ln, uint64_t out[20]);
 
 /* Reads a layout given with a symbol width, its rows into the table of rn numbers. 0: out[DBN_OUT_LAYOUT_VERSION] is the layout's version,
- * out[DBN_OUT_LAYOUT_ROWS] the rows. 3: out[DBN_OUT_LAYOUT_ROWS] is the rows needed. */
+ * out[DBN_OUT_LAYOUT_ROWS] the rows. 3: out[DBN_OUT_LAYOUT_ROWS] is the rows needed. 50 to 55: out[DBN_OUT_PLACE] is the place in the layout. */
 uint32_t dbn_layout(const uint8_t *layout, size_t n, uint16_t width, const uint16_t sheet[520], uint32_t *rows, size_t rn, uint64_t out[16]);
 
 /* The verdict on a layout given with a symbol width, without a table: the answer of dbn_layout, 3 apart, with 81 to 83 found by the plain
- * engine, which marks each byte of a record with the field that owns it. 0: `out` as that of dbn_layout. */
+ * engine, which marks each byte of a record with the field that owns it. 0, and 50 to 55: `out` as that of dbn_layout. */
 uint32_t dbn_layout_plain(const uint8_t *layout, size_t n, uint16_t width, const uint16_t sheet[520], uint64_t out[16]);
 
 /* Writes layout rows, whose names are parts of the text, as a layout of a version, for a symbol width. 0: out[DBN_WRITE_LENGTH] is the

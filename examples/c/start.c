@@ -38,6 +38,7 @@ static uint32_t longer_store(struct start *s) {
     uint64_t told[4];
     uint32_t number = dbn_prelude(s->store, (size_t)s->held, told);
     if (number != DBN_ACCEPTED) {
+        s->out[DBN_OUT_PLACE] = told[DBN_PRELUDE_PLACE];
         return number;
     }
     if (told[DBN_PRELUDE_VERSION] >= 4) {
@@ -120,6 +121,16 @@ static void show(const struct start *s) {
     }
 }
 
+/* Tells why a start is refused, and at which byte where the number has a place. */
+static void refused(uint32_t number, uint64_t place) {
+    fprintf(stderr, "start: refused by %u", (unsigned)number);
+    if (dbn_has_place(number)) {
+        const char *part = number <= DBN_REFUSED_BLOCK_LENGTH ? "prelude" : "block";
+        fprintf(stderr, " at byte %llu of the %s", (unsigned long long)place, part);
+    }
+    fprintf(stderr, ": %s\n", dbn_sentence(number));
+}
+
 /* Reads what the start needs and no byte more, so that the records stay in the file. */
 static int run(FILE *file, struct start *s) {
     uint8_t piece[4096];
@@ -138,7 +149,7 @@ static int run(FILE *file, struct start *s) {
         number = feed_all(s, piece, n);
     }
     if (number != DBN_ACCEPTED) {
-        fprintf(stderr, "start: refused by %u: %s\n", (unsigned)number, dbn_sentence(number));
+        refused(number, s->out[DBN_OUT_PLACE]);
         return 1;
     }
     show(s);

@@ -1,11 +1,12 @@
 //! Inputs aimed at numbers that damage alone seldom gives: well formed but for one thing.
 use crate::gen::{self, LayoutTree, Rng, Sheet};
 
-/// A stream start with a code that is not known, a symbology section that is not spanned, a symbology cut short, or its last mapping.
+/// A stream start with a code that is not known, a symbology section that is not spanned, a symbology cut short, or its last
+/// mapping; a layout or symbology length that is missing, or that goes past the end; or a layout of [`layout`].
 pub fn stream(r: &mut Rng, sheet: &Sheet) -> Vec<u8> {
-    let which = r.below(6);
+    let which = r.below(11);
     let version = match which {
-        3 => 4,
+        3 | 8..=10 => 4,
         4 | 5 => 1 + r.below(3) as u8,
         _ => 1 + r.below(4) as u8,
     };
@@ -29,25 +30,64 @@ pub fn stream(r: &mut Rng, sheet: &Sheet) -> Vec<u8> {
         5 => symbology.truncate(symbology.len() - 1 - r.below(head.width as usize + 4)),
         _ => {}
     }
-    let layout = if version == 4 { gen::layout(r, sheet, head.width as usize, 1, 3).bytes(r) } else { Vec::new() };
+    let layout = match version {
+        4 if which == 10 => layout(r, sheet).0,
+        4 => gen::layout(r, sheet, head.width as usize, 1, 3).bytes(r),
+        _ => Vec::new(),
+    };
     let after = if which >= 4 { 0 } else { r.below(3) };
-    let block = gen::block(r, &head, &layout, &symbology, after);
+    let mut block = gen::block(r, &head, &layout, &symbology, after);
+    bend_lengths(r, which, &mut block, layout.len(), symbology.len());
     gen::stream_of(version, &block)
 }
 
-/// A layout, and its width, with a short section, an rtype twice, a base that is not of 8, a decimal's scale, or a gap before the
-/// extensions.
+/// A block whose layout length is missing (6) or goes past the end (7), or whose symbology length does (8, 9).
+fn bend_lengths(r: &mut Rng, which: usize, block: &mut Vec<u8>, layout: usize, symbology: usize) {
+    match which {
+        6 => block.truncate(100 + r.below(4)),
+        7 => {
+            let past = (block.len() - 104 + 1 + r.below(300)) as u32;
+            block[100..104].copy_from_slice(&past.to_le_bytes());
+        }
+        8 => block.truncate(104 + layout + r.below(4)),
+        9 => block.truncate(104 + layout + 4 + r.below(symbology)),
+        _ => {}
+    }
+}
+
+/// A layout, and its width, with a short section, an rtype twice, a base that is not of 8, a decimal's scale, a gap before the
+/// extensions, or a section that ends before its contents do.
 pub fn layout(r: &mut Rng, sheet: &Sheet) -> (Vec<u8>, u16) {
     let width = r.pick(&[0u16, 3, 8, 22, 71]);
     let (records, fields) = (2 + r.below(2), 2 + r.below(8));
     let mut tree = gen::layout(r, sheet, width as usize, records, fields);
-    let which = r.below(5);
+    let which = r.below(7);
     bend(r, sheet, &mut tree, which);
     let mut bytes = tree.bytes(r);
-    if which == 0 && !tree.records.is_empty() {
-        bytes[4..6].copy_from_slice(&[r.below(2) as u8, 0]);
+    match which {
+        0 if !tree.records.is_empty() => bytes[4..6].copy_from_slice(&[r.below(2) as u8, 0]),
+        5 | 6 => shorten(r, &mut bytes),
+        _ => {}
     }
     (bytes, width)
+}
+
+/// Gives one section of a layout a length below its own.
+fn shorten(r: &mut Rng, bytes: &mut [u8]) {
+    let u16_at = |p: usize| u16::from_le_bytes([bytes[p], bytes[p + 1]]) as usize;
+    let (mut sections, mut p) = (Vec::new(), 2);
+    for _ in 0..3 {
+        let count = u16_at(p);
+        p += 2;
+        for _ in 0..count {
+            sections.push(p);
+            p += u16_at(p);
+        }
+    }
+    if let Some(&at) = sections.get(r.below(sections.len())) {
+        let length = (2 + r.below(u16_at(at) - 2)) as u16;
+        bytes[at..at + 2].copy_from_slice(&length.to_le_bytes());
+    }
 }
 
 fn bend(r: &mut Rng, sheet: &Sheet, tree: &mut LayoutTree, which: usize) {

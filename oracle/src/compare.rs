@@ -3,7 +3,8 @@ use crate::{
     aimed, calls,
     gen::{self, Rng, Sheet},
     of_crate::{Answer, Build, BUILDS},
-    ours, paper,
+    ours,
+    paper::{self, Stage},
     tally::{told, Beside, Kind, Tally},
 };
 
@@ -79,8 +80,45 @@ pub fn run(inputs: u64, seed: u64) -> Tally {
     tally
 }
 
+/// Ours beside the plain program: what is needed, what is accepted, and the number and place of every refusal.
+fn beside_paper(ours: &[Answer], paper: &[Stage]) -> Kind {
+    let stage = |answer: &Answer| match answer {
+        Answer::Needs(n) => Some(Stage::Needs(*n as usize)),
+        Answer::Refused(number, place) => Some(Stage::Refused((*number, *place))),
+        Answer::Accepted(_) => Some(Stage::Done),
+        Answer::CheckSize | Answer::Odd(_) => None,
+    };
+    if ours.iter().map(stage).eq(paper.iter().map(|&stage| Some(stage))) {
+        return Kind::Agreed;
+    }
+    let here: Vec<_> = ours.iter().map(|answer| stage(answer).map_or(told(answer), |s| format!("{s:?}"))).collect();
+    Kind::Unexplained(format!("paper {paper:?}, here {}", here.join(", ")))
+}
+
+/// Ours beside the plain program, then beside the crate.
+fn judge(ours: &[Answer], paper: &[Stage], builds: &[Build; 3], ask: impl Fn(&Build) -> Vec<Answer>) -> Kind {
+    match beside_paper(ours, paper) {
+        Kind::Agreed => beside_crate(&without_places(ours), builds, ask),
+        kind => kind,
+    }
+}
+
+/// The answers as the crate can give them.
+fn without_places(answers: &[Answer]) -> Vec<Answer> {
+    let bare = |answer: &Answer| match answer {
+        Answer::Refused(number, _) => Answer::Refused(*number, None),
+        answer => answer.clone(),
+    };
+    answers.iter().map(bare).collect()
+}
+
+/// The verdict of the plain program on a block or a layout, as the end of a feed.
+fn stage_of(verdict: paper::Verdict) -> [Stage; 1] {
+    [verdict.map_or_else(Stage::Refused, |()| Stage::Done)]
+}
+
 /// Ours beside the three builds: the crate unchanged, then what explains a difference.
-fn judge(ours: &[Answer], builds: &[Build; 3], ask: impl Fn(&Build) -> Vec<Answer>) -> Kind {
+fn beside_crate(ours: &[Answer], builds: &[Build; 3], ask: impl Fn(&Build) -> Vec<Answer>) -> Kind {
     let whole = ask(&builds[0]);
     let last = |answers: &[Answer]| answers.last().map_or("none".into(), told);
     if ours == whole {
@@ -139,7 +177,8 @@ fn cut_stream(r: &mut Rng, made: &Made, tally: &mut Tally, bytes: &[u8], what: &
     let mut cuts: Vec<usize> = (0..r.pick(&[0, 0, 1, 2, 3, 5])).map(|_| r.below(bytes.len() + 1)).collect();
     cuts.sort();
     let answers = ours::feed(r, bytes, &cuts, &made.sheet);
-    let kind = judge(&answers, &BUILDS[made.build], |build| (build.feed)(bytes, &cuts));
+    let paper = paper::fed(bytes, &cuts, &made.sheet.0);
+    let kind = judge(&answers, &paper, &BUILDS[made.build], |build| (build.feed)(bytes, &cuts));
     let kind = with_input(kind, || format!("stream {} cut at {cuts:?}", hex(bytes)));
     tally.add(Beside::Crate, what, answers.last().unwrap(), kind);
 }
@@ -152,20 +191,16 @@ fn block(r: &mut Rng, made: &Made, tally: &mut Tally) {
     if r.one_in(20) {
         block.truncate(r.below(130));
     }
-    let answer = ours::block(r, version, &block, &made.sheet);
-    let wanted =
-        |number| if answer == Answer::Refused(number) { Kind::Agreed } else { Kind::Unexplained(told(&answer)) };
-    let (beside, kind) = if !(1..=4).contains(&version) {
-        (Beside::Paper, wanted(11))
-    } else if block.len() < 100 {
-        (Beside::Paper, wanted(13))
+    let answer = [ours::block(r, version, &block, &made.sheet)];
+    let paper = stage_of(paper::block(version, &block, &made.sheet.0));
+    let (beside, kind) = if !(1..=4).contains(&version) || block.len() < 100 {
+        (Beside::Paper, beside_paper(&answer, &paper))
     } else {
         let stream = gen::stream_of(version, &block);
-        let ours = std::slice::from_ref(&answer);
-        (Beside::Crate, judge(ours, &BUILDS[made.build], |build| (build.feed)(&stream, &[])))
+        (Beside::Crate, judge(&answer, &paper, &BUILDS[made.build], |build| (build.feed)(&stream, &[])))
     };
     let kind = with_input(kind, || format!("block {} version {version}", hex(&block)));
-    tally.add(beside, "blocks", &answer, kind);
+    tally.add(beside, "blocks", &answer[0], kind);
 }
 
 /// A stream start whose declared length a machine can hold.
@@ -193,7 +228,8 @@ fn layout(r: &mut Rng, made: &Made, tally: &mut Tally) {
 
 fn one_layout(r: &mut Rng, made: &Made, tally: &mut Tally, bytes: &[u8], width: u16, what: &'static str) {
     let answer = [ours::layout(r, bytes, width, &made.sheet)];
-    let kind = judge(&answer, &BUILDS[made.build], |build| vec![(build.layout)(bytes, width)]);
+    let paper = stage_of(paper::layout(bytes, width as usize, &made.sheet.0));
+    let kind = judge(&answer, &paper, &BUILDS[made.build], |build| vec![(build.layout)(bytes, width)]);
     let kind = with_input(kind, || format!("layout {} width {width}", hex(bytes)));
     tally.add(Beside::Crate, what, &answer[0], kind);
 }
@@ -205,8 +241,8 @@ fn written(r: &mut Rng, made: &Made, tally: &mut Tally) {
     let bytes = gen::layout(r, &made.sheet, width as usize, records, fields).bytes(r);
     let answer = ours::layout(r, &bytes, width, &made.sheet);
     let Answer::Accepted(values) = &answer else {
-        let build = &BUILDS[made.build];
-        let kind = judge(std::slice::from_ref(&answer), build, |build| vec![(build.layout)(&bytes, width)]);
+        let (build, paper) = (&BUILDS[made.build], stage_of(paper::layout(&bytes, width as usize, &made.sheet.0)));
+        let kind = judge(std::slice::from_ref(&answer), &paper, build, |build| vec![(build.layout)(&bytes, width)]);
         tally.add(
             Beside::Crate,
             "layouts",
@@ -295,7 +331,7 @@ fn in_order(rows: &[u32]) -> Vec<u32> {
     rows.concat()
 }
 
-/// Rows of any kind given to the writer, held to document 01's program.
+/// Rows of any kind given to the writer, held to the plain program.
 fn rows(r: &mut Rng, sheet: &Sheet, tally: &mut Tally) {
     let width = r.pick(&[0u16, 3, 8, 71]);
     let (records, fields) = (r.below(4), r.below(7));
@@ -317,7 +353,7 @@ fn rows(r: &mut Rng, sheet: &Sheet, tally: &mut Tally) {
     write_rows(r, sheet, tally, &rows, &text, width, "rows");
 }
 
-/// Rows of sections and tables that are too long, held to document 01's program.
+/// Rows of sections and tables that are too long, held to the plain program.
 fn long_rows(r: &mut Rng, sheet: &Sheet, tally: &mut Tally) {
     let (rows, text) = aimed::rows(r);
     write_rows(r, sheet, tally, &rows, &text, 8, "long rows");
@@ -340,7 +376,7 @@ fn write_rows(
     let got = ours::write(r, rows, text, version, width, sheet, room);
     let answer = match &wanted {
         Ok(_) => Answer::Accepted(Box::default()),
-        Err(number) => Answer::Refused(*number),
+        Err(number) => Answer::Refused(*number, None),
     };
     let kind = if got == Ok(wanted.clone()) {
         Kind::Agreed
@@ -391,7 +427,7 @@ fn bend_rows(r: &mut Rng, rows: &mut Vec<u32>, text: usize) {
     }
 }
 
-/// Stores, held counts and tables that may not fit, held to document 01's program.
+/// Stores, held counts and tables that may not fit, held to the plain program.
 fn lent(r: &mut Rng, sheet: &Sheet, tally: &mut Tally) {
     let bytes = some_stream(r, sheet);
     let declared = bytes.get(4..8).map_or(0, |x| u32::from_le_bytes(x.try_into().unwrap()) as usize);
@@ -411,34 +447,7 @@ fn lent(r: &mut Rng, sheet: &Sheet, tally: &mut Tally) {
     let got = calls::feed(held, &store, piece, &sheet.0, &symbology, &layout, &out);
 
     let mut wanted = calls::FeedAnswer { number: 0, out, store: store.clone(), symbology, layout };
-    let (taken, end) = if held > room as u64 {
-        (0, paper::Stage::Refused(1))
-    } else {
-        paper::feed(held as usize, &mut wanted.store, piece, &sheet.0)
-    };
-    let now = held.wrapping_add(taken as u64);
-    wanted.out[16..19].copy_from_slice(&[taken as u64, now, 0]);
-    let mut answer = Answer::Needs(0);
-    match end {
-        paper::Stage::Needs(n) => wanted.out[18] = n as u64,
-        paper::Stage::Refused(number) => wanted.number = number,
-        paper::Stage::Done => {
-            let values = crate::walk::block(wanted.store[3], &wanted.store[8..now as usize]);
-            let (s, l) = (values.symbology.concat(), values.layout.concat());
-            if sn / 5 < values.symbology.len() || ln / 9 < values.layout.len() {
-                wanted.number = 3;
-                wanted.out[10..12].copy_from_slice(&[values.symbology.len() as u64, values.layout.len() as u64]);
-            } else {
-                wanted.out[..16].copy_from_slice(&values.out());
-                wanted.symbology[..s.len()].copy_from_slice(&s);
-                wanted.layout[..l.len()].copy_from_slice(&l);
-                answer = Answer::Accepted(Box::default());
-            }
-        }
-    }
-    if wanted.number != 0 {
-        answer = Answer::Refused(wanted.number);
-    }
+    let answer = feed_paper(&mut wanted, held, piece, sheet);
     let kind = if got == wanted {
         Kind::Agreed
     } else {
@@ -448,7 +457,45 @@ fn lent(r: &mut Rng, sheet: &Sheet, tally: &mut Tally) {
     tally.add(Beside::Paper, "stores and tables", &answer, kind);
 }
 
-/// Layouts with sheets of random numbers, special ids that coincide among them, held to document 01's program.
+/// What the plain program makes of a feed, put into the answer that is wanted.
+fn feed_paper(wanted: &mut calls::FeedAnswer, held: u64, piece: &[u8], sheet: &Sheet) -> Answer {
+    let (taken, end) = if held > wanted.store.len() as u64 {
+        (0, Stage::Refused((1, None)))
+    } else {
+        paper::feed(held as usize, &mut wanted.store, piece, &sheet.0)
+    };
+    let now = held.wrapping_add(taken as u64);
+    wanted.out[16..19].copy_from_slice(&[taken as u64, now, 0]);
+    match end {
+        Stage::Needs(n) => {
+            wanted.out[18] = n as u64;
+            Answer::Needs(n as u64)
+        }
+        Stage::Refused((number, place)) => {
+            wanted.number = number;
+            place.into_iter().for_each(|place| wanted.out[13] = place as u64);
+            Answer::Refused(number, place)
+        }
+        Stage::Done => read_rows(wanted, now as usize),
+    }
+}
+
+/// Puts what a whole start comes to into the answer that is wanted: its values and rows, or 3 and the rows needed.
+fn read_rows(wanted: &mut calls::FeedAnswer, held: usize) -> Answer {
+    let values = crate::walk::block(wanted.store[3], &wanted.store[8..held]);
+    let (s, l) = (values.symbology.concat(), values.layout.concat());
+    if wanted.symbology.len() / 5 < values.symbology.len() || wanted.layout.len() / 9 < values.layout.len() {
+        wanted.number = 3;
+        wanted.out[10..12].copy_from_slice(&[values.symbology.len() as u64, values.layout.len() as u64]);
+        return Answer::Refused(3, None);
+    }
+    wanted.out[..16].copy_from_slice(&values.out());
+    wanted.symbology[..s.len()].copy_from_slice(&s);
+    wanted.layout[..l.len()].copy_from_slice(&l);
+    Answer::Accepted(Box::default())
+}
+
+/// Layouts with sheets of random numbers, special ids that coincide among them, held to the plain program.
 fn any_sheet(r: &mut Rng, tally: &mut Tally) {
     let sheet = Sheet::random(r);
     let (bytes, width) = some_layout(r, &sheet);
@@ -458,16 +505,14 @@ fn any_sheet(r: &mut Rng, tally: &mut Tally) {
             let (layout_version, layout) = crate::walk::layout(&bytes);
             Answer::Accepted(Box::new(crate::walk::Values { layout_version, layout, ..Default::default() }))
         }
-        Err(number) => Answer::Refused(number),
+        Err((number, place)) => Answer::Refused(number, place),
     };
     let kind = if answer == wanted {
         Kind::Agreed
     } else {
         let special = &sheet.0[512..];
         Kind::Unexplained(format!(
-            "paper {}, here {}; layout {} width {width}, special {special:?}",
-            told(&wanted),
-            told(&answer),
+            "paper {wanted:?}, here {answer:?}; layout {} width {width}, special {special:?}",
             hex(&bytes)
         ))
     };

@@ -6,7 +6,8 @@ use std::panic::{catch_unwind, AssertUnwindSafe};
 #[derive(Debug, Clone, PartialEq, Eq)]
 pub enum Answer {
     Needs(u64),
-    Refused(u32),
+    /// The number, and its place where it has one. The crate tells no place.
+    Refused(u32, Option<usize>),
     Accepted(Box<Values>),
     /// The crate refuses by `check_size`, which is not in the part taken.
     CheckSize,
@@ -243,10 +244,10 @@ fn refused(message: &str, block: Option<(u8, &[u8])>) -> Answer {
     if message.starts_with("layout: ") && message.contains("doesn't fit its") {
         return Answer::CheckSize;
     }
-    number(message, block).map_or_else(|| Answer::Odd(message.into()), Answer::Refused)
+    number(message, block).map_or_else(|| Answer::Odd(message.into()), |number| Answer::Refused(number, None))
 }
 
-/// The number of an error text. The block settles what the text does not tell: 22 from 23, and 24 from 50.
+/// The number of an error text. The block settles what the text does not tell: 22 from 23, and 44 from 50.
 fn number(message: &str, block: Option<(u8, &[u8])>) -> Option<u32> {
     let (kind, text) = message.split_once(": ")?;
     match kind {
@@ -280,11 +281,12 @@ fn decode_number(text: &str, block: Option<(u8, &[u8])>) -> Option<u32> {
         "a DBN version 4 stream must carry a stream layout" => 26,
         "stream layout length: ended mid-field" => 24,
         "stream layout: ended mid-field" => match block {
-            Some((_, block)) if walk::u32_at(block, 100) as usize > block.len() - 104 => 24,
+            Some((_, block)) if walk::u32_at(block, 100) as usize > block.len() - 104 => 44,
             _ => 50,
         },
         "record layout: ended mid-field" | "struct layout: ended mid-field" | "label def: ended mid-field" => 50,
-        "symbology length: ended mid-field" | "symbology: ended mid-field" => 27,
+        "symbology length: ended mid-field" => 27,
+        "symbology: ended mid-field" => 45,
         "unexpected end of metadata buffer in symbol cstr" => 30,
         "unexpected end of metadata buffer in symbol mapping" => 33,
         _ if text.starts_with("can't decode newer version") => 11,

@@ -15,6 +15,23 @@ pub fn table(r: &mut Rng, length: usize) -> Vec<u32> {
     (0..length).map(|_| r.next() as u32).collect()
 }
 
+/// The refusal of a number, with the place that `out` tells where the number has one.
+fn refused(number: u32, out: &[u64]) -> Answer {
+    Answer::Refused(number, has_place(number).then(|| out[PLACE] as usize))
+}
+
+/// Whether `out` after a refusal is what it was before, its place apart where the number has one.
+fn kept(number: u32, out: &[u64], before: &[u64]) -> bool {
+    (0..16).all(|i| out[i] == before[i] || i == PLACE && has_place(number))
+}
+
+/// Where `out` has the place of a refusal.
+const PLACE: usize = 13;
+
+fn has_place(number: u32) -> bool {
+    matches!(number, 10..=12 | 20..=55)
+}
+
 /// The values that sixteen numbers and two tables tell.
 fn values(out: &[u64], symbology: &[u32], layout: &[u32]) -> Values {
     let present = |bit: u64, value: u64| (out[12] & bit != 0).then_some(value);
@@ -78,8 +95,8 @@ pub fn block(r: &mut Rng, version: u8, block: &[u8], sheet: &Sheet) -> Answer {
     let (symbology, layout, out) = (table(r, sn), table(r, ln), marks(r));
     let a = calls::block(version, block, &sheet.0, &symbology, &layout, &out);
     if a.number != 0 {
-        let kept = a.out == out && a.symbology == symbology && a.layout == layout;
-        return if kept { Answer::Refused(a.number) } else { Answer::Odd("tables or out after a refusal".into()) };
+        let kept = kept(a.number, &a.out, &out) && a.symbology == symbology && a.layout == layout;
+        return if kept { refused(a.number, &a.out) } else { Answer::Odd("tables or out after a refusal".into()) };
     }
     let [s, l] = rows;
     let past = a.symbology[s * 5..] == symbology[s * 5..] && a.layout[l * 9..] == layout[l * 9..];
@@ -117,14 +134,14 @@ fn fed_answer(
         need(values.out() == fed.out[..16], "numbers of what is absent")?;
         return Ok(Answer::Accepted(Box::new(values)));
     }
-    need(fed.out[..16] == out[..16], "out after a refusal, or before the end")?;
+    need(kept(fed.number, &fed.out, out), "out after a refusal, or before the end")?;
     need(fed.symbology == symbology && fed.layout == layout, "tables after a refusal, or before the end")?;
     if fed.number == 0 {
         need(taken == piece.len(), "a feed that needs more takes all")?;
         Ok(Answer::Needs(needed))
     } else {
         need(needed == 0, "a refusal needs nothing")?;
-        Ok(Answer::Refused(fed.number))
+        Ok(refused(fed.number, &fed.out))
     }
 }
 
@@ -161,16 +178,12 @@ pub fn layout(r: &mut Rng, bytes: &[u8], width: u16, sheet: &Sheet) -> Answer {
     if calls::layout_plain(bytes, width, &sheet.0, &out) != (a.number, a.out) {
         return Answer::Odd("the two engines differ".into());
     }
-    let named: &[usize] = if a.number == 0 { &[9, 11] } else { &[] };
-    if (0..16).any(|i| !named.contains(&i) && a.out[i] != out[i]) {
-        return Answer::Odd("out of a layout".into());
-    }
     if a.number != 0 {
-        return if a.rows == before {
-            Answer::Refused(a.number)
-        } else {
-            Answer::Odd("a table after a refusal".into())
-        };
+        let kept = kept(a.number, &a.out, &out) && a.rows == before;
+        return if kept { refused(a.number, &a.out) } else { Answer::Odd("a table or out after a refusal".into()) };
+    }
+    if (0..16).any(|i| i != 9 && i != 11 && a.out[i] != out[i]) {
+        return Answer::Odd("out of a layout".into());
     }
     if a.out[11] as usize != rows || a.rows[rows * 9..] != before[rows * 9..] {
         return Answer::Odd("rows needed and given, or past the last row".into());

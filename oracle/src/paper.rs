@@ -1,11 +1,26 @@
-//! Document 01 as a plain program: verdicts only, with no care for speed.
+//! Documents 01 and 02 as a plain program: verdicts only, with no care for speed.
 //!
-//! The crate has no word for a part of the paper: lent stores and tables (1, 2, 3), sizes (13), rows (90 to 96), and sheets
-//! whose special ids coincide. There the C functions are held to this program. Where the crate has an answer, that decides.
+//! The crate has no word for a part of the papers: the places of refusals, lent stores and tables (1, 2, 3), sizes (13), rows
+//! (90 to 96), and sheets whose special ids coincide. There the C functions are held to this program. Where the crate has an
+//! answer it decides the number, and this program must give the same.
+//!
+//! A part of the given bytes is read as those bytes up to its end, from its start on. So every place counts from what was given.
 use crate::walk::ENTRY;
 
-/// Accepted, or the number.
-pub type Verdict = Result<(), u32>;
+/// A refusal: its number, and its place where it has one.
+pub type Refused = (u32, Option<usize>);
+
+/// Accepted, or refused.
+pub type Verdict = Result<(), Refused>;
+
+fn at(number: u32, place: usize) -> Refused {
+    (number, Some(place))
+}
+
+/// A refusal without a place.
+fn bare(number: u32) -> Refused {
+    (number, None)
+}
 
 /// The type sheet, as it is lent.
 pub type Sheet = [u16; 520];
@@ -23,8 +38,9 @@ const SYMBOL: usize = 513;
 const DECIMAL: usize = 514;
 const PADDING: usize = 515;
 
-fn number(b: &[u8], p: &mut usize, bytes: usize, refusal: u32) -> Result<usize, u32> {
-    let part = b.get(*p..*p + bytes).ok_or(refusal)?;
+/// The number of so many bytes at `p`, which then stands after it. One that does not fit is refused at its first byte.
+fn number(b: &[u8], p: &mut usize, bytes: usize, refusal: u32) -> Result<usize, Refused> {
+    let part = b.get(*p..*p + bytes).ok_or(at(refusal, *p))?;
     *p += bytes;
     Ok(part.iter().rev().fold(0, |sum, &x| sum * 256 + x as usize))
 }
@@ -87,27 +103,30 @@ struct Parts {
     labels: usize,
 }
 
+/// A text that does not fit, or breaks a rule, is refused at its first byte; 54 is at the byte in the NUL's place.
 fn name(s: &[u8], p: &mut usize) -> Verdict {
     let length = number(s, p, 1, 50)?;
-    let text = s.get(*p..*p + length).ok_or(50u32)?;
+    let text = s.get(*p..*p + length).ok_or(at(50, *p))?;
     if text.contains(&0) {
-        return Err(52);
+        return Err(at(52, *p));
     }
     if !is_text(text) {
-        return Err(53);
+        return Err(at(53, *p));
     }
     *p += length;
+    let closing = *p;
     match number(s, p, 1, 50)? {
         0 => Ok(()),
-        _ => Err(54),
+        _ => Err(at(54, closing)),
     }
 }
 
-fn fields(s: &[u8], p: &mut usize) -> Result<Vec<Entry>, u32> {
+/// Entries, then their names. An entry that does not fit is refused at its first byte.
+fn fields(s: &[u8], p: &mut usize) -> Result<Vec<Entry>, Refused> {
     let count = number(s, p, 2, 50)?;
     let mut out = Vec::new();
     for _ in 0..count {
-        let e = s.get(*p..*p + ENTRY).ok_or(50u32)?;
+        let e = s.get(*p..*p + ENTRY).ok_or(at(50, *p))?;
         let u16_at = |i: usize| e[i] as usize + 256 * e[i + 1] as usize;
         out.push(Entry {
             id: u16_at(0),
@@ -126,55 +145,61 @@ fn fields(s: &[u8], p: &mut usize) -> Result<Vec<Entry>, u32> {
     Ok(out)
 }
 
-/// The body of a section, whose length counts its own two bytes.
-fn section<'a>(l: &'a [u8], p: &mut usize) -> Result<&'a [u8], u32> {
+/// The bytes up to the end of the section at `p`, which then stands at its body. The length counts its own two bytes. A
+/// section past the end is refused at its body's first byte.
+fn section<'a>(l: &'a [u8], p: &mut usize) -> Result<&'a [u8], Refused> {
     let start = *p;
     let length = number(l, p, 2, 50)?;
     if length < 2 {
-        return Err(51);
+        return Err(at(51, start));
     }
-    let body = l.get(*p..start + length).ok_or(50u32)?;
-    *p = start + length;
-    Ok(body)
+    l.get(..start + length).ok_or(at(50, *p))
 }
 
-fn read_layout(l: &[u8]) -> Result<Parts, u32> {
+/// The layout from `p` to the end of the bytes.
+fn read_layout(l: &[u8], mut p: usize) -> Result<Parts, Refused> {
     let mut parts = Parts::default();
-    let mut p = 0;
     number(l, &mut p, 2, 50)?;
     for _ in 0..number(l, &mut p, 2, 50)? {
         let s = section(l, &mut p)?;
-        let mut q = 0;
-        let rtype = number(s, &mut q, 2, 50)?;
-        number(s, &mut q, 2, 50)?;
-        let base = number(s, &mut q, 2, 50)?;
-        number(s, &mut q, 8, 50)?;
-        name(s, &mut q)?;
-        parts.records.push((rtype, base, fields(s, &mut q)?));
+        let rtype = number(s, &mut p, 2, 50)?;
+        number(s, &mut p, 2, 50)?;
+        let base = number(s, &mut p, 2, 50)?;
+        number(s, &mut p, 8, 50)?;
+        name(s, &mut p)?;
+        parts.records.push((rtype, base, fields(s, &mut p)?));
+        p = s.len();
     }
     for _ in 0..number(l, &mut p, 2, 50)? {
         let s = section(l, &mut p)?;
-        let mut q = 0;
-        let size = number(s, &mut q, 2, 50)?;
-        name(s, &mut q)?;
-        parts.structs.push((size, fields(s, &mut q)?));
+        let size = number(s, &mut p, 2, 50)?;
+        name(s, &mut p)?;
+        parts.structs.push((size, fields(s, &mut p)?));
+        p = s.len();
     }
     for _ in 0..number(l, &mut p, 2, 50)? {
         let s = section(l, &mut p)?;
-        let mut q = 0;
-        name(s, &mut q)?;
-        let mut codes = Vec::new();
-        for _ in 0..number(s, &mut q, 2, 50)? {
-            let code = number(s, &mut q, 2, 50)?;
-            name(s, &mut q)?;
-            if codes.contains(&code) {
-                return Err(55);
-            }
-            codes.push(code);
-        }
+        label_def(s, p)?;
+        p = s.len();
         parts.labels += 1;
     }
     Ok(parts)
+}
+
+/// A label def. 55 is at the code that stands twice, and comes after the label's name.
+fn label_def(s: &[u8], mut p: usize) -> Verdict {
+    name(s, &mut p)?;
+    let mut codes = Vec::new();
+    for _ in 0..number(s, &mut p, 2, 50)? {
+        let place = p;
+        let code = number(s, &mut p, 2, 50)?;
+        name(s, &mut p)?;
+        if codes.contains(&code) {
+            return Err(at(55, place));
+        }
+        codes.push(code);
+    }
+    Ok(())
 }
 
 fn natural(s: &Sheet, type_id: u8) -> usize {
@@ -191,55 +216,69 @@ fn struct_align(s: &Sheet, entries: &[Entry]) -> usize {
     entries.iter().map(align).max().unwrap_or(1)
 }
 
+/// What the entries of a record or struct are judged by.
+struct Owner<'a> {
+    s: &'a Sheet,
+    parts: &'a Parts,
+    width: usize,
+    /// The base size of a record, the size of a struct.
+    base: usize,
+    record: bool,
+}
+
+/// What an entry's offset is to be a multiple of, or 72 or 73.
+fn alignment(owner: &Owner<'_>, e: &Entry) -> Result<usize, u32> {
+    let Owner { s, parts, .. } = owner;
+    if is(s, STRUCT, e.type_id) {
+        if !owner.record {
+            return Err(72);
+        }
+        let (_, inner) = parts.structs.get(e.def).ok_or(73u32)?;
+        if !is(s, PADDING, e.type_id) {
+            return Ok(struct_align(s, inner));
+        }
+    } else if s[256 + e.type_id as usize] != 0 && e.def != s[517] as usize && e.def >= parts.labels {
+        return Err(73);
+    }
+    Ok(natural(s, e.type_id))
+}
+
+/// 71 to 80 of an entry, which comes after those before. Gives whether it is an extension.
+fn check_field(owner: &Owner<'_>, before: &[Entry], e: &Entry) -> Result<bool, u32> {
+    let s = owner.s;
+    let padding = is(s, PADDING, e.type_id);
+    if !padding && before.iter().any(|x| !is(s, PADDING, x.type_id) && x.id == e.id) {
+        return Err(71);
+    }
+    let align = alignment(owner, e)?;
+    let extension = owner.record && e.offset >= owner.base;
+    let marked = s[516] != 0 && e.flags as u16 / s[516] % 2 == 1;
+    let faults = [
+        (!e.offset.is_multiple_of(align), 74),
+        (e.size == 0, 75),
+        (is(s, DECIMAL, e.type_id) && e.scale != 0xF7, 76),
+        (is(s, SYMBOL, e.type_id) && e.size != owner.width, 77),
+        (e.offset + e.size > 65535, 78),
+        (!padding && marked != extension, 79),
+        (!extension && e.offset + e.size > owner.base, 80),
+    ];
+    match faults.iter().find(|(broken, _)| *broken) {
+        Some((_, number)) => Err(*number),
+        None => Ok(extension),
+    }
+}
+
 /// 71 to 80 for each entry, then 81 to 83.
-fn check_fields(s: &Sheet, entries: &[Entry], base: usize, record: bool, parts: &Parts, width: usize) -> Verdict {
+fn check_fields(owner: &Owner<'_>, entries: &[Entry]) -> Result<(), u32> {
     let (mut inside, mut extensions) = (Vec::new(), Vec::new());
     for (i, e) in entries.iter().enumerate() {
-        let padding = is(s, PADDING, e.type_id);
-        if !padding && entries[..i].iter().any(|x| !is(s, PADDING, x.type_id) && x.id == e.id) {
-            return Err(71);
-        }
-        let mut align = natural(s, e.type_id);
-        if is(s, STRUCT, e.type_id) {
-            if !record {
-                return Err(72);
-            }
-            let (_, inner) = parts.structs.get(e.def).ok_or(73u32)?;
-            if !padding {
-                align = struct_align(s, inner);
-            }
-        } else if s[256 + e.type_id as usize] != 0 && e.def != s[517] as usize && e.def >= parts.labels {
-            return Err(73);
-        }
-        if e.offset % align != 0 {
-            return Err(74);
-        }
-        if e.size == 0 {
-            return Err(75);
-        }
-        if is(s, DECIMAL, e.type_id) && e.scale != 0xF7 {
-            return Err(76);
-        }
-        if is(s, SYMBOL, e.type_id) && e.size != width {
-            return Err(77);
-        }
-        if e.offset + e.size > 65535 {
-            return Err(78);
-        }
-        let extension = record && e.offset >= base;
-        let marked = s[516] != 0 && e.flags as u16 / s[516] % 2 == 1;
-        if !padding && marked != extension {
-            return Err(79);
-        }
-        if !extension && e.offset + e.size > base {
-            return Err(80);
-        }
+        let extension = check_field(owner, &entries[..i], e)?;
         if extension { &mut extensions } else { &mut inside }.push((e.offset, e.size));
     }
-    if tile(&mut inside, 0).ok_or(81u32)? != base {
+    if tile(&mut inside, 0).ok_or(81u32)? != owner.base {
         return Err(82);
     }
-    tile(&mut extensions, base).ok_or(83u32)?;
+    tile(&mut extensions, owner.base).ok_or(83u32)?;
     Ok(())
 }
 
@@ -249,12 +288,13 @@ fn tile(spans: &mut [(usize, usize)], from: usize) -> Option<usize> {
     spans.iter().try_fold(from, |at, (offset, size)| (*offset == at).then_some(at + size))
 }
 
-fn rules(s: &Sheet, parts: &Parts, width: usize) -> Verdict {
+/// 60 to 83, which have no place.
+fn rules(s: &Sheet, parts: &Parts, width: usize) -> Result<(), u32> {
     for (size, entries) in &parts.structs {
         if size % struct_align(s, entries) != 0 {
             return Err(60);
         }
-        check_fields(s, entries, *size, false, parts, width)?;
+        check_fields(&Owner { s, parts, width, base: *size, record: false }, entries)?;
     }
     for (i, (rtype, base, entries)) in parts.records.iter().enumerate() {
         if parts.records[..i].iter().any(|r| r.0 == *rtype) {
@@ -269,7 +309,7 @@ fn rules(s: &Sheet, parts: &Parts, width: usize) -> Verdict {
         if base % 8 != 0 {
             return Err(64);
         }
-        check_fields(s, entries, *base, true, parts, width)?;
+        check_fields(&Owner { s, parts, width, base: *base, record: true }, entries)?;
     }
     Ok(())
 }
@@ -277,101 +317,124 @@ fn rules(s: &Sheet, parts: &Parts, width: usize) -> Verdict {
 /// A layout given with a symbol width.
 pub fn layout(l: &[u8], width: usize, s: &Sheet) -> Verdict {
     if l.len() > u32::MAX as usize {
-        return Err(13);
+        return Err(bare(13));
     }
-    rules(s, &read_layout(l)?, width)
+    layout_from(l, 0, width, s)
 }
 
-fn symbology(s: &[u8], width: usize) -> Result<usize, u32> {
-    let mut p = 0;
+/// The layout from `p` to the end of the bytes, read and then ruled on.
+fn layout_from(l: &[u8], p: usize, width: usize, s: &Sheet) -> Verdict {
+    rules(s, &read_layout(l, p)?, width).map_err(bare)
+}
+
+/// The symbology from `p` to the end of the bytes. Gives the place that its contents reach.
+fn symbology(s: &[u8], mut p: usize, width: usize) -> Result<usize, Refused> {
     for _ in 0..3 {
+        let place = p;
         let count = number(s, &mut p, 4, 30)?;
         if count > 0 && (width == 0 || count > (s.len() - p) / width) {
-            return Err(31);
+            return Err(at(31, place));
         }
         for _ in 0..count {
-            if !is_text(&s[p..p + width]) {
-                return Err(32);
-            }
-            p += width;
+            symbol(s, &mut p, width, 32)?;
         }
     }
+    let place = p;
     let count = number(s, &mut p, 4, 33)?;
     if count > (s.len() - p) / (width + 4) {
-        return Err(34);
+        return Err(at(34, place));
     }
     for _ in 0..count {
-        if s.len() - p < width + 4 {
-            return Err(35);
-        }
-        if !is_text(&s[p..p + width]) {
-            return Err(36);
-        }
-        p += width;
-        let intervals = number(s, &mut p, 4, 35)?;
-        if intervals > (s.len() - p) / (width + 8) {
-            return Err(37);
-        }
-        for _ in 0..intervals {
-            if !is_date(number(s, &mut p, 4, 37)? as u32) {
-                return Err(38);
-            }
-            if !is_date(number(s, &mut p, 4, 37)? as u32) {
-                return Err(39);
-            }
-            if !is_text(&s[p..p + width]) {
-                return Err(40);
-            }
-            p += width;
-        }
+        mapping(s, &mut p, width)?;
     }
     Ok(p)
 }
 
-/// A block given with a version.
-pub fn block(version: u8, b: &[u8], s: &Sheet) -> Verdict {
-    if !(1..=4).contains(&version) {
-        return Err(11);
+/// A mapping. One that is cut short is refused at its first byte.
+fn mapping(s: &[u8], p: &mut usize, width: usize) -> Verdict {
+    if s.len() - *p < width + 4 {
+        return Err(at(35, *p));
     }
-    if b.len() < 100 || b.len() > u32::MAX as usize {
-        return Err(13);
+    symbol(s, p, width, 36)?;
+    let place = *p;
+    let intervals = number(s, p, 4, 35)?;
+    if intervals > (s.len() - *p) / (width + 8) {
+        return Err(at(37, place));
     }
+    for _ in 0..intervals {
+        for refusal in [38, 39] {
+            let place = *p;
+            if !is_date(number(s, p, 4, 37)? as u32) {
+                return Err(at(refusal, place));
+            }
+        }
+        symbol(s, p, width, 40)?;
+    }
+    Ok(())
+}
+
+/// A symbol, for which there is room. It is UTF-8 over its full width, or refused at its first byte.
+fn symbol(s: &[u8], p: &mut usize, width: usize, refusal: u32) -> Verdict {
+    if !is_text(&s[*p..*p + width]) {
+        return Err(at(refusal, *p));
+    }
+    *p += width;
+    Ok(())
+}
+
+/// 20 to 23 of a block's first 100 bytes. Gives the symbol width.
+fn header(version: u8, b: &[u8]) -> Result<usize, Refused> {
     let dataset = if version == 4 { 38 } else { 16 };
     if !is_text(&b[..dataset]) {
-        return Err(20);
+        return Err(at(20, 0));
     }
     let mut p = dataset;
     let schema = number(b, &mut p, 2, 0)?;
     if schema > 19 && schema != 65535 {
-        return Err(21);
+        return Err(at(21, dataset));
     }
     p += if version == 1 { 32 } else { 24 };
     if b[p] > 12 && b[p] != 255 {
-        return Err(22);
+        return Err(at(22, p));
     }
     if b[p + 1] > 12 {
-        return Err(23);
+        return Err(at(23, p + 1));
     }
     p += 3;
-    let width = if version == 1 { 22 } else { number(b, &mut p, 2, 0)? };
-    p = 100;
+    if version == 1 {
+        return Ok(22);
+    }
+    number(b, &mut p, 2, 0)
+}
+
+/// A block given with a version. Its version would stand at byte 3 of a prelude.
+pub fn block(version: u8, b: &[u8], s: &Sheet) -> Verdict {
+    if !(1..=4).contains(&version) {
+        return Err(at(11, 3));
+    }
+    if b.len() < 100 || b.len() > u32::MAX as usize {
+        return Err(bare(13));
+    }
+    let width = header(version, b)?;
+    let mut p = 100;
     let length = number(b, &mut p, 4, 24)?;
-    let inner = b.get(p..p + length).ok_or(24u32)?;
-    p += length;
+    let inner = b.get(..p + length).ok_or(at(44, p))?;
+    if version < 4 && length != 0 {
+        return Err(at(25, 100));
+    }
     if version < 4 {
-        if length != 0 {
-            return Err(25);
-        }
-        return symbology(&b[p..], width).map(|_| ());
+        return symbology(b, p, width).map(|_| ());
     }
     if length == 0 {
-        return Err(26);
+        return Err(at(26, 100));
     }
-    layout(inner, width, s)?;
+    layout_from(inner, p, width, s)?;
+    p = inner.len();
     let length = number(b, &mut p, 4, 27)?;
-    let section = b.get(p..p + length).ok_or(27u32)?;
-    if symbology(section, width)? != length {
-        return Err(28);
+    let section = b.get(..p + length).ok_or(at(45, p))?;
+    let reached = symbology(section, p, width)?;
+    if reached != section.len() {
+        return Err(at(28, reached));
     }
     Ok(())
 }
@@ -381,31 +444,31 @@ pub fn block(version: u8, b: &[u8], s: &Sheet) -> Verdict {
 pub enum Stage {
     Needs(usize),
     Done,
-    Refused(u32),
+    Refused(Refused),
 }
 
 /// The verdict on held bytes: 1 beyond the store; 2 below 8; with 8 held 10, 11, 12, 2 for 8 + length, 1 beyond the whole
-/// block; then the block.
+/// block; then the block. The places of 10 to 12 count from the prelude, those of the block from the block.
 pub fn stage(held: usize, store: &[u8], s: &Sheet) -> Stage {
     if held > store.len() {
-        return Stage::Refused(1);
+        return Stage::Refused(bare(1));
     }
     if store.len() < 8 {
-        return Stage::Refused(2);
+        return Stage::Refused(bare(2));
     }
     if held < 8 {
         return Stage::Needs(8 - held);
     }
     let length = u32::from_le_bytes(store[4..8].try_into().unwrap()) as usize;
     let refusals = [
-        (&store[..3] != b"DBN", 10),
-        (!(1..=4).contains(&store[3]), 11),
-        (length < 100, 12),
-        (store.len() < 8 + length, 2),
-        (held > 8 + length, 1),
+        (&store[..3] != b"DBN", at(10, 0)),
+        (!(1..=4).contains(&store[3]), at(11, 3)),
+        (length < 100, at(12, 4)),
+        (store.len() < 8 + length, bare(2)),
+        (held > 8 + length, bare(1)),
     ];
-    if let Some((_, number)) = refusals.iter().find(|(broken, _)| *broken) {
-        return Stage::Refused(*number);
+    if let Some((_, refused)) = refusals.iter().find(|(broken, _)| *broken) {
+        return Stage::Refused(*refused);
     }
     if held < 8 + length {
         return Stage::Needs(8 + length - held);
@@ -426,6 +489,23 @@ pub fn feed(held: usize, store: &mut [u8], piece: &[u8], s: &Sheet) -> (usize, S
             end => return (taken, end),
         }
     }
+}
+
+/// What the held bytes come to after each piece of a stream that is cut at these places, in a store that is long enough. The
+/// last one stands for the rest.
+pub fn fed(stream: &[u8], cuts: &[usize], s: &Sheet) -> Vec<Stage> {
+    let declared = stream.get(4..8).map_or(0, |x| u32::from_le_bytes(x.try_into().unwrap()) as usize);
+    let mut store = vec![0; 8 + declared];
+    let (mut stages, mut from, mut held) = (Vec::new(), 0, 0);
+    for &cut in cuts.iter().chain([&stream.len()]) {
+        let (taken, stage) = feed(held, &mut store, &stream[from..cut], s);
+        (from, held) = (cut, held + taken);
+        stages.push(stage);
+        if !matches!(stage, Stage::Needs(_)) {
+            break;
+        }
+    }
+    stages
 }
 
 /// The bytes of rows: 90 to 95, each over all rows before the next, then the rules. The length of an output is not asked.
@@ -462,7 +542,7 @@ pub fn write(rows: &[u32], text: &[u8], version: u16, width: usize, s: &Sheet) -
             return Err(95);
         }
     }
-    rules(s, &read_layout(&out).expect("written bytes are a layout"), width)?;
+    rules(s, &read_layout(&out, 0).expect("written bytes are a layout"), width)?;
     Ok(out)
 }
 
@@ -572,4 +652,163 @@ fn well_formed(row: &[u32], text: &[u8]) -> bool {
         && halves.iter().all(|&i| row[i] <= 65535)
         && bytes.iter().all(|&i| row[i] <= 255)
         && row[unused..].iter().all(|&x| x == 0)
+}
+
+#[cfg(test)]
+mod tests {
+    //! Places counted by hand.
+    use super::*;
+
+    const SHEET: Sheet = [0; 520];
+
+    fn bytes(parts: &[&[u8]]) -> Vec<u8> {
+        parts.concat()
+    }
+
+    /// A layout whose one record (0), struct (1) or label def (2) is a section of this body. The body begins at 6, 8 or 10.
+    fn layout_of(kind: usize, body: &[u8]) -> Vec<u8> {
+        let mut out = vec![0; 2 + 2 * kind];
+        out.extend([1, 0, body.len() as u8 + 2, 0]);
+        out.extend(body);
+        out
+    }
+
+    fn refused(l: &[u8]) -> Refused {
+        layout(l, 3, &SHEET).expect_err("a refusal")
+    }
+
+    #[test]
+    fn a_number_of_a_layout_that_is_missing_is_at_its_first_byte() {
+        let empty = [0; 8];
+        for (length, place) in [(0, 0), (1, 0), (2, 2), (3, 2), (4, 4), (5, 4), (6, 6), (7, 6)] {
+            assert_eq!(refused(&empty[..length]), at(50, place), "{length} bytes");
+        }
+        assert_eq!(layout(&empty, 3, &SHEET), Ok(()));
+        assert_eq!([refused(&[0, 0, 1, 0]), refused(&[0, 0, 1, 0, 9])], [at(50, 4); 2], "a section's length");
+        // The numbers of a record: rtype, schema, base, hash, the length of its name, the NUL, the count of its fields.
+        let starts = [0, 2, 4, 6, 14, 15, 16];
+        for length in 0..18 {
+            let place = 6 + starts.iter().rev().find(|&&start| start <= length).unwrap();
+            assert_eq!(refused(&layout_of(0, &vec![0; length])), at(50, place), "{length} bytes");
+        }
+    }
+
+    #[test]
+    fn a_section_is_refused_at_its_length_or_at_its_body() {
+        assert_eq!(refused(&[0, 0, 1, 0, 0, 0]), at(51, 4));
+        assert_eq!(refused(&[0, 0, 0, 0, 1, 0, 1, 0, 7]), at(51, 6));
+        assert_eq!(refused(&[0, 0, 1, 0, 3, 0]), at(50, 6));
+        assert_eq!(refused(&[0, 0, 1, 0, 9, 0, 1, 2, 3]), at(50, 6));
+        let mut two = layout_of(1, &[0; 6]);
+        two[4] = 2;
+        two.extend([0xFF, 0, 1, 2]);
+        assert_eq!(refused(&two), at(50, 16), "the second section");
+    }
+
+    #[test]
+    fn a_name_is_refused_at_its_text_or_at_its_closing_byte() {
+        let name = |name: &[u8]| refused(&layout_of(2, name));
+        assert_eq!(name(&[]), at(50, 10), "no length");
+        assert_eq!([name(&[3]), name(&[3, b'a', b'b'])], [at(50, 11); 2], "cut");
+        assert_eq!(name(&[3, b'a', 0, 0xFF]), at(52, 11), "52 before 53, and before the missing NUL");
+        assert_eq!(name(&[3, b'a', b'b', 0xFF]), at(53, 11));
+        assert_eq!(name(&[3, b'a', b'b', b'c']), at(50, 14), "no closing NUL");
+        assert_eq!(name(&[3, b'a', b'b', b'c', 1]), at(54, 14));
+        assert_eq!(name(&[0, 7]), at(54, 11));
+    }
+
+    #[test]
+    fn a_field_entry_that_is_cut_is_at_its_first_byte() {
+        // A struct: size, empty name, two fields.
+        let head = [0, 0, 0, 0, 2, 0];
+        let body = |entries: usize| refused(&layout_of(1, &bytes(&[&head, &vec![0; entries]])));
+        assert_eq!([body(0), body(1), body(15)], [at(50, 14); 3]);
+        assert_eq!([body(16), body(17), body(31)], [at(50, 30); 3]);
+        assert_eq!([body(32), body(33), body(34), body(35)], [at(50, 46), at(50, 47), at(50, 48), at(50, 49)]);
+        let names = bytes(&[&head, &[0; 32], &[0, 0, 2, b'a', 0xFF, 0]]);
+        assert_eq!(refused(&layout_of(1, &names)), at(53, 49));
+    }
+
+    #[test]
+    fn a_label_code_that_stands_twice_is_at_the_second() {
+        let def = [0, 0, 3, 0, 7, 0, 1, b'x', 0, 8, 0, 0, 0, 7, 0, 0];
+        assert_eq!(refused(&layout_of(2, &bytes(&[&def, &[0]]))), at(55, 23));
+        assert_eq!(refused(&layout_of(2, &bytes(&[&def, &[1]]))), at(54, 26), "the name comes first");
+        assert_eq!(refused(&layout_of(2, &def)), at(50, 26));
+        assert_eq!(refused(&layout_of(2, &def[..14])), at(50, 23), "the code is missing");
+    }
+
+    #[test]
+    fn a_rule_has_no_place() {
+        let record = layout_of(0, &bytes(&[&[0x4E, 0], &[0; 16]]));
+        assert_eq!(refused(&record), at(50, 24), "the count of structs");
+        assert_eq!(refused(&bytes(&[&record, &[0; 4]])), bare(62));
+    }
+
+    /// The refusal of a block of zeros with these bytes in it, symbol width 3.
+    fn block_with(version: u8, length: usize, changes: &[(usize, &[u8])]) -> Refused {
+        let mut b = vec![0; length];
+        b[if version == 4 { 67 } else { 45 }] = 3;
+        for (place, part) in changes {
+            b[*place..place + part.len()].copy_from_slice(part);
+        }
+        block(version, &b, &SHEET).expect_err("a refusal")
+    }
+
+    #[test]
+    fn the_header_and_the_two_lengths_of_a_block() {
+        let header = |version| {
+            let [schema, stype_in] = [[16, 50], [16, 42], [16, 42], [38, 64]][version as usize - 1];
+            assert_eq!(block_with(version, 100, &[(schema - 1, &[0xFF])]), at(20, 0));
+            assert_eq!(block_with(version, 100, &[(schema, &[0, 1])]), at(21, schema));
+            assert_eq!(block_with(version, 100, &[(stype_in, &[13, 13])]), at(22, stype_in));
+            assert_eq!(block_with(version, 100, &[(stype_in, &[255, 255])]), at(23, stype_in + 1));
+            assert_eq!([100, 101, 103].map(|length| block_with(version, length, &[])), [at(24, 100); 3]);
+            assert_eq!(block_with(version, 108, &[(100, &[5])]), at(44, 104), "5 of 4 bytes");
+        };
+        (1..=4).for_each(header);
+        assert_eq!([block_with(2, 109, &[(100, &[5])]), block_with(4, 200, &[])], [at(25, 100), at(26, 100)]);
+        let empty: (usize, &[u8]) = (100, &[8]);
+        assert_eq!([112, 115].map(|length| block_with(4, length, &[empty])), [at(27, 112); 2]);
+        assert_eq!(block_with(4, 120, &[empty, (112, &[5])]), at(45, 116));
+        assert_eq!(block_with(4, 140, &[empty, (112, &[17])]), at(28, 132));
+        assert_eq!(block_with(4, 140, &[empty, (112, &[15])]), at(33, 128), "28 comes after the contents");
+        assert_eq!([block(0, &[], &SHEET), block(5, &[0; 200], &SHEET)], [Err(at(11, 3)); 2]);
+        assert_eq!(block(1, &[0; 99], &SHEET), Err(bare(13)));
+        assert_eq!(block_with(4, 200, &[(100, &[20]), (106, &[1]), (108, &[1])]), at(51, 108), "from the block");
+    }
+
+    #[test]
+    fn the_symbology_of_a_block() {
+        for (length, place) in [(104, 104), (107, 104), (108, 108), (112, 112), (115, 112)] {
+            assert_eq!(block_with(2, length, &[]), at(30, place));
+        }
+        let two: (usize, &[u8]) = (108, &[2]);
+        assert_eq!(block_with(2, 117, &[two]), at(31, 108), "two symbols of 3 in 5 bytes");
+        assert_eq!(block_with(2, 130, &[two, (117, &[0xFF])]), at(32, 115), "the second symbol's last byte");
+        assert_eq!([116, 119].map(|length| block_with(2, length, &[])), [at(33, 116); 2]);
+        let one: (usize, &[u8]) = (116, &[1]);
+        assert_eq!(block_with(2, 126, &[one]), at(34, 116), "a mapping of 7 in 6 bytes");
+        assert_eq!(block_with(2, 127, &[one, (121, &[0xFF])]), at(36, 120));
+        assert_eq!(block_with(2, 137, &[one, (123, &[1])]), at(37, 123), "an interval of 11 in 10 bytes");
+        let dates: (usize, &[u8]) = (127, &[101, 0, 0, 0, 101]);
+        assert_eq!(block_with(2, 138, &[one, (123, &[1])]), at(38, 127));
+        assert_eq!(block_with(2, 138, &[one, (123, &[1]), (127, &[101])]), at(39, 131));
+        assert_eq!(block_with(2, 138, &[one, (123, &[1]), dates, (137, &[0x80])]), at(40, 135));
+        let mappings: (usize, &[u8]) = (116, &[2]);
+        assert_eq!(block_with(2, 144, &[mappings, (123, &[1]), dates]), at(35, 138), "6 bytes for the second");
+    }
+
+    #[test]
+    fn in_feeding_places_count_from_the_prelude_and_from_the_block() {
+        let last = |stream: &[u8], cuts: &[usize]| *fed(stream, cuts, &SHEET).last().unwrap();
+        let prelude = |magic: &[u8], version: u8, length: u8| bytes(&[magic, &[version, length, 0, 0, 0]]);
+        assert_eq!(last(&prelude(b"DBM", 9, 9), &[2]), Stage::Refused(at(10, 0)));
+        assert_eq!(last(&prelude(b"DBN", 9, 9), &[]), Stage::Refused(at(11, 3)));
+        assert_eq!(last(&prelude(b"DBN", 4, 99), &[7]), Stage::Refused(at(12, 4)));
+        let stream = bytes(&[&prelude(b"DBN", 2, 104), &[0; 104]]);
+        assert_eq!(fed(&stream[..50], &[3, 8], &SHEET), [5, 104, 62].map(Stage::Needs));
+        assert_eq!(last(&stream, &[3, 90]), Stage::Refused(at(30, 104)));
+        assert_eq!(stage(9, &stream[..8], &SHEET), Stage::Refused(bare(1)));
+    }
 }

@@ -5,16 +5,21 @@
 //!   b  a block, with tables of 256 rows: the refusal, or the fields and the rows of both tables with their names
 //!   l  a layout: the refusal, or its version and rows; the answer of the rules five times; the rows with their names
 //!   t  a layout that is read and written: the bytes that the crate writes
+//! A refusal is the crate's number; the plain program must give the same, and its place stands beside it.
 //! Inputs that a listed difference, or a check outside the part taken, touches are left out.
 use crate::{
     gen::{self, Rng, Sheet},
     of_crate::{Answer, Build, BUILDS},
+    paper,
     walk::{self, Values},
 };
 use std::{collections::BTreeMap, io::Write, path::Path};
 
 /// How the line of the sample begins.
-const LINE: &str = "# A sample of the answers of the crate dbn 0.73.0, with two sheets, made by oracle/make-sample: ";
+const LINE: &str = "# A sample of the answers of the crate dbn 0.73.0, ";
+
+/// How it goes on.
+const MADE: &str = "with two sheets and the plain program's places, made by oracle/make-sample: ";
 
 /// How many inputs of each refusal, and how many accepted ones of each kind, the list has.
 const REFUSED: usize = 3;
@@ -33,7 +38,7 @@ struct List {
 pub fn write(folder: &Path) -> std::io::Result<()> {
     let List { cases, told, counts } = list();
     let [sheets, blocks, layouts, written] = counts;
-    let line = format!("{LINE}{sheets} sheets, {blocks} blocks, {layouts} layouts, {written} written\n");
+    let line = format!("{LINE}{MADE}{sheets} sheets, {blocks} blocks, {layouts} layouts, {written} written\n");
     println!("{line}");
     put_after(&folder.join("stdin"), &line, &cases)?;
     put_after(&folder.join("stdout"), &line, &told)
@@ -110,10 +115,17 @@ fn tell_block(values: &Values, block: &[u8]) -> Vec<u8> {
 fn number(one: &Answer, two: &Answer) -> Option<u32> {
     match one {
         _ if one != two => None,
-        Answer::Refused(number) => Some(*number),
+        Answer::Refused(number, _) => Some(*number),
         Answer::Accepted(_) => Some(0),
         _ => None,
     }
+}
+
+/// The crate's number as the program writes it, with the place of the plain program, whose number is the same; 0 for accepted.
+fn with_place(number: u32, plain: paper::Verdict) -> String {
+    let (same, place) = plain.err().unwrap_or((0, None));
+    assert_eq!(same, number, "the plain program's number beside the crate's");
+    place.map_or(number.to_string(), |place| format!("{number} at {place}"))
 }
 
 fn cases(out: &mut List, build: usize, sheet: &Sheet) {
@@ -135,7 +147,7 @@ fn cases(out: &mut List, build: usize, sheet: &Sheet) {
         }
         if stream.len() >= 108 && stream[..3] == *b"DBN" && (1..=4).contains(&stream[3]) {
             gen::match_length(&mut stream);
-            block_case(out, &stream, &mut wanted, plain, align);
+            block_case(out, &stream, sheet, &mut wanted, plain, align);
         }
         let width = r.pick(&[0u16, 3, 71]);
         let (records, fields) = (r.below(3), r.below(6));
@@ -144,13 +156,14 @@ fn cases(out: &mut List, build: usize, sheet: &Sheet) {
             gen::bend(&mut r, sheet, &mut tree);
         }
         let layout = tree.bytes(&mut r);
-        layout_case(out, &layout, width, &mut wanted, plain, align);
+        layout_case(out, &layout, width, sheet, &mut wanted, plain, align);
     }
 }
 
 fn block_case(
     out: &mut List,
     stream: &[u8],
+    sheet: &Sheet,
     wanted: &mut impl FnMut(u8, u32, usize) -> bool,
     plain: &Build,
     align: &Build,
@@ -163,19 +176,20 @@ fn block_case(
     }
     let told = match &answer {
         Answer::Accepted(values) => tell_block(values, block),
-        _ => format!("refused {number}\n").into_bytes(),
+        _ => format!("refused {}\n", with_place(number, paper::block(version, block, &sheet.0))).into_bytes(),
     };
     out.put(1, format!("b {version:02x} {} {}", number16(256), hex(block)), &told);
 }
 
 /// What the program writes for a layout: a rule refuses one that can be read.
-fn tell_layout(layout: &[u8], number: u32) -> Vec<u8> {
+fn tell_layout(layout: &[u8], number: u32, plain: paper::Verdict) -> Vec<u8> {
+    let told = with_place(number, plain);
     if (1..60).contains(&number) {
-        return format!("refused {number}\n  rules {number} {number} {number} 0 0\n").into_bytes();
+        return format!("refused {told}\n  rules {told} {told} {told} 0 0\n").into_bytes();
     }
     let (version, rows) = walk::layout(layout);
     let mut out = format!("read {version} {}\n  rules", rows.len());
-    out += &format!(" {number}").repeat(5);
+    out += &format!(" {told}").repeat(5);
     let mut out = (out + "\n").into_bytes();
     tell_rows(&mut out, &rows, layout);
     out
@@ -185,6 +199,7 @@ fn layout_case(
     out: &mut List,
     layout: &[u8],
     width: u16,
+    sheet: &Sheet,
     wanted: &mut impl FnMut(u8, u32, usize) -> bool,
     plain: &Build,
     align: &Build,
@@ -193,7 +208,8 @@ fn layout_case(
     let Some(number) = number(&answer, &(align.layout)(layout, width)) else { return };
     let case = format!("{} {}", number16(width), hex(layout));
     if wanted(2, number, layout.len()) {
-        out.put(2, format!("l {case}"), &tell_layout(layout, number));
+        let plain = paper::layout(layout, width as usize, &sheet.0);
+        out.put(2, format!("l {case}"), &tell_layout(layout, number, plain));
     }
     let Answer::Accepted(values) = &answer else { return };
     let rising = values.layout.windows(2).all(|two| two[0][0] != 15 || two[1][0] != 15 || two[0][3] < two[1][3]);

@@ -7,7 +7,7 @@ use std::collections::BTreeMap;
 pub enum Beside {
     /// The crate's own text.
     Crate,
-    /// Document 01 as a plain program (`paper.rs`), where the crate has no such thing.
+    /// Documents 01 and 02 as a plain program (`paper.rs`), where the crate has no such thing.
     Paper,
 }
 
@@ -23,7 +23,7 @@ pub enum Kind {
 }
 
 /// The numbers that the crate can give, and those that the plain program alone gives.
-const OF_CRATE: [std::ops::RangeInclusive<u32>; 6] = [10..=12, 20..=28, 30..=40, 50..=55, 60..=64, 71..=83];
+const OF_CRATE: [std::ops::RangeInclusive<u32>; 7] = [10..=12, 20..=28, 30..=40, 44..=45, 50..=55, 60..=64, 71..=83];
 const OF_PAPER: [std::ops::RangeInclusive<u32>; 3] = [1..=3, 13..=13, 90..=96];
 
 /// Each number is to be agreed on once in so many inputs, or more often. Shorter runs than this many floors have none.
@@ -37,6 +37,8 @@ struct Counts {
     answers: BTreeMap<String, u64>,
     /// How often each number was agreed on.
     hits: BTreeMap<u32, u64>,
+    /// How many refusals were held to a place.
+    placed: u64,
     agreed: u64,
     listed: BTreeMap<String, u64>,
     apart: BTreeMap<&'static str, u64>,
@@ -54,10 +56,11 @@ impl Tally {
         let counts = self.counts.entry(beside).or_default();
         *counts.inputs.entry(what).or_default() += 1;
         *counts.answers.entry(told(answer)).or_default() += 1;
+        counts.placed += matches!(answer, Answer::Refused(_, Some(_))) as u64;
         match kind {
             Kind::Agreed => {
                 counts.agreed += 1;
-                if let Answer::Refused(number) = answer {
+                if let Answer::Refused(number, _) = answer {
                     *counts.hits.entry(*number).or_default() += 1;
                 }
             }
@@ -80,7 +83,7 @@ impl Tally {
         for (beside, counts) in &self.counts {
             match beside {
                 Beside::Crate => println!("beside the crate {}", counts.total()),
-                Beside::Paper => println!("beside the plain program of document 01 {}", counts.total()),
+                Beside::Paper => println!("beside the plain program alone {}", counts.total()),
             }
             counts.print(*beside == Beside::Crate);
             let numbers = if *beside == Beside::Crate { &OF_CRATE[..] } else { &OF_PAPER[..] };
@@ -105,6 +108,7 @@ impl Counts {
         };
         tell("inputs", self.inputs.iter().map(|(&what, &count)| (what, count)).collect());
         println!("  agreed {}", self.agreed);
+        println!("  refusals held to their place {}", self.placed);
         if of_crate {
             tell("listed differences", self.listed.iter().map(|(why, &count)| (why.as_str(), count)).collect());
             tell("counted apart", self.apart.iter().map(|(&why, &count)| (why, count)).collect());
@@ -134,7 +138,7 @@ impl Counts {
 pub fn told(answer: &Answer) -> String {
     match answer {
         Answer::Needs(_) => "needs".into(),
-        Answer::Refused(number) => number.to_string(),
+        Answer::Refused(number, _) => number.to_string(),
         Answer::Accepted(_) => "accepted".into(),
         Answer::CheckSize => "check_size".into(),
         Answer::Odd(text) => format!("odd ({text})"),

@@ -16,7 +16,7 @@ fn marked_out<const N: usize>(r: &mut Rng) -> [u64; N] {
 
 /// Counts an answer: 0 with nothing needed, 0 with bytes needed, or a refusal, whose number must be of the table.
 fn tell(count: &mut Count, number: u32, needed: u64) {
-    let table = [0..=3, 10..=13, 20..=28, 30..=40, 50..=55, 60..=64, 71..=83, 90..=96];
+    let table = [0..=3, 10..=13, 20..=28, 30..=40, 44..=45, 50..=55, 60..=64, 71..=83, 90..=96];
     assert!(table.iter().any(|numbers| numbers.contains(&number)), "{number} is no number of the table");
     count.calls += 1;
     match (number, needed) {
@@ -26,13 +26,45 @@ fn tell(count: &mut Count, number: u32, needed: u64) {
     }
 }
 
-/// The places of `out` that an answer of a block may change.
+/// What of `out` an answer of a block may change: a refusal that has a place tells it, and nothing else.
 fn named(number: u32) -> std::ops::Range<usize> {
     match number {
         0 => 0..16,
         3 => 10..12,
+        _ if has_place(number) => PLACE..PLACE + 1,
         _ => 0..0,
     }
+}
+
+/// Where `out` has the place of a refusal.
+const PLACE: usize = 13;
+
+fn has_place(number: u32) -> bool {
+    matches!(number, 10..=12 | 20..=55)
+}
+
+/// The place of a refusal lies in the prelude, or in the block or layout of so many bytes that was given. Only what does not fit may be
+/// at its end. Where a number or a length has one place in a block of that version, it is that.
+fn placed(number: u32, place: u64, length: usize, version: Option<u8>) {
+    let place = place as usize;
+    match number {
+        10..=12 => assert_eq!(place, [0, 3, 4][number as usize - 10], "the place of {number}"),
+        24 | 27 | 30 | 33 | 35 | 44 | 45 | 50 => assert!(place <= length, "{number} at {place} of {length}"),
+        _ if has_place(number) => assert!(place < length, "{number} at {place} of {length}"),
+        _ => {}
+    }
+    let Some(version @ 1..=4) = version else { return };
+    let [schema, stype_in] = [[16, 50], [16, 42], [16, 42], [38, 64]][version as usize - 1];
+    let fixed = match number {
+        20 => 0,
+        21 => schema,
+        22 => stype_in,
+        23 => stype_in + 1,
+        24..=26 => 100,
+        44 => 104,
+        _ => return,
+    };
+    assert_eq!(place, fixed, "the place of {number} in a block of version {version}");
 }
 
 /// The lengths of two tables, and whether they are long enough for the rows.
@@ -121,6 +153,7 @@ fn fed(a: &FeedAnswer, held: usize, store: &[u8], piece: &[u8], symbology: &[u32
     for i in (0..16).filter(|i| !named.contains(i)) {
         assert_eq!(a.out[i], out[i], "out[{i}] after {}", a.number);
     }
+    placed(a.number, a.out[PLACE], now.saturating_sub(8), a.store.get(3).copied().filter(|_| now >= 8));
 }
 
 /// The same stream in pieces: the end is the same, and every count needed is the least.
@@ -164,27 +197,28 @@ fn cut(
             break;
         }
     }
+    same_end(&held, whole);
+    if held.number != 0 || held.out[18] == 0 {
+        let piece = &bytes[..bytes.len().min(30)];
+        let again = calls::feed(held.out[17], &held.store, piece, &sheet.0, &held.symbology, &held.layout, &held.out);
+        assert_eq!((again.number, again.out[16]), (held.number, 0), "a feed after the end takes nothing");
+        assert_eq!(again.out[..16], held.out[..16], "and gives the same");
+        assert_eq!((again.symbology, again.layout), (held.symbology, held.layout), "and the same rows");
+    }
+}
+
+/// A stream in pieces ends as the whole one does, refused at the same place.
+fn same_end(held: &FeedAnswer, whole: &FeedAnswer) {
     assert_eq!(held.number, whole.number, "the end of a cut stream");
+    if has_place(held.number) {
+        assert_eq!(held.out[PLACE], whole.out[PLACE], "the place of a cut stream");
+    }
     assert_eq!(held.out[17..19], whole.out[17..19], "held and needed of a cut stream");
     assert_eq!(held.store, whole.store, "the store of a cut stream");
     assert_eq!(held.symbology, whole.symbology, "the symbology table of a cut stream");
     assert_eq!(held.layout, whole.layout, "the layout table of a cut stream");
     if (held.number, held.out[18]) == (0, 0) {
         assert_eq!(held.out[..16], whole.out[..16], "the fields of a cut stream");
-    }
-    if held.number != 0 || held.out[18] == 0 {
-        let again = calls::feed(
-            held.out[17],
-            &held.store,
-            &bytes[..bytes.len().min(30)],
-            &sheet.0,
-            &held.symbology,
-            &held.layout,
-            &held.out,
-        );
-        assert_eq!((again.number, again.out[16]), (held.number, 0), "a feed after the end takes nothing");
-        assert_eq!(again.out[..16], held.out[..16], "and gives the same");
-        assert_eq!((again.symbology, again.layout), (held.symbology, held.layout), "and the same rows");
     }
 }
 
@@ -212,7 +246,7 @@ fn prelude(r: &mut Rng, bytes: &[u8], whole: &FeedAnswer, room: usize) {
     let (number, told) = calls::prelude(bytes, &out);
     if number != 0 {
         assert_eq!(number, whole.number, "the prelude's refusal");
-        assert_eq!(told, out, "out after a refused prelude");
+        assert_eq!((&told[..3], told[3]), (&out[..3], whole.out[PLACE]), "out after a refused prelude");
     } else {
         let length = u32::from_le_bytes(bytes[4..8].try_into().unwrap()) as u64;
         assert_eq!(told, [0, bytes[3] as u64, length, 0], "the prelude");
@@ -244,6 +278,9 @@ fn block(
     let mut wanted = out;
     wanted[named(a.number)].copy_from_slice(&whole.out[named(a.number)]);
     assert_eq!(a.out, wanted, "out of a block after {}", a.number);
+    if let (4, 50..=55) = (version, a.number) {
+        within(block, sheet, &out, a.number, a.out[PLACE]);
+    }
     if a.number != 0 {
         return;
     }
@@ -259,6 +296,14 @@ fn block(
     assert_eq!((b.number, b.out[9], b.out[11]), (0, a.out[9], a.out[11]), "a block's layout");
     assert_eq!(b.rows, a.layout, "the rows of a block's layout");
     names(r, inner, &a.layout[..ln], 9);
+}
+
+/// A layout that is refused in a block is refused by itself at the same byte, counted from the layout.
+fn within(block: &[u8], sheet: &Sheet, out: &[u64; 16], number: u32, place: u64) {
+    let length = u32::from_le_bytes(block[100..104].try_into().unwrap()) as usize;
+    let width = u16::from_le_bytes([block[67], block[68]]);
+    let alone = calls::layout(&block[104..104 + length], width, &sheet.0, &[], out);
+    assert_eq!((alone.number, alone.out[PLACE] + 104), (number, place), "a layout in a block and by itself");
 }
 
 /// Every name asked for lies in the bytes and is a text; a row without one, and any other index, gives 90.
@@ -301,13 +346,7 @@ pub fn layout(r: &mut Rng, sheet: &Sheet, count: &mut Count) {
     assert_eq!(a.number, if bare.number == 3 { 0 } else { bare.number }, "tables matter for 3 alone");
     let plain = calls::layout_plain(&bytes, width, &sheet.0, &out);
     assert_eq!(plain, (a.number, a.out), "either engine gives one answer");
-    let named: &[usize] = match a.number {
-        0 => &[9, 11],
-        _ => &[],
-    };
-    for i in (0..16).filter(|i| !named.contains(i)) {
-        assert_eq!(a.out[i], out[i], "out[{i}] of a layout after {}", a.number);
-    }
+    told_by_a_layout(a.number, &a.out, &out, bytes.len());
     if a.number != 0 {
         assert_eq!(a.rows, table, "the table after {}", a.number);
         return;
@@ -323,6 +362,19 @@ pub fn layout(r: &mut Rng, sheet: &Sheet, count: &mut Count) {
         bend_rows(r, &mut bent);
     }
     write_any(r, sheet, &bent, &bytes, version, width, count);
+}
+
+/// What a layout of so many bytes tells in `out`: version and rows, or the place of a refusal that has one.
+fn told_by_a_layout(number: u32, told: &[u64; 16], out: &[u64; 16], length: usize) {
+    let named: &[usize] = match number {
+        0 => &[9, 11],
+        number if has_place(number) => &[PLACE],
+        _ => &[],
+    };
+    for i in (0..16).filter(|i| !named.contains(i)) {
+        assert_eq!(told[i], out[i], "out[{i}] of a layout after {number}");
+    }
+    placed(number, told[PLACE], length, None);
 }
 
 /// Rows that were read are written, but for label codes that do not rise, and read back the same, starts apart.
@@ -447,28 +499,51 @@ pub fn anything(r: &mut Rng, sheet: &Sheet, count: &mut Count) {
     }
     assert_eq!(a, calls::feed(held, &store, &piece, &sheet.0, &symbology, &layout, &out), "the same call again");
 
-    let out = marked_out(r);
     let version = r.byte() % 7;
-    let b = calls::block(version, &store, &sheet.0, &symbology, &layout, &out);
+    any_block(r, version, &store, sheet, &symbology, &layout, count);
+    any_names(r, &store, count);
+    let length = r.pick(&[0, 9, 18, 27, 26]);
+    let rows = marked(r, length, |x| (x >> 40) as u32 % [3, 16, 300][x as usize % 3]);
+    write_any(r, sheet, &rows, &store, version as u16, piece.len() as u16, count);
+}
+
+/// Any bytes as a block of any version: a refusal leaves what was lent, and has its place.
+fn any_block(
+    r: &mut Rng,
+    version: u8,
+    block: &[u8],
+    sheet: &Sheet,
+    symbology: &[u32],
+    layout: &[u32],
+    count: &mut Count,
+) {
+    let out = marked_out(r);
+    let b = calls::block(version, block, &sheet.0, symbology, layout, &out);
     tell(count, b.number, 0);
     if !(1..=4).contains(&version) {
         assert_eq!(b.number, 11, "version {version}");
-    } else if store.len() < 100 {
+    } else if block.len() < 100 {
         assert_eq!(b.number, 13, "a block below 100 bytes");
     }
     if b.number != 0 {
-        assert_eq!((b.symbology, b.layout), (symbology, layout.clone()), "tables after {}", b.number);
+        assert_eq!((&b.symbology[..], &b.layout[..]), (symbology, layout), "tables after {}", b.number);
+        for i in (0..16).filter(|i| !named(b.number).contains(i)) {
+            assert_eq!(b.out[i], out[i], "out[{i}] of a block after {}", b.number);
+        }
+        placed(b.number, b.out[PLACE], block.len(), Some(version));
     }
+}
 
-    // Rows of anything: a span outside gives 90.
+/// Rows of anything: a span outside gives 90.
+fn any_names(r: &mut Rng, bytes: &[u8], count: &mut Count) {
     let n = r.below(5);
     for width in [5usize, 9] {
         let length = n * width + r.below(3);
         let rows = marked(r, length, |x| (x >> 32) as u32 % [20, 200, u32::MAX][x as usize % 3]);
         let index = r.below(n + 2) as u64;
-        let (number, [start, length]) = calls::name(&store, &rows, width, index);
+        let (number, [start, length]) = calls::name(bytes, &rows, width, index);
         count.calls += 1;
-        let inside = start.checked_add(length).is_some_and(|end| end <= store.len() as u64);
+        let inside = start.checked_add(length).is_some_and(|end| end <= bytes.len() as u64);
         assert!(inside && (number == 0 || (number, start, length) == (90, 0, 0)), "a name of any rows");
         if number == 0 {
             assert!(index < n as u64, "a name past the table");
@@ -478,7 +553,4 @@ pub fn anything(r: &mut Rng, sheet: &Sheet, count: &mut Count) {
             assert!(kinds.contains(&row[0]), "a name of a row without a text");
         }
     }
-    let length = r.pick(&[0, 9, 18, 27, 26]);
-    let rows = marked(r, length, |x| (x >> 40) as u32 % [3, 16, 300][x as usize % 3]);
-    write_any(r, sheet, &rows, &store, version as u16, piece.len() as u16, count);
 }

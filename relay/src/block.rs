@@ -1,12 +1,12 @@
 use crate::{
     ffi, named, part, promise,
     tables::{rows, LAYOUT_ROW, SYMBOLOGY_ROW},
-    text, Layout, Refusal, Sheet, Tables,
+    text, Layout, Refusal, RefusalKind, Sheet, Tables,
 };
 use std::fmt;
 
 /// The refusal of tables that are too short.
-pub(crate) const TABLE_SHORT: u32 = Refusal::TableShort as u32;
+pub(crate) const TABLE_SHORT: u32 = RefusalKind::TableShort.number();
 /// The first version that has a layout.
 const WITH_LAYOUT: u8 = 4;
 /// What is lent where a stream has no layout to judge.
@@ -16,7 +16,7 @@ const NO_TYPES: &[u16; ffi::SHEET] = &[0; ffi::SHEET];
 pub(crate) fn lent(version: u8, sheet: Option<&Sheet>) -> Result<&[u16; ffi::SHEET], Refusal> {
     match sheet {
         Some(sheet) => Ok(sheet.numbers()),
-        None if version == WITH_LAYOUT => Err(Refusal::NoSheet),
+        None if version == WITH_LAYOUT => Err(Refusal::own(RefusalKind::NoSheet)),
         None => Ok(NO_TYPES),
     }
 }
@@ -72,7 +72,7 @@ impl<'a> Block<'a> {
             number = call(version, bytes, sheet, tables, &mut out);
             assert_ne!(number, TABLE_SHORT, "the library dbn_c broke its promise: the rows it needs are not enough");
         }
-        Refusal::unless_accepted(number)?;
+        Refusal::unless_read(number, out[ffi::PLACE])?;
         Ok(Self::accepted(version, bytes, &out, tables))
     }
 

@@ -1,6 +1,6 @@
 use crate::{
     block::{lent, TABLE_SHORT},
-    ffi, prelude, Block, Limits, Prelude, Refusal, Sheet, Tables,
+    ffi, prelude, Block, Limits, Prelude, Refusal, RefusalKind, Sheet, Tables,
 };
 use std::fmt;
 
@@ -53,7 +53,7 @@ pub struct Fed {
 }
 
 impl Feed {
-    /// A start of which nothing has come yet. Without a sheet a version 4 stream is refused by [`Refusal::NoSheet`].
+    /// A start of which nothing has come yet. Without a sheet a version 4 stream is refused by [`RefusalKind::NoSheet`].
     pub fn new(limits: Limits) -> Self {
         Self { sheet: None, limits, store: Vec::new(), tables: Tables::new(limits.rows), stage: Stage::Prelude }
     }
@@ -131,7 +131,7 @@ impl Feed {
         lent(version, self.sheet.as_deref())?;
         match PRELUDE.checked_add(length as usize) {
             Some(whole) if whole <= self.limits.bytes => Ok(Stage::Block(whole)),
-            _ => Err(Refusal::StoreShort),
+            _ => Err(Refusal::own(RefusalKind::StoreShort)),
         }
     }
 
@@ -144,7 +144,7 @@ impl Feed {
             number = self.call(&mut out)?;
             assert_ne!(number, TABLE_SHORT, "the library dbn_c broke its promise: the rows it needs are not enough");
         }
-        Refusal::unless_accepted(number)?;
+        Refusal::unless_read(number, out[ffi::PLACE])?;
         let whole = self.store.len() as u64;
         assert_eq!(out[16..19], [0, whole, 0], "the library dbn_c broke its promise: a whole start is not done");
         Ok(Stage::Done(*out.first_chunk().expect("sixteen of twenty numbers")))
@@ -187,7 +187,7 @@ fn hold(store: &mut Vec<u8>, bytes: &[u8], whole: usize) -> Result<(), Refusal> 
     let wanted = store.len() + bytes.len();
     if wanted > store.capacity() {
         let room = (2 * store.capacity()).clamp(wanted, whole);
-        store.try_reserve_exact(room - store.len()).map_err(|_| Refusal::NoMemory)?;
+        store.try_reserve_exact(room - store.len()).map_err(|_| Refusal::own(RefusalKind::NoMemory))?;
     }
     store.extend_from_slice(bytes);
     Ok(())

@@ -7,6 +7,12 @@
 /// The length of a type sheet.
 pub const SHEET: usize = 520;
 
+/// Where `out` has the place of a refusal that has one, 10 to 12 and 20 to 55. After any other refusal it keeps its value.
+pub const PLACE: usize = 13;
+
+/// The same in `out` of [`dbn_prelude`].
+pub const PRELUDE_PLACE: usize = 3;
+
 extern "C" {
     /// Whether the bytes are UTF-8.
     pub fn dbn_text(s: *const u8, n: usize) -> u32;
@@ -14,12 +20,13 @@ extern "C" {
     /// Whether the number is a date, year x 10000 + month x 100 + day.
     pub fn dbn_date(yyyymmdd: u32) -> u32;
 
-    /// Below 8 bytes: 0, `out` = {8 - n, 0, 0, 0}. Else 10, 11, 12, or 0 with `out` = {0, version, block length, 0}.
+    /// Below 8 bytes: 0, `out` = {8 - n, 0, 0, 0}. Else 10, 11, 12 with `out[3]` the place, or 0 with `out` = {0, version,
+    /// block length, 0}.
     pub fn dbn_prelude(s: *const u8, n: usize, out: *mut [u64; 4]) -> u32;
 
     /// 0: `out` = {dataset length, schema, start, end, limit, stype_in, stype_out, ts_out, width, layout version,
     /// symbology rows, layout rows, presence bits (1 schema, 2 end, 4 limit, 8 stype_in), 0, 0, 0}.
-    /// 3: `out[10]` and `out[11]` are the rows needed.
+    /// 3: `out[10]` and `out[11]` are the rows needed. 11, 20 to 55: `out[13]` is the place.
     pub fn dbn_block(
         version: u8,
         block: *const u8,
@@ -33,7 +40,8 @@ extern "C" {
     ) -> u32;
 
     /// Always: `out[16]` taken, `out[17]` held, `out[18]` needed (0 when done or refused).
-    /// Done: `out[0..16]` as [`dbn_block`]. 3: `out[10]` and `out[11]`.
+    /// Done: `out[0..16]` as [`dbn_block`]. 3: `out[10]` and `out[11]`. 10 to 12, 20 to 55: `out[13]`, which counts from the
+    /// prelude for 10 to 12 and from the block for the others.
     pub fn dbn_feed(
         held: u64,
         store: *mut u8,
@@ -48,7 +56,7 @@ extern "C" {
         out: *mut [u64; 20],
     ) -> u32;
 
-    /// 0: `out[9]` layout version, `out[11]` rows. 3: `out[11]`.
+    /// 0: `out[9]` layout version, `out[11]` rows. 3: `out[11]`. 50 to 55: `out[13]` is the place.
     pub fn dbn_layout(
         layout: *const u8,
         n: usize,
@@ -59,7 +67,8 @@ extern "C" {
         out: *mut [u64; 16],
     ) -> u32;
 
-    /// The answer of [`dbn_layout`] without a table, 81 to 83 by the plain engine. 0: `out[9]` layout version, `out[11]` rows.
+    /// The answer of [`dbn_layout`] without a table, 81 to 83 by the plain engine. 0: `out[9]` layout version, `out[11]`
+    /// rows. 50 to 55: `out[13]` is the place.
     pub fn dbn_layout_plain(
         layout: *const u8,
         n: usize,

@@ -24,7 +24,7 @@ impl<'a> Layout<'a> {
             number = call(bytes, width, sheet, tables, &mut out);
             assert_ne!(number, TABLE_SHORT, "the library dbn_c broke its promise: the rows it needs are not enough");
         }
-        Refusal::unless_accepted(number)?;
+        Refusal::unless_read(number, out[ffi::PLACE])?;
         let count: usize = promise(out[11], "the layout rows");
         Ok(Self::accepted(bytes, promise(out[9], "a layout version"), &tables.layout[..count * ROW]))
     }
@@ -246,7 +246,7 @@ pub fn check_layout_plain(bytes: &[u8], width: u16, sheet: &Sheet) -> Result<(u1
     let mut out = [0; 16];
     // SAFETY: the pointer and length are those of a slice, and `out` is ours.
     let number = unsafe { ffi::dbn_layout_plain(bytes.as_ptr(), bytes.len(), width, sheet.numbers(), &mut out) };
-    Refusal::unless_accepted(number)?;
+    Refusal::unless_read(number, out[ffi::PLACE])?;
     Ok((promise(out[9], "a layout version"), promise(out[11], "the layout rows")))
 }
 

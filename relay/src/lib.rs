@@ -2,7 +2,7 @@
 //!
 //! The reading itself is done by the C functions of the library `dbn_c` ([`ffi`]), whose promises are proved. This package lends
 //! them their buffers and gives back names as parts of the caller's own bytes. [`Feed`] takes a stream in pieces,
-//! [`Block`] and [`Layout`] take what is already whole, and [`Refusal`] names what was refused.
+//! [`Block`] and [`Layout`] take what is already whole, and [`Refusal`] tells what was refused, and at which byte.
 //!
 //! Nothing here stands in for what is missing: where the library broke its promise, the call panics and says which promise.
 #![warn(missing_docs)]
@@ -26,7 +26,7 @@ mod tables;
 pub use block::{Block, Fields, Interval, Mapping};
 pub use feed::{Fed, Feed, Step};
 pub use layout::{check_layout_plain, write_layout, Field, Label, LabelDef, Layout, RecordLayout, StructLayout};
-pub use refusal::Refusal;
+pub use refusal::{Refusal, RefusalKind};
 pub use sheet::{Sheet, SheetIds};
 pub use tables::{Limits, Tables};
 
@@ -49,7 +49,7 @@ pub fn prelude(bytes: &[u8]) -> Result<Prelude, Refusal> {
     let mut out = [0; 4];
     // SAFETY: the pointer and length are those of a slice, and `out` is ours.
     let number = unsafe { ffi::dbn_prelude(bytes.as_ptr(), bytes.len(), &mut out) };
-    Refusal::unless_accepted(number)?;
+    Refusal::unless_read(number, out[ffi::PRELUDE_PLACE])?;
     Ok(match out {
         [0, version, length, _] => Prelude::Whole {
             version: promise(version, "a prelude's version"),
@@ -136,6 +136,6 @@ mod tests {
     #[test]
     fn a_name_is_a_part_of_the_bytes() {
         assert_eq!((part(b"ES.c", 0, [3, 1]), part(b"ES.c", 0, [4, 0])), (Ok("c"), Ok("")));
-        assert_eq!(part(b"ES.c", 90, [0, 0]), Err(Refusal::RowsMalformed));
+        assert_eq!(part(b"ES.c", 90, [0, 0]), Err(Refusal::own(RefusalKind::RowsMalformed)));
     }
 }

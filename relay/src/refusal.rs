@@ -1,31 +1,32 @@
+use crate::promise;
 use std::fmt;
 
 /// Writes the enum, its sentences and the list of all refusals from one table.
 macro_rules! refusals {
     ($($name:ident $number:literal $sentence:literal)*) => {
-        /// Why something was refused, by name. [`Refusal::number`] is the number of the table of refusals, and
-        /// [`Refusal::sentence`] says it in a few words.
+        /// What is refused, by name. [`RefusalKind::number`] is the number of the table of refusals, and
+        /// [`RefusalKind::sentence`] says it in a few words. `docs/REFUSALS.md` has a page on all of them.
         ///
         /// Numbers below 100 are the library's, as `include/dbn_start.h` lists them; 70 is retired. Those from 200 on are this package's own.
         #[derive(Debug, Clone, Copy, PartialEq, Eq, PartialOrd, Ord, Hash)]
         #[non_exhaustive]
         #[repr(u32)]
-        pub enum Refusal {
+        pub enum RefusalKind {
             $(#[doc = concat!($number, ": ", $sentence, ".")] $name = $number,)*
         }
 
-        impl Refusal {
-            /// Every refusal, by rising number.
-            pub const ALL: &'static [Refusal] = &[$(Refusal::$name),*];
+        impl RefusalKind {
+            /// Every kind of refusal, by rising number.
+            pub const ALL: &'static [RefusalKind] = &[$(RefusalKind::$name),*];
 
             /// What is refused, in a few words.
             pub const fn sentence(self) -> &'static str {
-                match self { $(Refusal::$name => $sentence),* }
+                match self { $(RefusalKind::$name => $sentence),* }
             }
 
-            /// The refusal of a number, where there is one.
-            pub const fn from_number(number: u32) -> Option<Refusal> {
-                match number { $($number => Some(Refusal::$name),)* _ => None }
+            /// The kind that has a number, where there is one.
+            pub const fn from_number(number: u32) -> Option<RefusalKind> {
+                match number { $($number => Some(RefusalKind::$name),)* _ => None }
             }
         }
     };
@@ -43,10 +44,10 @@ refusals! {
     Schema 21 "the schema is not known"
     StypeIn 22 "the input symbol type is not known"
     StypeOut 23 "the output symbol type is not known"
-    LayoutPastEnd 24 "the layout goes past the end of the block"
+    LayoutLengthMissing 24 "the length of the layout is missing"
     LayoutBelow4 25 "a layout below version 4"
     NoLayout 26 "no layout in version 4"
-    SymbologyPastEnd 27 "the symbology length is missing, or its section goes past the end"
+    SymbologyLengthMissing 27 "the length of the symbology is missing"
     SymbologyNotSpanned 28 "the symbology does not span its section"
     ListCountMissing 30 "the count of a symbol list is missing"
     ListCountLarge 31 "the count of a symbol list is too large"
@@ -59,6 +60,8 @@ refusals! {
     StartDate 38 "an interval's start date is no date"
     EndDate 39 "an interval's end date is no date"
     SymbolNotUtf8 40 "an interval's symbol is not UTF-8"
+    LayoutPastEnd 44 "the layout goes past the end of the block"
+    SymbologyPastEnd 45 "the symbology goes past the end of the block"
     LayoutTruncated 50 "the layout is cut short"
     SectionShort 51 "a section's length is below 2"
     NameHoldsNul 52 "a name holds a NUL"
@@ -94,34 +97,100 @@ refusals! {
     NoMemory 201 "the system has no memory for the bytes or the rows"
 }
 
-impl Refusal {
+impl RefusalKind {
     /// The number: one of the library's table, or one from 200 on.
     pub const fn number(self) -> u32 {
         self as u32
     }
 
-    /// The refusal that the library answered.
-    pub(crate) fn answered(number: u32) -> Self {
-        match Self::from_number(number) {
-            Some(refusal) => refusal,
-            None => {
-                panic!("the library dbn_c broke its promise: it answered {number}, which is no number of the table")
-            }
+    /// Whether refusals of this kind have a place: those from reading do, 10 to 12 and 20 to 55.
+    pub const fn has_place(self) -> bool {
+        matches!(self.number(), 10..=12 | 20..=55)
+    }
+}
+
+/// Why something was refused, and where.
+///
+/// ```
+/// use dbn_start::{prelude, RefusalKind};
+/// let refusal = prelude(b"DBN\x09\x64\0\0\0").expect_err("version 9");
+/// assert_eq!((refusal.kind(), refusal.number(), refusal.place()), (RefusalKind::Version, 11, Some(3)));
+/// assert_eq!(refusal.to_string(), "refused by 11 at byte 3: the version is not 1 to 4");
+/// ```
+#[derive(Debug, Clone, Copy, PartialEq, Eq, PartialOrd, Ord, Hash)]
+pub struct Refusal {
+    kind: RefusalKind,
+    place: Option<usize>,
+}
+
+impl Refusal {
+    /// What is refused, by name.
+    pub const fn kind(self) -> RefusalKind {
+        self.kind
+    }
+
+    /// What is refused, by number: [`RefusalKind::number`].
+    pub const fn number(self) -> u32 {
+        self.kind.number()
+    }
+
+    /// What is refused, in a few words: [`RefusalKind::sentence`].
+    pub const fn sentence(self) -> &'static str {
+        self.kind.sentence()
+    }
+
+    /// The byte at which it is refused, for the kinds that have a place ([`RefusalKind::has_place`]), else `None`.
+    ///
+    /// For 10 to 12 it counts from the prelude, and 11 is at byte 3 also where a version is given with a block. For 20 to 55 it counts
+    /// from the block, which begins at byte 8 of a stream, or from the layout where a layout was given. It is the first byte of the
+    /// number or text that broke its rule, or the byte where something was to begin that does not fit, which may be the end of the
+    /// bytes; for 28 the first byte that the contents do not reach. `docs/REFUSALS.md` has the rule of each number.
+    pub const fn place(self) -> Option<usize> {
+        self.place
+    }
+
+    /// A refusal by this package itself, which has no place.
+    pub(crate) const fn own(kind: RefusalKind) -> Self {
+        assert!(!kind.has_place(), "a refusal from reading is the library's");
+        Self { kind, place: None }
+    }
+
+    /// The refusal that the library answered, with the place that it told, where what was called tells places.
+    fn answered(number: u32, told: Option<u64>) -> Self {
+        let Some(kind) = RefusalKind::from_number(number) else {
+            panic!("the library dbn_c broke its promise: it answered {number}, which is no number of the table")
+        };
+        let place = kind.has_place().then(|| match told {
+            Some(place) => promise(place, "a refusal's place"),
+            None => panic!("the library dbn_c broke its promise: it answered {number} where nothing is read"),
+        });
+        Self { kind, place }
+    }
+
+    /// The answer of a function that reads and tells the place of a refusal. 0 is no refusal.
+    pub(crate) fn unless_read(number: u32, place: u64) -> Result<(), Self> {
+        match number {
+            0 => Ok(()),
+            number => Err(Self::answered(number, Some(place))),
         }
     }
 
-    /// 0 is no refusal.
+    /// The answer of a function whose refusals have no place. 0 is no refusal.
     pub(crate) fn unless_accepted(number: u32) -> Result<(), Self> {
         match number {
             0 => Ok(()),
-            number => Err(Self::answered(number)),
+            number => Err(Self::answered(number, None)),
         }
     }
 }
 
 impl fmt::Display for Refusal {
     fn fmt(&self, f: &mut fmt::Formatter<'_>) -> fmt::Result {
-        write!(f, "refused by {}: {}", self.number(), self.sentence())
+        write!(f, "refused by {}", self.number())?;
+        if let Some(place) = self.place {
+            write!(f, " at byte {place}")?;
+        }
+        write!(f, ": {}", self.sentence())
     }
 }
 
@@ -133,19 +202,40 @@ mod tests {
 
     #[test]
     fn every_number_of_the_table_has_one_name_and_one_sentence() {
-        let ranges = [1..=3, 10..=13, 20..=28, 30..=40, 50..=55, 60..=64, 71..=83, 90..=96, 200..=201];
+        let ranges = [1..=3, 10..=13, 20..=28, 30..=40, 44..=45, 50..=55, 60..=64, 71..=83, 90..=96, 200..=201];
         let numbers: Vec<u32> = ranges.into_iter().flatten().collect();
-        assert_eq!(Refusal::ALL.iter().map(|refusal| refusal.number()).collect::<Vec<_>>(), numbers);
-        assert!(Refusal::ALL
+        assert_eq!(RefusalKind::ALL.iter().map(|kind| kind.number()).collect::<Vec<_>>(), numbers);
+        assert!(RefusalKind::ALL
             .iter()
-            .all(|&one| Refusal::from_number(one.number()) == Some(one) && one.sentence().len() > 10));
-        let known = (0..1000).filter(|&number| Refusal::from_number(number).is_some()).count();
+            .all(|&one| RefusalKind::from_number(one.number()) == Some(one) && one.sentence().len() > 10));
+        let known = (0..1000).filter(|&number| RefusalKind::from_number(number).is_some()).count();
         assert_eq!(known, numbers.len());
+    }
+
+    #[test]
+    fn a_place_is_told_for_the_kinds_that_have_one() {
+        let placed: Vec<u32> =
+            RefusalKind::ALL.iter().filter(|kind| kind.has_place()).map(|kind| kind.number()).collect();
+        let ranges = [10..=12, 20..=28, 30..=40, 44..=45, 50..=55];
+        assert_eq!(placed, ranges.into_iter().flatten().collect::<Vec<_>>());
+        for kind in RefusalKind::ALL {
+            let refusal = Refusal::unless_read(kind.number(), 104).expect_err("a refusal");
+            assert_eq!((refusal.kind(), refusal.place()), (*kind, kind.has_place().then_some(104)));
+        }
+        let text = |number| Refusal::unless_read(number, 104).expect_err("a refusal").to_string();
+        assert_eq!(text(44), "refused by 44 at byte 104: the layout goes past the end of the block");
+        assert_eq!(text(13), format!("refused by 13: {}", RefusalKind::Size.sentence()));
     }
 
     #[test]
     #[should_panic(expected = "it answered 41, which is no number of the table")]
     fn a_number_of_no_table_is_told_loudly() {
-        Refusal::answered(41);
+        let _ = Refusal::unless_read(41, 0);
+    }
+
+    #[test]
+    #[should_panic(expected = "it answered 44 where nothing is read")]
+    fn a_refusal_from_reading_where_nothing_is_read_is_told_loudly() {
+        let _ = Refusal::unless_accepted(44);
     }
 }

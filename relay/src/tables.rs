@@ -1,4 +1,4 @@
-use crate::{promise, Refusal};
+use crate::{promise, Refusal, RefusalKind};
 
 /// Numbers in one row of symbology, and in one row of a layout.
 pub(crate) const SYMBOLOGY_ROW: usize = 5;
@@ -41,7 +41,7 @@ impl Tables {
     pub(crate) fn grow(&mut self, symbology: u64, layout: u64) -> Result<(), Refusal> {
         let (symbology, layout): (usize, usize) = (promise(symbology, "rows needed"), promise(layout, "rows needed"));
         if symbology.checked_add(layout).is_none_or(|rows| rows > self.most) {
-            return Err(Refusal::TableShort);
+            return Err(Refusal::own(RefusalKind::TableShort));
         }
         room(&mut self.symbology, symbology, SYMBOLOGY_ROW)?;
         room(&mut self.layout, layout, LAYOUT_ROW)
@@ -57,11 +57,12 @@ impl Default for Tables {
 
 /// Makes room for so many rows of `width` numbers. What the table held is not kept.
 fn room(table: &mut Vec<u32>, rows: usize, width: usize) -> Result<(), Refusal> {
-    let numbers = rows.checked_mul(width).ok_or(Refusal::NoMemory)?;
+    let no_memory = Refusal::own(RefusalKind::NoMemory);
+    let numbers = rows.checked_mul(width).ok_or(no_memory)?;
     if table.len() < numbers {
         // The old numbers are given back first, so that never both are there.
         *table = Vec::new();
-        table.try_reserve_exact(numbers).map_err(|_| Refusal::NoMemory)?;
+        table.try_reserve_exact(numbers).map_err(|_| no_memory)?;
         table.resize(numbers, 0);
     }
     Ok(())

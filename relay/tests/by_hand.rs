@@ -8,8 +8,10 @@ fn fed(bytes: &[u8]) -> Result<Step, Refusal> {
     Feed::new(Limits::default()).with_sheet(plain()).feed(bytes).map(|fed| fed.step)
 }
 
-fn refused<T: std::fmt::Debug>(answer: Result<T, Refusal>) -> u32 {
-    answer.expect_err("a refusal").number()
+/// The number and the place of a refusal.
+fn refused<T: std::fmt::Debug>(answer: Result<T, Refusal>) -> (u32, Option<usize>) {
+    let refusal = answer.expect_err("a refusal");
+    (refusal.number(), refusal.place())
 }
 
 const P7: &str = "0100 0000 0000 0100 0E00 01 53 00 0100 4200 03 426964 00";
@@ -39,20 +41,20 @@ fn p3_a_prelude_needs_its_block() {
 
 #[test]
 fn p4_a_block_of_99_is_12() {
-    assert_eq!(refused(fed(&hex("44424E0263000000"))), 12);
-    assert_eq!(refused(prelude(&hex("44424E0263000000"))), 12);
+    assert_eq!(refused(fed(&hex("44424E0263000000"))), (12, Some(4)));
+    assert_eq!(refused(prelude(&hex("44424E0263000000"))), (12, Some(4)));
 }
 
 #[test]
 fn p5_version_5_is_11() {
-    assert_eq!(refused(fed(&hex("44424E0500000000"))), 11);
-    assert_eq!(refused(prelude(&hex("44424E0500000000"))), 11);
+    assert_eq!(refused(fed(&hex("44424E0500000000"))), (11, Some(3)));
+    assert_eq!(refused(prelude(&hex("44424E0500000000"))), (11, Some(3)));
 }
 
 #[test]
 fn the_magic_is_judged_with_eight_bytes() {
     assert_eq!(fed(b"DBM"), Ok(Step::Needs(5)));
-    assert_eq!(refused(fed(b"DBM\x02\x64\0\0\0")), 10);
+    assert_eq!(refused(fed(b"DBM\x02\x64\0\0\0")), (10, Some(0)));
 }
 
 #[test]
@@ -85,7 +87,7 @@ fn p8_leftovers_in_a_section_are_ignored() {
 fn p9_a_section_below_2_is_51() {
     let mut bytes = hex(P7);
     bytes[8] = 1;
-    assert_eq!(refused(rows(&bytes)), 51);
+    assert_eq!(refused(rows(&bytes)), (51, Some(8)));
 }
 
 #[test]
@@ -120,13 +122,35 @@ fn p13_texts() {
 }
 
 #[test]
-fn a_layout_length_past_the_end_is_24_before_25() {
+fn a_layout_length_past_the_end_is_44_before_25() {
     let mut block = p10([0, 0, 0])[..104].to_vec();
     block[100] = 5;
     block.extend([0; 4]);
-    assert_eq!(refused(Block::read(2, &block, &plain(), &mut Tables::default())), 24);
+    assert_eq!(refused(Block::read(2, &block, &plain(), &mut Tables::default())), (44, Some(104)));
     block.push(0);
-    assert_eq!(refused(Block::read(2, &block, &plain(), &mut Tables::default())), 25);
+    assert_eq!(refused(Block::read(2, &block, &plain(), &mut Tables::default())), (25, Some(100)));
+}
+
+#[test]
+fn a_layout_length_that_is_missing_is_24() {
+    for length in 100..104 {
+        let block = &p10([0, 0, 0])[..length];
+        assert_eq!(refused(Block::read(2, block, &plain(), &mut Tables::default())), (24, Some(100)));
+    }
+}
+
+#[test]
+fn a_symbology_length_that_is_missing_is_27_and_one_past_the_end_is_45() {
+    let mut block = vec![0; 100];
+    block.extend(hex("08000000 0100000000000000 11000000"));
+    block.extend([0; 16]);
+    for (length, number, place) in [(112, 27, 112), (115, 27, 112), (116, 45, 116), (132, 45, 116)] {
+        let answer = refused(Block::read(4, &block[..length], &plain(), &mut Tables::default()));
+        assert_eq!(answer, (number, Some(place)), "{length} bytes");
+    }
+    block.push(0);
+    let answer = refused(Block::read(4, &block, &plain(), &mut Tables::default()));
+    assert_eq!(answer, (28, Some(132)), "one byte that the contents do not reach");
 }
 
 #[test]

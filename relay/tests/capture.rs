@@ -1,7 +1,7 @@
 //! The trader's complaint: one continuous symbol with four intervals must come back as one, however the stream is cut.
 mod common;
 use common::{capture, INTERVALS};
-use dbn_start::{Fed, Feed, Limits, Refusal, Step};
+use dbn_start::{Fed, Feed, Limits, Refusal, RefusalKind, Step};
 
 /// Holds a finished feed to what the stream carries.
 fn one_contract(feed: &Feed) {
@@ -88,11 +88,11 @@ fn a_start_beyond_the_limit_is_refused_before_its_bytes_come() {
     let (bytes, _) = capture();
     let told = |bytes: &[u8], limit: usize| {
         let mut feed = Feed::new(Limits { bytes: limit, rows: 6 });
-        feed.feed(bytes).map(|fed| fed.step)
+        feed.feed(bytes).map(|fed| fed.step).map_err(Refusal::kind)
     };
-    assert_eq!(told(&bytes[..8], bytes.len() - 1), Err(Refusal::StoreShort));
+    assert_eq!(told(&bytes[..8], bytes.len() - 1), Err(RefusalKind::StoreShort));
     assert_eq!(told(&bytes[..8], bytes.len()), Ok(Step::Needs(bytes.len() - 8)));
     let huge = [0x44, 0x42, 0x4E, 2, 255, 255, 255, 255];
-    assert_eq!(told(&huge, 1 << 20), Err(Refusal::StoreShort));
+    assert_eq!(told(&huge, 1 << 20), Err(RefusalKind::StoreShort));
     assert_eq!(told(&huge, usize::MAX), Ok(Step::Needs(u32::MAX as usize)));
 }

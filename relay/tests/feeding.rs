@@ -5,17 +5,17 @@ mod common;
 mod gen;
 
 use common::{capture, p10, plain, stream_of};
-use dbn_start::{ffi, Block, Fed, Feed, Limits, Refusal, Sheet, Step, Tables};
+use dbn_start::{ffi, Block, Fed, Feed, Limits, Refusal, RefusalKind, Sheet, Step, Tables};
 use gen::Rng;
 
-/// The library's answer to a piece, with a store and tables that are long enough: the number, and taken, held and needed.
+/// The library's answer to a piece, with a store and tables that are long enough: the number, and taken, held, needed and the place.
 fn library(
     held: usize,
     store: &mut [u8],
     piece: &[u8],
     sheet: &[u16; 520],
     [symbology, layout]: &mut [Vec<u32>; 2],
-) -> (u32, [u64; 3]) {
+) -> (u32, [u64; 4]) {
     let mut out = [0; 20];
     // SAFETY: every pointer is to a buffer of the given length, and no two overlap.
     let number = unsafe {
@@ -33,7 +33,12 @@ fn library(
             &mut out,
         )
     };
-    (number, [out[16], out[17], out[18]])
+    (number, [16, 17, 18, ffi::PLACE].map(|i| out[i]))
+}
+
+/// What a refusal is, and where.
+fn told(refusal: Refusal) -> (RefusalKind, Option<usize>) {
+    (refusal.kind(), refusal.place())
 }
 
 #[test]
@@ -55,14 +60,14 @@ fn every_piece_is_answered_as_the_library_answers_it() {
         let most = r.pick(&[3, 40, 300, 4000]);
         while at < bytes.len() {
             let piece = &bytes[at..][..(1 + r.below(most)).min(bytes.len() - at)];
-            let (number, [taken, now, needed]) = library(held, &mut store, piece, &sheet.0, &mut tables);
+            let (number, [taken, now, needed, place]) = library(held, &mut store, piece, &sheet.0, &mut tables);
             let step = if needed > 0 { Step::Needs(needed as usize) } else { Step::Done };
-            let wanted = match Refusal::from_number(number) {
+            let wanted = match RefusalKind::from_number(number) {
                 None => Ok(Fed { taken: taken as usize, step }),
-                Some(refusal) => Err(refusal),
+                Some(kind) => Err((kind, kind.has_place().then_some(place as usize))),
             };
-            assert_eq!(feed.feed(piece), wanted, "seed {seed}, byte {at}");
-            assert_eq!(feed.step(), wanted.map(|fed| fed.step));
+            assert_eq!(feed.feed(piece).map_err(told), wanted, "seed {seed}, byte {at}");
+            assert_eq!(feed.step().map_err(told), wanted.map(|fed| fed.step));
             held = now as usize;
             assert_eq!(feed.held(), &store[..held], "seed {seed}, byte {at}");
             assert_eq!(feed.block().is_some(), wanted.is_ok_and(|fed| fed.step == Step::Done));
@@ -85,8 +90,9 @@ fn after_done_and_after_a_refusal_nothing_is_taken() {
     assert_eq!(feed.block().unwrap().symbols().map(str::as_ptr).collect::<Vec<_>>(), names, "the same bytes");
     let mut feed = Feed::new(Limits::default());
     let refused = stream_of(2, &p10([0x45, 0xFF, 0]));
-    assert_eq!(feed.feed(&refused), Err(Refusal::ListNotUtf8));
-    assert_eq!((feed.feed(&bytes), feed.step()), (Err(Refusal::ListNotUtf8), Err(Refusal::ListNotUtf8)));
+    let refusal = feed.feed(&refused).expect_err("a symbol that is no text");
+    assert_eq!(told(refusal), (RefusalKind::ListNotUtf8, Some(108)), "from the block, and not from the stream");
+    assert_eq!((feed.feed(&bytes), feed.step()), (Err(refusal), Err(refusal)));
     assert_eq!((feed.held(), feed.block().is_none()), (&refused[..], true));
 }
 
@@ -101,7 +107,7 @@ fn a_feed_begins_anew_with_its_sheet_and_hands_over_its_bytes() {
         assert_eq!(feed.feed(&bytes).map(|fed| fed.step), Ok(Step::Done));
         assert_eq!(feed.take_held(), bytes);
         assert_eq!((feed.held(), feed.step()), (&b""[..], Ok(Step::Needs(8))));
-        assert_eq!(feed.feed(b"nothing of the kind"), Err(Refusal::Magic));
+        assert_eq!(feed.feed(b"nothing of the kind").map_err(told), Err((RefusalKind::Magic, Some(0))));
         assert_eq!(feed.take_held(), b"nothing ");
     }
 }
@@ -116,29 +122,32 @@ fn a_sheet_is_wanted_for_version_4_alone() {
     block.extend([0; 16]);
     let stream = stream_of(4, &block);
     let mut feed = Feed::new(Limits::default());
-    assert_eq!(feed.feed(&stream[..8]), Err(Refusal::NoSheet));
+    assert_eq!(feed.feed(&stream[..8]).map_err(told), Err((RefusalKind::NoSheet, None)));
     let mut feed = Feed::new(Limits::default()).with_sheet(plain());
     assert_eq!(feed.feed(&stream).map(|fed| fed.step), Ok(Step::Done));
     assert_eq!(feed.block().unwrap().version(), 4);
     assert_eq!(feed.block().unwrap().layout().unwrap().version(), 1);
     let mut tables = Tables::default();
-    assert_eq!(Block::read(4, &block, None, &mut tables).map(|_| ()), Err(Refusal::NoSheet));
+    let refused = Block::read(4, &block, None, &mut tables).map(|_| ()).map_err(told);
+    assert_eq!(refused, Err((RefusalKind::NoSheet, None)));
     assert_eq!(Block::read(4, &block, &plain(), &mut tables).map(|block| block.fields().layout_version), Ok(Some(1)));
     let older = p10([0x45, 0x53, 0]);
     for version in [2, 3] {
         let read = Block::read(version, &older, None, &mut tables).unwrap();
         assert_eq!((read.version(), read.layout().is_none()), (version, true));
     }
-    assert_eq!(Block::read(7, &older, None, &mut tables).map(|_| ()), Err(Refusal::Version));
+    let refused = Block::read(7, &older, None, &mut tables).map(|_| ()).map_err(told);
+    assert_eq!(refused, Err((RefusalKind::Version, Some(3))), "the version's place in a prelude");
 }
 
 #[test]
 fn rows_beyond_the_limit_are_refused_by_3() {
     let (bytes, _) = capture();
-    let told = |rows: usize| Feed::new(Limits { bytes: 4096, rows }).feed(&bytes).map(|fed| fed.step);
-    assert_eq!(told(5), Err(Refusal::TableShort));
-    assert_eq!(told(6), Ok(Step::Done));
-    assert_eq!(Block::read(2, &bytes[8..], None, &mut Tables::new(5)).map(|_| ()), Err(Refusal::TableShort));
+    let fed = |rows: usize| Feed::new(Limits { bytes: 4096, rows }).feed(&bytes).map(|fed| fed.step).map_err(told);
+    assert_eq!(fed(5), Err((RefusalKind::TableShort, None)));
+    assert_eq!(fed(6), Ok(Step::Done));
+    let read = Block::read(2, &bytes[8..], None, &mut Tables::new(5)).map(|_| ()).map_err(told);
+    assert_eq!(read, Err((RefusalKind::TableShort, None)));
     assert!(Block::read(2, &bytes[8..], None, &mut Tables::new(6)).is_ok());
 }
 

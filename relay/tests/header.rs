@@ -1,5 +1,7 @@
 //! The header says what the library and this package say: its version, and every refusal's name, number and sentence.
-use dbn_start::Refusal;
+mod common;
+use common::as_in_rust;
+use dbn_start::{ffi, RefusalKind};
 
 const HEADER: &str = include_str!("../../include/dbn_start.h");
 /// The names of the numbers in the library's own code.
@@ -18,15 +20,9 @@ fn listed() -> Vec<(String, u32, String)> {
     parts.collect()
 }
 
-/// A name such as `NAME_NOT_UTF8` as Rust writes it, `NameNotUtf8`.
-fn as_in_rust(name: &str) -> String {
-    let word = |word: &str| word[..1].to_string() + &word[1..].to_lowercase();
-    name.split('_').map(word).collect()
-}
-
 #[test]
 fn the_header_lists_every_refusal_of_the_library() {
-    let own = Refusal::ALL.iter().filter(|refusal| refusal.number() < 100);
+    let own = RefusalKind::ALL.iter().filter(|kind| kind.number() < 100);
     let own: Vec<_> = own.map(|r| (format!("{r:?}"), r.number(), r.sentence().to_string())).collect();
     let listed: Vec<_> = listed().into_iter().map(|(name, number, text)| (as_in_rust(&name), number, text)).collect();
     assert_eq!(listed, own);
@@ -40,6 +36,16 @@ fn names_and_numbers_are_those_of_the_code() {
     });
     let listed: Vec<(String, u32)> = listed().into_iter().map(|(name, number, _)| (name, number)).collect();
     assert_eq!(listed, constants.collect::<Vec<_>>());
+}
+
+#[test]
+fn places_stand_where_the_header_says() {
+    for (name, place) in [("DBN_OUT_PLACE", ffi::PLACE), ("DBN_PRELUDE_PLACE", ffi::PRELUDE_PLACE)] {
+        assert!(HEADER.contains(&format!("{name} = {place}")), "{name}");
+    }
+    assert!(HEADER.contains("(number >= 10 && number <= 12) || (number >= 20 && number <= 55)"));
+    let placed = |number: u32| (10..=12).contains(&number) || (20..=55).contains(&number);
+    assert!(RefusalKind::ALL.iter().all(|kind| kind.has_place() == placed(kind.number())));
 }
 
 #[test]

@@ -214,10 +214,20 @@ fn fields_may_stand_in_any_order() {
 }
 
 #[test]
-fn a_layout_cut_anywhere_is_refused_by_50() {
+fn a_layout_cut_anywhere_is_refused_by_50_where_the_cut_part_begins() {
     let bytes = layout(&RECORD);
+    // Version, then three times a count, a section's length and its body.
+    let mut starts = vec![0];
+    let mut at = 2;
+    for _ in 0..3 {
+        starts.extend([at, at + 2, at + 4]);
+        at += 2 + u16::from_le_bytes([bytes[at + 2], bytes[at + 3]]) as usize;
+    }
+    assert_eq!(at, bytes.len());
     for cut in 0..bytes.len() {
-        assert_eq!(verdict(&bytes[..cut], 8).map_err(Refusal::number), Err(50), "{cut} bytes");
+        let place = *starts.iter().rfind(|&&start| start <= cut).expect("a part");
+        let refusal = verdict(&bytes[..cut], 8).expect_err("a layout that is cut");
+        assert_eq!((refusal.number(), refusal.place()), (50, Some(place)), "{cut} bytes");
     }
 }
 
@@ -234,6 +244,13 @@ fn block4(layout: &[u8], symbology: &[u8]) -> Vec<u8> {
     out.extend((symbology.len() as u32).to_le_bytes());
     out.extend(symbology);
     out
+}
+
+/// The verdict on a block: the number and the place of its refusal.
+fn block(version: u8, bytes: &[u8]) -> Result<(), (u32, Option<usize>)> {
+    let mut tables = Tables::default();
+    let read = Block::read(version, bytes, &plain(), &mut tables);
+    read.map(|_| ()).map_err(|refusal| (refusal.number(), refusal.place()))
 }
 
 #[test]
@@ -255,19 +272,36 @@ fn a_version_4_block_has_a_layout() {
 #[test]
 fn version_4_wants_a_layout_and_a_symbology_that_is_spanned() {
     let inner = layout(&RECORD);
-    let number = |version: u8, bytes: &[u8]| {
-        Block::read(version, bytes, &plain(), &mut Tables::default()).map(|_| ()).map_err(Refusal::number)
-    };
-    assert_eq!(number(4, &block4(&[], &[0; 16])), Err(26));
-    assert_eq!(number(4, &block4(&inner, &[0; 17])), Err(28));
-    assert_eq!(number(4, &block4(&inner, &[0; 15])), Err(33));
+    // Where the symbology's length stands, and where its section begins.
+    let (length, section) = (104 + inner.len(), 108 + inner.len());
+    assert_eq!(block(4, &block4(&[], &[0; 16])), Err((26, Some(100))));
+    for longer in [17, 18, 40] {
+        assert_eq!(block(4, &block4(&inner, &vec![0; longer])), Err((28, Some(section + 16))), "{longer} bytes");
+    }
+    assert_eq!(block(4, &block4(&inner, &[0; 15])), Err((33, Some(section + 12))));
     let mut bytes = block4(&inner, &[0; 16]);
     bytes.extend([1, 2, 3]);
-    assert_eq!(number(4, &bytes), Ok(()), "bytes after the section are ignored");
+    assert_eq!(block(4, &bytes), Ok(()), "bytes after the section are ignored");
     bytes.truncate(bytes.len() - 4);
-    assert_eq!(number(4, &bytes), Err(27));
-    assert_eq!(number(5, &bytes), Err(11));
-    assert_eq!(number(0, &bytes), Err(11));
-    assert_eq!(number(4, &bytes[..99]), Err(13));
+    assert_eq!(block(4, &bytes), Err((45, Some(section))));
+    assert_eq!(block(4, &bytes[..section - 1]), Err((27, Some(length))));
+    assert_eq!(block(4, &bytes[..length - 1]), Err((44, Some(104))));
+    assert_eq!([5, 0].map(|version| block(version, &bytes)), [Err((11, Some(3))); 2]);
+    assert_eq!(block(4, &bytes[..99]), Err((13, None)));
     assert_eq!(stream_of(4, &bytes).len(), bytes.len() + 8);
+}
+
+#[test]
+fn a_layout_in_a_block_is_refused_at_the_same_byte_counted_from_the_block() {
+    let bytes = layout(&RECORD);
+    let mut bent = vec![bytes.clone(); bytes.len()];
+    bent.iter_mut().enumerate().for_each(|(i, bytes)| bytes[i] ^= 0xFF);
+    let mut refused = 0;
+    for inner in bent.iter().map(|bytes| &bytes[..]).chain((1..bytes.len()).map(|cut| &bytes[..cut])) {
+        let alone = verdict(inner, 8).map_err(|refusal| (refusal.number(), refusal.place()));
+        let within = alone.map_err(|(number, place)| (number, place.map(|place| 104 + place)));
+        assert_eq!(block(4, &block4(inner, &[0; 16])), within, "{inner:02x?}");
+        refused += within.is_err_and(|(_, place)| place.is_some()) as usize;
+    }
+    assert!(refused > bytes.len(), "{refused} of {} have a place", 2 * bytes.len());
 }

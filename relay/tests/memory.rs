@@ -1,5 +1,5 @@
 //! What a feed takes of the machine: it grows with what arrives, stays below the stated bound, and is told where there is none.
-use dbn_start::{Feed, Limits, Refusal, Step};
+use dbn_start::{Feed, Limits, Refusal, RefusalKind, Step};
 use std::{
     alloc::{GlobalAlloc, Layout, System},
     cell::Cell,
@@ -65,14 +65,14 @@ fn one_byte_symbols(count: usize) -> Vec<u8> {
 }
 
 /// Feeds a stream in pieces of 4,096 bytes.
-fn fed(stream: &[u8], limits: Limits) -> (Result<Step, Refusal>, Feed) {
+fn fed(stream: &[u8], limits: Limits) -> (Result<Step, RefusalKind>, Feed) {
     let mut feed = Feed::new(limits);
     for piece in stream.chunks(4096) {
         if feed.feed(piece).is_err() {
             break;
         }
     }
-    (feed.step(), feed)
+    (feed.step().map_err(Refusal::kind), feed)
 }
 
 #[test]
@@ -98,7 +98,7 @@ fn sixteen_mib_of_one_byte_symbols_stay_below_the_bound() {
     let stream = one_byte_symbols(limits.bytes - 8 - 120);
     assert_eq!(stream.len(), limits.bytes);
     let ((step, _), took) = most(|| fed(&stream, limits));
-    assert_eq!(step, Err(Refusal::TableShort), "more rows than the limit");
+    assert_eq!(step, Err(RefusalKind::TableShort), "more rows than the limit");
     assert!(took < bound(limits), "{took} bytes");
     println!("16 MiB of one-byte symbols: {took} bytes, the bound is {}", bound(limits));
     // As many rows as the limit has are accepted, within the same bound.
@@ -123,8 +123,8 @@ fn no_memory_is_a_refusal() {
         MAY.set(usize::MAX);
         answer
     };
-    assert_eq!(told(50_000), Err(Refusal::NoMemory), "for the bytes");
-    assert_eq!(told(1_000_000), Err(Refusal::NoMemory), "for the rows");
+    assert_eq!(told(50_000), Err(RefusalKind::NoMemory), "for the bytes");
+    assert_eq!(told(1_000_000), Err(RefusalKind::NoMemory), "for the rows");
     assert_eq!(told(3_000_000), Ok(Step::Done));
 }
 

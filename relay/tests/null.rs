@@ -14,9 +14,14 @@ fn every_function_takes_null_at_length_0() {
         let mut told = [7; 4];
         assert_eq!((ffi::dbn_prelude(null(), 0, &mut told), told), (0, [8, 0, 0, 0]));
         assert_eq!(ffi::dbn_block(3, null(), 0, sheet, null_mut(), 0, null_mut(), 0, &mut out), 13);
-        assert_eq!(ffi::dbn_layout(null(), 0, 71, sheet, null_mut(), 0, &mut out), 50);
-        assert_eq!(ffi::dbn_layout_plain(null(), 0, 71, sheet, &mut out), 50);
         assert_eq!(ffi::dbn_write_layout(null(), 0, null(), 0, 1, 71, sheet, null_mut(), 0, &mut out), 96);
+        assert_eq!(out, [7; 16]);
+        assert_eq!(ffi::dbn_layout(null(), 0, 71, sheet, null_mut(), 0, &mut out), 50);
+        assert_eq!(std::mem::replace(&mut out[ffi::PLACE], 7), 0, "the place");
+        assert_eq!(ffi::dbn_layout_plain(null(), 0, 71, sheet, &mut out), 50);
+        assert_eq!(std::mem::replace(&mut out[ffi::PLACE], 7), 0, "the place");
+        assert_eq!(ffi::dbn_block(9, null(), 0, sheet, null_mut(), 0, null_mut(), 0, &mut out), 11);
+        assert_eq!(std::mem::replace(&mut out[ffi::PLACE], 7), 3, "the place in a prelude");
         assert_eq!(out, [7; 16]);
         assert_eq!((ffi::dbn_symbology_name(null(), 0, null(), 0, 0, &mut name), name), (90, [0, 0]));
         assert_eq!((ffi::dbn_layout_name(null(), 0, null(), 0, 0, &mut name), name), (90, [0, 0]));

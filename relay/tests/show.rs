@@ -108,13 +108,48 @@ fn accepted_from_a_file_and_from_standard_input() {
 
 #[test]
 fn refused_with_the_sentence_of_its_number() {
-    let (stream, _) = stored();
-    let sentence = "refused 10: The stream does not begin with DBN.\n";
-    assert_eq!(show(&[], b"DBX\x04____"), told(1, sentence));
-    let mut no_date = stream.clone();
+    let (mut no_date, _) = stored();
     let place = no_date.windows(4).rposition(|four| four == 20230317u32.to_le_bytes()).expect("a date");
     no_date[place] = 0;
-    assert_eq!(show(&[], &no_date), told(1, "refused 39: An interval's end is no date.\n"));
+    let around = "01 00 00 00 d5 af 34 01 [00] b0 34 01 32 31 33 30 00\n";
+    let end_date = format!("refused 39: An interval's end is no date.\nplace {} of the block\n{around}", place - 8);
+    assert_eq!(show(&[], &no_date), told(1, &end_date));
+}
+
+#[test]
+fn a_place_of_the_prelude_and_the_bytes_around_it() {
+    let magic = "refused 10: The stream does not begin with DBN.\nplace 0 of the prelude\n[44] 42 58 04 5f 5f 5f 5f\n";
+    assert_eq!(show(&[], b"DBX\x04____ and more"), told(1, magic));
+    let version = "refused 11: The version is not 1 to 4.\nplace 3 of the prelude\n44 42 4e [09] 64 00 00 00\n";
+    assert_eq!(show(&[], b"DBN\x09\x64\0\0\0"), told(1, version));
+    let length = "refused 12: The block length is below 100.\nplace 4 of the prelude\n44 42 4e 04 [63] 00 00 00\n";
+    assert_eq!(show(&[], b"DBN\x04\x63\0\0\0"), told(1, length));
+}
+
+#[test]
+fn a_place_of_the_block_and_the_bytes_around_it() {
+    let stream = version_2(b"GLBX.MDP3\0\0\0\0\0\0\0", 8, &[], 0);
+    // What is told of the stream with one byte of its block changed, and the block cut to this length.
+    let told_of = |place: usize, byte: u8, length: usize| {
+        let mut stream = stream[..8 + length].to_vec();
+        stream[8 + place] = byte;
+        stream[4..8].copy_from_slice(&(length as u32).to_le_bytes());
+        show(&[], &stream)
+    };
+    let dataset = "refused 20: The dataset is not UTF-8.\nplace 0 of the block\n[ff] 4c 42 58 2e 4d 44 50 33\n";
+    assert_eq!(told_of(0, 0xff, 120), told(1, dataset));
+    let schema = "refused 21: The schema is unknown.\nplace 16 of the block\n\
+        33 00 00 00 00 00 00 00 [14] ff 00 00 00 00 00 00 00\n";
+    assert_eq!(told_of(16, 20, 120), told(1, schema));
+    let missing = "refused 24: The layout's length is missing.\nplace 100 of the block\n\
+        00 00 00 00 00 00 00 00 [07] 00 00\n";
+    assert_eq!(told_of(100, 7, 103), told(1, missing));
+    // 17 bytes of a layout, of which 16, 1 and none are there.
+    for (length, after) in [(120, "[00] 00 00 00 00 00 00 00 00"), (105, "[00]"), (104, "[]")] {
+        let past_end = "refused 44: The layout goes past the end of the block.\nplace 104 of the block\n";
+        let around = format!("{past_end}00 00 00 00 11 00 00 00 {after}\n");
+        assert_eq!(told_of(100, 17, length), told(1, &around));
+    }
 }
 
 #[test]
@@ -123,7 +158,7 @@ fn every_number_of_a_reader_has_a_sentence() {
     let sentences = std::fs::read_to_string(at("crates/show/src/refusals.rt")).expect("the sentences");
     let numbers = numbers.lines().filter_map(|line| line.split(" = ").nth(1)?.trim_end_matches(';').parse().ok());
     let of_readers: Vec<u32> = numbers.filter(|n| *n < 90).collect();
-    assert_eq!(of_readers.len(), 51);
+    assert_eq!(of_readers.len(), 53);
     for n in of_readers {
         assert!(sentences.contains(&format!("\n{n:02}: ")), "{n} has no sentence");
     }

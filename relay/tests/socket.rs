@@ -58,5 +58,5 @@ fn an_end_inside_the_start_is_told() {
 #[test]
 fn a_refusal_is_told() {
     let error = start(&mut Socket { bytes: b"DBN\x07\x64\0\0\0", most: 50 }).expect_err("version 7");
-    assert_eq!(error.to_string(), "refused by 11: the version is not 1 to 4");
+    assert_eq!(error.to_string(), "refused by 11 at byte 3: the version is not 1 to 4");
 }

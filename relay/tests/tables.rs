@@ -26,32 +26,33 @@ fn block(version: u8, bytes: &[u8], sn: usize, ln: usize) -> (u32, [u64; 16], Ve
 }
 
 #[test]
-fn a_refusal_leaves_the_tables_and_out() {
+fn a_refusal_leaves_the_tables_and_out_but_for_its_place() {
     let (stream, _) = capture();
     let good = &stream[8..];
     // Each place broken in turn: dataset, schema, stype_in, stype_out, layout length, list count, a symbol, the mapping
     // count, the raw symbol, the interval count, dates, and the last interval's symbol.
     let last = good.len() - 71;
     let broken = [
-        (0, 20),
-        (17, 21),
-        (42, 22),
-        (43, 23),
-        (103, 24),
-        (107, 31),
-        (108, 32),
-        (190, 34),
-        (191, 36),
-        (265, 37),
-        (last - 5, 38),
-        (last - 1, 39),
-        (last, 40),
+        (0, 20, 0),
+        (17, 21, 16),
+        (42, 22, 42),
+        (43, 23, 43),
+        (103, 44, 104),
+        (107, 31, 104),
+        (109, 32, 108),
+        (190, 34, 187),
+        (192, 36, 191),
+        (265, 37, 262),
+        (last - 5, 38, last - 8),
+        (last - 1, 39, last - 4),
+        (last + 1, 40, last),
     ];
-    for (place, number) in broken {
+    for (byte, number, place) in broken {
         let mut bytes = good.to_vec();
-        bytes[place] = 0xFE;
-        let (got, out, symbology, layout) = block(2, &bytes, 100, 100);
-        assert_eq!(got, number, "byte {place}");
+        bytes[byte] = 0xFE;
+        let (got, mut out, symbology, layout) = block(2, &bytes, 100, 100);
+        assert_eq!(got, number, "byte {byte}");
+        assert_eq!(std::mem::replace(&mut out[ffi::PLACE], 99), place as u64, "the place of {number}");
         assert_eq!(out, [99; 16], "out after {number}");
         assert!(symbology.iter().chain(&layout).all(|&x| x == MARK), "tables after {number}");
     }
@@ -104,6 +105,7 @@ fn a_feed_that_is_refused_keeps_only_the_bytes_it_took() {
     };
     assert_eq!(number, 32);
     assert_eq!(out[16..19], [131, 131, 0], "taken, held, needed");
+    assert_eq!(std::mem::replace(&mut out[ffi::PLACE], 99), 108, "the place, from the block");
     assert_eq!((&out[..16], out[19]), (&[99; 16][..], 99));
     assert_eq!(store[..131], bytes[..131]);
     assert_eq!(store[131..], [0xEE; 69]);

@@ -9,6 +9,12 @@ pub fn hex(digits: &str) -> Vec<u8> {
     digits.chunks(2).map(|two| value(two[0]) * 16 + value(two[1])).collect()
 }
 
+/// A refusal's name such as `NAME_NOT_UTF8` as Rust writes it, `NameNotUtf8`.
+pub fn as_in_rust(name: &str) -> String {
+    let word = |word: &str| word[..1].to_string() + &word[1..].to_lowercase();
+    name.split('_').map(word).collect()
+}
+
 pub const STRUCT: u8 = 1;
 pub const SYMBOL: u8 = 2;
 pub const TEXT: u8 = 3;
