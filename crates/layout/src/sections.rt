@@ -144,6 +144,12 @@ fn record_head(s: &[u8]) -> Got
     ensures { λ r. ⌜ (r ≡ recordHead (now (s .entry))) × Past 15 14 (now (s .entry)) 0 r ⌝ }
 {
     let n = s.len();
+    if 14 <= n {
+        return Got::Value {
+            value: 14,
+            next: 14,
+        };
+    }
     if n < 2 {
         return cut(0);
     }
@@ -153,13 +159,7 @@ fn record_head(s: &[u8]) -> Got
     if n < 6 {
         return cut(4);
     }
-    if n < 14 {
-        return cut(6);
-    }
-    Got::Value {
-        value: 14,
-        next: 14,
-    }
+    cut(6)
 }
 
 // What does not fit at `place`.

@@ -9,25 +9,24 @@ use Rattle.layout.proofs.sections.record_head.Statement.{statement}
 use Rattle.layout.proofs.sections.record_head.Tie as tie
 
 returns : tie.Need-returns
-returns c = (c .cut .ensures ∙ head-0 _ (omega arith), rw (c .cut .ensures) refused)
+returns c = (head-ok _ (omega arith), past-mk (omega arith) (omega arith) (omega arith))
 
 returns-2 : tie.Need-returns-2
-returns-2 c = (c .cut2 .ensures ∙ head-2 _ (omega arith) (omega arith), rw (c .cut2 .ensures) refused)
+returns-2 c = (c .cut .ensures ∙ head-0 _ (omega arith), rw (c .cut .ensures) refused)
 
 returns-3 : tie.Need-returns-3
-returns-3 c = (c .cut3 .ensures ∙ head-4 _ (omega arith) (omega arith), rw (c .cut3 .ensures) refused)
+returns-3 c = (c .cut2 .ensures ∙ head-2 _ (omega arith) (omega arith), rw (c .cut2 .ensures) refused)
 
 returns-4 : tie.Need-returns-4
-returns-4 c = (c .cut4 .ensures ∙ head-6 _ (omega arith) (omega arith), rw (c .cut4 .ensures) refused)
+returns-4 c = (c .cut3 .ensures ∙ head-4 _ (omega arith) (omega arith), rw (c .cut3 .ensures) refused)
 
 returns-5 : tie.Need-returns-5
-returns-5 c = (head-ok _ (omega arith), past-mk (omega arith) (omega arith) (omega arith))
+returns-5 c = (c .cut4 .ensures ∙ head-6 _ (omega arith) (omega arith), rw (c .cut4 .ensures) refused)
 
 pub record-head-spec : {M : Type 1} → statement M
 record-head-spec =
     tie.close
     (tie.spec
-    (λ c κs. search needs)
     returns
     (λ c κs. search needs)
     returns-2
@@ -35,4 +34,5 @@ record-head-spec =
     returns-3
     (λ c κs. search needs)
     returns-4
+    (λ c κs. search needs)
     returns-5)
