@@ -71,3 +71,20 @@ refuses13 sheet = refl
 pub refuses26 : (sheet : List ℕ) → blockOf 4 sheet least ≡ refuse (refusal 26 100)
 unfolding blockOf lengths whole block header layoutPart symbologyPart named _then_ _on_ checked raw skip num sized utf8 judged boxed
 refuses26 sheet = refl
+
+-- a header of zeros, then these bytes
+abbrev after : List ℕ → List ℕ
+after t = replicate 100 0 ++ t
+
+-- a layout length that is missing is 24; document 01's length 5 with 4 bytes left is 44, and with 5 left in version 2 it is 25
+pub refuses24 : (sheet : List ℕ) → blockOf 2 sheet (after (5 ∷ 0 ∷ 0 ∷ [])) ≡ refuse (refusal 24 100)
+unfolding blockOf lengths whole block header layoutPart symbologyPart named _then_ _on_ checked raw skip num sized utf8
+refuses24 sheet = refl
+
+pub refuses44 : (sheet : List ℕ) → blockOf 2 sheet (after (5 ∷ 0 ∷ 0 ∷ 0 ∷ replicate 4 0)) ≡ refuse (refusal 44 104)
+unfolding blockOf lengths whole block header layoutPart symbologyPart named _then_ _on_ checked raw skip num sized utf8
+refuses44 sheet = refl
+
+pub refuses25 : (sheet : List ℕ) → blockOf 2 sheet (after (5 ∷ 0 ∷ 0 ∷ 0 ∷ replicate 5 0)) ≡ refuse (refusal 25 100)
+unfolding blockOf lengths whole block header layoutPart symbologyPart named _then_ _on_ checked raw skip num sized utf8
+refuses25 sheet = refl
