@@ -103,14 +103,7 @@ pub fn stream(r: &mut Rng, sheet: &Sheet, count: &mut Count) {
     let whole = calls::feed(0, &store, &bytes, &sheet.0, &symbology, &layout, &out);
     fed(&whole, 0, &store, &bytes, &symbology, &layout, &out);
     tell(count, whole.number, whole.out[18]);
-    match bare.number {
-        3 if enough => assert_eq!(whole.number, 0, "tables of the rows needed are enough"),
-        3 => {
-            assert_eq!(whole.number, 3, "a table shorter than the rows needed");
-            assert_eq!(whole.out[10..12], bare.out[10..12], "rows needed");
-        }
-        other => assert_eq!(whole.number, other, "tables matter for 3 alone"),
-    }
+    other_tables(&bare, &whole, enough);
     if (whole.number, whole.out[18]) == (0, 0) {
         assert_eq!((whole.out[10] as usize, whole.out[11] as usize), rows, "rows given are the rows needed");
         assert_eq!(whole.symbology[rows.0 * 5..], symbology[rows.0 * 5..], "past the last symbology row");
@@ -122,6 +115,23 @@ pub fn stream(r: &mut Rng, sheet: &Sheet, count: &mut Count) {
     }
     if bytes.len() >= 8 + declared && room >= 8 + declared && declared >= 100 && &bytes[..3] == b"DBN" {
         block(r, &bytes, declared, sheet, &symbology, &layout, &whole, count);
+    }
+}
+
+/// A stream that is lent no tables, and the same that is lent some, which may be long enough: tables matter for 3 alone, and for no place.
+fn other_tables(bare: &FeedAnswer, lent: &FeedAnswer, enough: bool) {
+    match bare.number {
+        3 if enough => assert_eq!(lent.number, 0, "tables of the rows needed are enough"),
+        3 => {
+            assert_eq!(lent.number, 3, "a table shorter than the rows needed");
+            assert_eq!(lent.out[10..12], bare.out[10..12], "rows needed");
+        }
+        other => {
+            assert_eq!(lent.number, other, "tables matter for 3 alone");
+            if has_place(other) {
+                assert_eq!(lent.out[13], bare.out[13], "the place of {other} with other tables");
+            }
+        }
     }
 }
 
@@ -169,13 +179,7 @@ fn cut(
     count: &mut Count,
 ) {
     let most = r.pick(&[1, 3, 16, 100, 100, 400, 400]);
-    let mut held = FeedAnswer {
-        number: 0,
-        out: [0; 20],
-        store: store.to_vec(),
-        symbology: symbology.to_vec(),
-        layout: layout.to_vec(),
-    };
+    let mut held = begun(store, symbology, layout);
     let (mut at, mut pieces) = (0, 0);
     loop {
         // Bytewise only so far, since a long stream would take long.
@@ -199,12 +203,27 @@ fn cut(
     }
     same_end(&held, whole);
     if held.number != 0 || held.out[18] == 0 {
-        let piece = &bytes[..bytes.len().min(30)];
-        let again = calls::feed(held.out[17], &held.store, piece, &sheet.0, &held.symbology, &held.layout, &held.out);
-        assert_eq!((again.number, again.out[16]), (held.number, 0), "a feed after the end takes nothing");
-        assert_eq!(again.out[..16], held.out[..16], "and gives the same");
-        assert_eq!((again.symbology, again.layout), (held.symbology, held.layout), "and the same rows");
+        after_the_end(&held, &bytes[..bytes.len().min(30)], sheet);
     }
+}
+
+/// What a feed that has not begun has: nothing held, and what it is lent.
+fn begun(store: &[u8], symbology: &[u32], layout: &[u32]) -> FeedAnswer {
+    FeedAnswer {
+        number: 0,
+        out: [0; 20],
+        store: store.to_vec(),
+        symbology: symbology.to_vec(),
+        layout: layout.to_vec(),
+    }
+}
+
+/// A feed after the end takes nothing of the piece and gives the same.
+fn after_the_end(held: &FeedAnswer, piece: &[u8], sheet: &Sheet) {
+    let again = calls::feed(held.out[17], &held.store, piece, &sheet.0, &held.symbology, &held.layout, &held.out);
+    assert_eq!((again.number, again.out[16]), (held.number, 0), "a feed after the end takes nothing");
+    assert_eq!(again.out[..16], held.out[..16], "and gives the same");
+    assert_eq!((&again.symbology, &again.layout), (&held.symbology, &held.layout), "and the same rows");
 }
 
 /// A stream in pieces ends as the whole one does, refused at the same place.

@@ -2,7 +2,7 @@
 ghost use mathlib.Core.Path.{_≡_};
 ghost use Rattle.refusal.specs.Places.{hasPlace};
 
-// A number of the table, and the place of what it is about, counted in the bytes that were given. 13, 1, 2, 3, 60 to 83 and those
+// A number of the table, and the place of what it is about, counted in the bytes that were given. 1 to 3, 13, 60 to 83 and those
 // from 90 on are about no byte: their place is 0.
 pub struct Refusal {
     pub number: u32,
