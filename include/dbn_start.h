@@ -16,6 +16,9 @@
  * written only as said here, and what is not named keeps its value. A refusal leaves tables and output as they were; only the
  * store of dbn_feed keeps the bytes it took, and a refusal by 3 tells the rows needed.
  *
+ * Names. A dataset or symbol comes without the NULs that fill its width, and holds none: after a NUL only NULs may follow. One that is as
+ * long as its width has no NUL after it, so go by its length and not to the next NUL. A layout's names hold no NUL, and one follows each.
+ *
  * Stack, in bytes that a call needs at the most:
  *     dbn_text, dbn_date, dbn_prelude, dbn_symbology_name, dbn_layout_name     4 KiB
  *     dbn_block, dbn_feed, dbn_layout, dbn_write_layout                       32 KiB
@@ -38,7 +41,7 @@
 
 /* The version of this header, major x 10000 + minor x 100 + patch. */
 #define DBN_START_VERSION_MAJOR 0
-#define DBN_START_VERSION_MINOR 4
+#define DBN_START_VERSION_MINOR 5
 #define DBN_START_VERSION_PATCH 0
 #define DBN_START_VERSION (DBN_START_VERSION_MAJOR * 10000 + DBN_START_VERSION_MINOR * 100 + DBN_START_VERSION_PATCH)
 
@@ -65,6 +68,7 @@ extern "C" {
     X(NO_LAYOUT, 26, "no layout in version 4")                                                     \
     X(SYMBOLOGY_LENGTH_MISSING, 27, "the length of the symbology is missing")                      \
     X(SYMBOLOGY_NOT_SPANNED, 28, "the symbology does not span its section")                        \
+    X(DATASET_AFTER_NUL, 29, "the dataset has more than NULs after a NUL")                         \
     X(LIST_COUNT_MISSING, 30, "the count of a symbol list is missing")                             \
     X(LIST_COUNT_LARGE, 31, "the count of a symbol list is too large")                             \
     X(LIST_NOT_UTF8, 32, "a symbol of a list is not UTF-8")                                        \
@@ -76,6 +80,9 @@ extern "C" {
     X(START_DATE, 38, "an interval's start date is no date")                                       \
     X(END_DATE, 39, "an interval's end date is no date")                                           \
     X(SYMBOL_NOT_UTF8, 40, "an interval's symbol is not UTF-8")                                    \
+    X(LIST_AFTER_NUL, 41, "a symbol of a list has more than NULs after a NUL")                     \
+    X(RAW_SYMBOL_AFTER_NUL, 42, "the raw symbol of a mapping has more than NULs after a NUL")      \
+    X(SYMBOL_AFTER_NUL, 43, "an interval's symbol has more than NULs after a NUL")                 \
     X(LAYOUT_PAST_END, 44, "the layout goes past the end of the block")                            \
     X(SYMBOLOGY_PAST_END, 45, "the symbology goes past the end of the block")                      \
     X(LAYOUT_TRUNCATED, 50, "the layout is cut short")                                             \

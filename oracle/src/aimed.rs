@@ -2,9 +2,13 @@
 use crate::gen::{self, LayoutTree, Rng, Sheet};
 
 /// A stream start with a code that is not known, a symbology section that is not spanned, a symbology cut short, or its last
-/// mapping; a layout or symbology length that is missing, or that goes past the end; or a layout of [`layout`].
+/// mapping; a layout or symbology length that is missing, or that goes past the end; a layout of [`layout`]; or a text of
+/// [`after_nul`].
 pub fn stream(r: &mut Rng, sheet: &Sheet) -> Vec<u8> {
-    let which = r.below(11);
+    let which = r.below(13);
+    if which >= 11 {
+        return after_nul(r, sheet);
+    }
     let version = match which {
         3 | 8..=10 => 4,
         4 | 5 => 1 + r.below(3) as u8,
@@ -53,6 +57,23 @@ fn bend_lengths(r: &mut Rng, which: usize, block: &mut Vec<u8>, layout: usize, s
         9 => block.truncate(104 + layout + 4 + r.below(symbology)),
         _ => {}
     }
+}
+
+/// A stream start in which more than NULs follow a NUL of the dataset, a list's symbol, a raw symbol or an interval's symbol.
+fn after_nul(r: &mut Rng, sheet: &Sheet) -> Vec<u8> {
+    let (version, width) = (1 + r.below(4) as u8, r.pick(&[2u16, 3, 8, 22, 71]));
+    let head = gen::head(r, version, width);
+    let (lists, mappings) = ([0; 3].map(|_| 1 + r.below(2)), [1 + r.below(2), r.below(2)]);
+    let symbology = gen::symbology(r, head.width as usize, lists, &mappings);
+    let layout = match version {
+        4 => gen::layout(r, sheet, head.width as usize, 1, 3).bytes(r),
+        _ => Vec::new(),
+    };
+    let mut block = gen::block(r, &head, &layout, &symbology, 0);
+    let texts = &gen::texts(&head, block.len() - symbology.len(), lists, &mappings)[r.below(4)];
+    let text = texts[r.below(texts.len())].clone();
+    gen::after_nul(r, &mut block[text]);
+    gen::stream_of(version, &block)
 }
 
 /// A layout, and its width, with a short section, an rtype twice, a base that is not of 8, a decimal's scale, a gap before the

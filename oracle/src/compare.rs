@@ -1,6 +1,6 @@
 //! The comparison: generated, damaged and cut inputs, the C functions' answers beside the crate's.
 use crate::{
-    aimed, calls,
+    after_nul, aimed, calls,
     gen::{self, Rng, Sheet},
     of_crate::{Answer, Build, BUILDS},
     ours,
@@ -95,11 +95,12 @@ fn beside_paper(ours: &[Answer], paper: &[Stage]) -> Kind {
     Kind::Unexplained(format!("paper {paper:?}, here {}", here.join(", ")))
 }
 
-/// Ours beside the plain program, then beside the crate.
-fn judge(ours: &[Answer], paper: &[Stage], builds: &[Build; 3], ask: impl Fn(&Build) -> Vec<Answer>) -> Kind {
+/// Ours beside the plain program, then beside the crate, unless more than NULs follow a NUL.
+fn judge(ours: &[Answer], paper: &[Stage], builds: &[Build; 3], ask: impl Fn(&Build) -> Vec<Answer>) -> (Beside, Kind) {
+    let beside = after_nul::beside(paper);
     match beside_paper(ours, paper) {
-        Kind::Agreed => beside_crate(&without_places(ours), builds, ask),
-        kind => kind,
+        Kind::Agreed if beside == Beside::Crate => (beside, beside_crate(&without_places(ours), builds, ask)),
+        kind => (beside, kind),
     }
 }
 
@@ -178,9 +179,9 @@ fn cut_stream(r: &mut Rng, made: &Made, tally: &mut Tally, bytes: &[u8], what: &
     cuts.sort();
     let answers = ours::feed(r, bytes, &cuts, &made.sheet);
     let paper = paper::fed(bytes, &cuts, &made.sheet.0);
-    let kind = judge(&answers, &paper, &BUILDS[made.build], |build| (build.feed)(bytes, &cuts));
+    let (beside, kind) = judge(&answers, &paper, &BUILDS[made.build], |build| (build.feed)(bytes, &cuts));
     let kind = with_input(kind, || format!("stream {} cut at {cuts:?}", hex(bytes)));
-    tally.add(Beside::Crate, what, answers.last().unwrap(), kind);
+    tally.add(beside, what, answers.last().unwrap(), kind);
 }
 
 /// A block given whole with a version. The crate is asked with a prelude before it; it has no word for 11 and 13 here.
@@ -197,7 +198,7 @@ fn block(r: &mut Rng, made: &Made, tally: &mut Tally) {
         (Beside::Paper, beside_paper(&answer, &paper))
     } else {
         let stream = gen::stream_of(version, &block);
-        (Beside::Crate, judge(&answer, &paper, &BUILDS[made.build], |build| (build.feed)(&stream, &[])))
+        judge(&answer, &paper, &BUILDS[made.build], |build| (build.feed)(&stream, &[]))
     };
     let kind = with_input(kind, || format!("block {} version {version}", hex(&block)));
     tally.add(beside, "blocks", &answer[0], kind);
@@ -229,9 +230,9 @@ fn layout(r: &mut Rng, made: &Made, tally: &mut Tally) {
 fn one_layout(r: &mut Rng, made: &Made, tally: &mut Tally, bytes: &[u8], width: u16, what: &'static str) {
     let answer = [ours::layout(r, bytes, width, &made.sheet)];
     let paper = stage_of(paper::layout(bytes, width as usize, &made.sheet.0));
-    let kind = judge(&answer, &paper, &BUILDS[made.build], |build| vec![(build.layout)(bytes, width)]);
+    let (beside, kind) = judge(&answer, &paper, &BUILDS[made.build], |build| vec![(build.layout)(bytes, width)]);
     let kind = with_input(kind, || format!("layout {} width {width}", hex(bytes)));
-    tally.add(Beside::Crate, what, &answer[0], kind);
+    tally.add(beside, what, &answer[0], kind);
 }
 
 /// An accepted layout through both writers, its names in a text area of their own: the same bytes, which the crate reads back.
@@ -242,13 +243,10 @@ fn written(r: &mut Rng, made: &Made, tally: &mut Tally) {
     let answer = ours::layout(r, &bytes, width, &made.sheet);
     let Answer::Accepted(values) = &answer else {
         let (build, paper) = (&BUILDS[made.build], stage_of(paper::layout(&bytes, width as usize, &made.sheet.0)));
-        let kind = judge(std::slice::from_ref(&answer), &paper, build, |build| vec![(build.layout)(&bytes, width)]);
-        tally.add(
-            Beside::Crate,
-            "layouts",
-            &answer,
-            with_input(kind, || format!("layout {} width {width}", hex(&bytes))),
-        );
+        let ask = |build: &Build| vec![(build.layout)(&bytes, width)];
+        let (beside, kind) = judge(std::slice::from_ref(&answer), &paper, build, ask);
+        let kind = with_input(kind, || format!("layout {} width {width}", hex(&bytes)));
+        tally.add(beside, "layouts", &answer, kind);
         return;
     };
     // The build with document 01's alignment reads whatever is read here.

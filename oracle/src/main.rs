@@ -1,9 +1,12 @@
 //! oracle compare N SEED | sample FOLDER | bench
+mod after_nul;
 mod aimed;
 mod bench;
 mod compare;
 mod of_crate;
 mod ours;
+#[cfg(test)]
+mod page;
 mod paper;
 mod sample;
 mod tally;

@@ -1,8 +1,8 @@
 //! Documents 01 and 02 as a plain program: verdicts only, with no care for speed.
 //!
-//! The crate has no word for a part of the papers: the places of refusals, lent stores and tables (1, 2, 3), sizes (13), rows
-//! (90 to 96), and sheets whose special ids coincide. There the C functions are held to this program. Where the crate has an
-//! answer it decides the number, and this program must give the same.
+//! The crate has no word for a part of the papers: the places of refusals, lent stores and tables (1, 2, 3), sizes (13), what
+//! follows a NUL (29, 41 to 43), rows (90 to 96), and sheets whose special ids coincide. There the C functions are held to this
+//! program. Where the crate has an answer it decides the number, and this program must give the same.
 //!
 //! A part of the given bytes is read as those bytes up to its end, from its start on. So every place counts from what was given.
 use crate::walk::ENTRY;
@@ -12,6 +12,9 @@ pub type Refused = (u32, Option<usize>);
 
 /// Accepted, or refused.
 pub type Verdict = Result<(), Refused>;
+
+/// The numbers of a text that has more than NULs after a NUL: the dataset, a list's symbol, a raw symbol, an interval's symbol.
+pub const AFTER_NUL: [u32; 4] = [29, 41, 42, 43];
 
 fn at(number: u32, place: usize) -> Refused {
     (number, Some(place))
@@ -336,7 +339,7 @@ fn symbology(s: &[u8], mut p: usize, width: usize) -> Result<usize, Refused> {
             return Err(at(31, place));
         }
         for _ in 0..count {
-            symbol(s, &mut p, width, 32)?;
+            text(s, &mut p, width, [32, 41])?;
         }
     }
     let place = p;
@@ -355,7 +358,7 @@ fn mapping(s: &[u8], p: &mut usize, width: usize) -> Verdict {
     if s.len() - *p < width + 4 {
         return Err(at(35, *p));
     }
-    symbol(s, p, width, 36)?;
+    text(s, p, width, [36, 42])?;
     let place = *p;
     let intervals = number(s, p, 4, 35)?;
     if intervals > (s.len() - *p) / (width + 8) {
@@ -368,27 +371,31 @@ fn mapping(s: &[u8], p: &mut usize, width: usize) -> Verdict {
                 return Err(at(refusal, place));
             }
         }
-        symbol(s, p, width, 40)?;
+        text(s, p, width, [40, 43])?;
     }
     Ok(())
 }
 
-/// A symbol, for which there is room. It is UTF-8 over its full width, or refused at its first byte.
-fn symbol(s: &[u8], p: &mut usize, width: usize, refusal: u32) -> Verdict {
-    if !is_text(&s[*p..*p + width]) {
-        return Err(at(refusal, *p));
+/// A dataset or symbol, for which there is room. It is UTF-8 over its full width, and after a NUL only NULs follow; else it is
+/// refused at its first byte, by the first or the second of the numbers.
+fn text(s: &[u8], p: &mut usize, width: usize, [not_utf8, after_nul]: [u32; 2]) -> Verdict {
+    let text = &s[*p..*p + width];
+    if !is_text(text) {
+        return Err(at(not_utf8, *p));
+    }
+    let mut after = text.iter().skip_while(|&&byte| byte != 0);
+    if after.any(|&byte| byte != 0) {
+        return Err(at(after_nul, *p));
     }
     *p += width;
     Ok(())
 }
 
-/// 20 to 23 of a block's first 100 bytes. Gives the symbol width.
+/// 20 to 23 and 29 of a block's first 100 bytes. Gives the symbol width.
 fn header(version: u8, b: &[u8]) -> Result<usize, Refused> {
     let dataset = if version == 4 { 38 } else { 16 };
-    if !is_text(&b[..dataset]) {
-        return Err(at(20, 0));
-    }
-    let mut p = dataset;
+    let mut p = 0;
+    text(b, &mut p, dataset, [20, 29])?;
     let schema = number(b, &mut p, 2, 0)?;
     if schema > 19 && schema != 65535 {
         return Err(at(21, dataset));
@@ -745,14 +752,19 @@ mod tests {
         assert_eq!(refused(&bytes(&[&record, &[0; 4]])), bare(62));
     }
 
-    /// The refusal of a block of zeros with these bytes in it, symbol width 3.
-    fn block_with(version: u8, length: usize, changes: &[(usize, &[u8])]) -> Refused {
+    /// The verdict on a block of zeros with these bytes in it, symbol width 3.
+    fn verdict(version: u8, length: usize, changes: &[(usize, &[u8])]) -> Verdict {
         let mut b = vec![0; length];
         b[if version == 4 { 67 } else { 45 }] = 3;
         for (place, part) in changes {
             b[*place..place + part.len()].copy_from_slice(part);
         }
-        block(version, &b, &SHEET).expect_err("a refusal")
+        block(version, &b, &SHEET)
+    }
+
+    /// The refusal of such a block.
+    fn block_with(version: u8, length: usize, changes: &[(usize, &[u8])]) -> Refused {
+        verdict(version, length, changes).expect_err("a refusal")
     }
 
     #[test]
@@ -800,6 +812,67 @@ mod tests {
     }
 
     #[test]
+    fn after_a_nul_of_the_dataset_only_nuls_follow() {
+        for version in 1..=4 {
+            let last = if version == 4 { 37 } else { 15 };
+            let dataset = |changes: &[(usize, &[u8])]| block_with(version, 100, changes);
+            assert_eq!(dataset(&[(last, b"x")]), at(29, 0), "NULs, then a letter in the last byte");
+            assert_eq!([dataset(&[(0, b"\0x")]), dataset(&[(0, b"A\0\0\x01")])], [at(29, 0); 2]);
+            assert_eq!(dataset(&[(0, b"A\0x"), (last, &[0xFF])]), at(20, 0), "20 before 29");
+            assert_eq!(dataset(&[(last, b"x\0\x01")]), at(29, 0), "29 before 21");
+            assert_eq!(dataset(&[(last + 1, b"\0\x01")]), at(21, last + 1), "the dataset ends before the schema");
+            assert_eq!(dataset(&[(last - 1, b"x\0")]), at(29, 0));
+            let full = vec![b'A'; last + 1];
+            assert_eq!([dataset(&[]), dataset(&[(0, &full)]), dataset(&[(0, &full[1..])])], [at(24, 100); 3]);
+            assert_eq!(dataset(&[(0, &full), (last - 1, b"\0")]), at(29, 0), "one NUL before the last byte");
+        }
+    }
+
+    #[test]
+    fn after_a_nul_of_a_list_s_symbol_only_nuls_follow() {
+        let two: (usize, &[u8]) = (104, &[2]);
+        let symbols = |first: &[u8]| verdict(2, 126, &[two, (108, first)]);
+        assert_eq!(symbols(b"A\0x"), Err(at(41, 108)));
+        assert_eq!(symbols(b"ABC\0\0x"), Err(at(41, 111)), "NULs, then a letter in the last byte");
+        assert_eq!(symbols(b"A\0\xFF"), Err(at(32, 108)), "32 before 41");
+        assert_eq!(symbols(b"A\0xA\0\xFF"), Err(at(41, 108)), "41 of the first before 32 of the second");
+        assert_eq!(symbols(b"A\0\xFFA\0x"), Err(at(32, 108)));
+        assert_eq!([symbols(b"ABCABC"), symbols(b"A\0\0\0\0\0"), symbols(b"ABCAB")], [Ok(()); 3], "NULs at the end");
+        assert_eq!(block_with(2, 126, &[(104, &[200]), (108, b"A\0x")]), at(31, 104), "31 before the symbols");
+        assert_eq!(block_with(2, 123, &[(108, &[1]), (112, b"\0x\0")]), at(41, 112), "the second list");
+        assert_eq!(block_with(2, 123, &[(112, &[1]), (116, b"\0x")]), at(41, 116), "the third");
+        assert_eq!(block_with(2, 130, &[(100, &[1]), (105, &[1]), (109, b"A\0x")]), at(25, 100), "25 before 41");
+        // Version 4: a symbol that spans its section, and one with a byte after it that the contents do not reach.
+        let list: [(usize, &[u8]); 3] = [(100, &[8]), (116, &[1]), (120, b"A\0x")];
+        for section in [19, 20] {
+            assert_eq!(block_with(4, 140, &[&list[..], &[(112, &[section])]].concat()), at(41, 120), "41 before 28");
+        }
+        assert_eq!(block_with(4, 140, &[list[0], list[1], (112, &[20])]), at(28, 135));
+    }
+
+    #[test]
+    fn after_a_nul_of_a_mapping_s_symbols_only_nuls_follow() {
+        let head: [(usize, &[u8]); 3] = [(116, &[1]), (123, &[1]), (127, &[101, 0, 0, 0, 101])];
+        let mapping = |changes: &[(usize, &[u8])]| verdict(2, 138, &[&head, changes].concat());
+        assert_eq!([mapping(&[]), mapping(&[(120, b"ABC"), (135, b"AB")])], [Ok(()); 2]);
+        assert_eq!(mapping(&[(120, b"A\0x")]), Err(at(42, 120)));
+        assert_eq!(mapping(&[(120, b"\0\0x")]), Err(at(42, 120)), "NULs, then a letter in the last byte");
+        assert_eq!(mapping(&[(120, b"A\0\xFF")]), Err(at(36, 120)), "36 before 42");
+        assert_eq!(mapping(&[(120, b"A\0x"), (123, &[9])]), Err(at(42, 120)), "42 before 37");
+        assert_eq!(mapping(&[(120, b"A\0x"), (137, &[0xFF])]), Err(at(42, 120)), "42 before the intervals");
+        assert_eq!(mapping(&[(135, b"A\0x")]), Err(at(43, 135)));
+        assert_eq!(mapping(&[(135, b"\0\0x")]), Err(at(43, 135)), "NULs, then a letter in the last byte");
+        assert_eq!(mapping(&[(135, b"A\0\xFF")]), Err(at(40, 135)), "40 before 43");
+        assert_eq!(mapping(&[(127, &[0]), (135, b"A\0x")]), Err(at(38, 127)), "38 before 43");
+        assert_eq!(mapping(&[(131, &[0]), (135, b"A\0x")]), Err(at(39, 131)), "39 before 43");
+        let second: [(usize, &[u8]); 2] = [(123, &[2]), (138, &[101, 0, 0, 0, 101, 0, 0, 0, b'A', 0, b'x'])];
+        assert_eq!(block_with(2, 149, &[&head[..], &second].concat()), at(43, 146), "the second interval");
+        // Width 0: a raw symbol and an interval's symbol of no bytes.
+        let none: [(usize, &[u8]); 2] = [(45, &[0]), (120, &[1, 0, 0, 0, 101, 0, 0, 0, 101])];
+        assert_eq!(verdict(2, 132, &[none[0], (116, &[1]), none[1]]), Ok(()));
+    }
+
+    #[test]
     fn in_feeding_places_count_from_the_prelude_and_from_the_block() {
         let last = |stream: &[u8], cuts: &[usize]| *fed(stream, cuts, &SHEET).last().unwrap();
         let prelude = |magic: &[u8], version: u8, length: u8| bytes(&[magic, &[version, length, 0, 0, 0]]);
@@ -809,6 +882,9 @@ mod tests {
         let stream = bytes(&[&prelude(b"DBN", 2, 104), &[0; 104]]);
         assert_eq!(fed(&stream[..50], &[3, 8], &SHEET), [5, 104, 62].map(Stage::Needs));
         assert_eq!(last(&stream, &[3, 90]), Stage::Refused(at(30, 104)));
+        let mut after_nul = stream.clone();
+        after_nul[8 + 15] = b'x';
+        assert_eq!(fed(&after_nul, &[8, 50], &SHEET)[1..], [Stage::Needs(62), Stage::Refused(at(29, 0))]);
         assert_eq!(stage(9, &stream[..8], &SHEET), Stage::Refused(bare(1)));
     }
 }

@@ -5,12 +5,13 @@
 //!   b  a block, with tables of 256 rows: the refusal, or the fields and the rows of both tables with their names
 //!   l  a layout: the refusal, or its version and rows; the answer of the rules five times; the rows with their names
 //!   t  a layout that is read and written: the bytes that the crate writes
-//! A refusal is the crate's number; the plain program must give the same, and its place stands beside it.
-//! Inputs that a listed difference, or a check outside the part taken, touches are left out.
+//! A refusal is the crate's number; the plain program must give the same, and its place stands beside it. Only where more than NULs
+//! follow a NUL of a text is the number the plain program's own, 29, 41, 42 or 43, since the crate keeps such texts.
+//! Inputs that another listed difference, or a check outside the part taken, touches are left out.
 use crate::{
     gen::{self, Rng, Sheet},
     of_crate::{Answer, Build, BUILDS},
-    paper,
+    paper::{self, AFTER_NUL},
     walk::{self, Values},
 };
 use std::{collections::BTreeMap, io::Write, path::Path};
@@ -19,7 +20,8 @@ use std::{collections::BTreeMap, io::Write, path::Path};
 const LINE: &str = "# A sample of the answers of the crate dbn 0.73.0, ";
 
 /// How it goes on.
-const MADE: &str = "with two sheets and the plain program's places, made by oracle/make-sample: ";
+const MADE: &str =
+    "with two sheets, the plain program's places, and its 29, 41, 42 and 43, made by oracle/make-sample: ";
 
 /// How many inputs of each refusal, and how many accepted ones of each kind, the list has.
 const REFUSED: usize = 3;
@@ -111,20 +113,19 @@ fn tell_block(values: &Values, block: &[u8]) -> Vec<u8> {
     out
 }
 
-/// The crate's number, where it is the same with and without what is outside the part taken.
-fn number(one: &Answer, two: &Answer) -> Option<u32> {
-    match one {
-        _ if one != two => None,
+/// The number of an answer, 0 for accepted.
+fn number(answer: &Answer) -> Option<u32> {
+    match answer {
         Answer::Refused(number, _) => Some(*number),
         Answer::Accepted(_) => Some(0),
         _ => None,
     }
 }
 
-/// The crate's number as the program writes it, with the place of the plain program, whose number is the same; 0 for accepted.
+/// A number as the program writes it, with the place of the plain program, whose number is the same; 0 for accepted.
 fn with_place(number: u32, plain: paper::Verdict) -> String {
     let (same, place) = plain.err().unwrap_or((0, None));
-    assert_eq!(same, number, "the plain program's number beside the crate's");
+    assert_eq!(same, number, "the plain program's number beside the one to be told");
     place.map_or(number.to_string(), |place| format!("{number} at {place}"))
 }
 
@@ -169,14 +170,25 @@ fn block_case(
     align: &Build,
 ) {
     let (version, block) = (stream[3], &stream[8..]);
-    let answer = (plain.feed)(stream, &[]).remove(0);
-    let Some(number) = number(&answer, &(align.feed)(stream, &[])[0]) else { return };
+    let verdict = paper::block(version, block, &sheet.0);
+    let answer = match verdict {
+        // The crate would accept it, or refuse it by a rule that comes later.
+        Err((number, _)) if AFTER_NUL.contains(&number) => Answer::Refused(number, None),
+        _ => {
+            let answer = (plain.feed)(stream, &[]).remove(0);
+            if answer != (align.feed)(stream, &[])[0] {
+                return;
+            }
+            answer
+        }
+    };
+    let Some(number) = number(&answer) else { return };
     if !wanted(1, number, block.len()) {
         return;
     }
     let told = match &answer {
         Answer::Accepted(values) => tell_block(values, block),
-        _ => format!("refused {}\n", with_place(number, paper::block(version, block, &sheet.0))).into_bytes(),
+        _ => format!("refused {}\n", with_place(number, verdict)).into_bytes(),
     };
     out.put(1, format!("b {version:02x} {} {}", number16(256), hex(block)), &told);
 }
@@ -205,7 +217,10 @@ fn layout_case(
     align: &Build,
 ) {
     let answer = (plain.layout)(layout, width);
-    let Some(number) = number(&answer, &(align.layout)(layout, width)) else { return };
+    if answer != (align.layout)(layout, width) {
+        return;
+    }
+    let Some(number) = number(&answer) else { return };
     let case = format!("{} {}", number16(width), hex(layout));
     if wanted(2, number, layout.len()) {
         let plain = paper::layout(layout, width as usize, &sheet.0);

@@ -1,5 +1,5 @@
 //! What a run came to: counts, beside the crate and beside the plain program apart, and a floor for each number.
-use crate::of_crate::Answer;
+use crate::{of_crate::Answer, paper::AFTER_NUL};
 use std::collections::BTreeMap;
 
 /// What an answer was held to.
@@ -7,6 +7,8 @@ use std::collections::BTreeMap;
 pub enum Beside {
     /// The crate's own text.
     Crate,
+    /// The plain program, where more than NULs follow a NUL of a text, which the crate keeps (`after_nul.rs`).
+    AfterNul,
     /// Documents 01 and 02 as a plain program (`paper.rs`), where the crate has no such thing.
     Paper,
 }
@@ -22,15 +24,28 @@ pub enum Kind {
     Unexplained(String),
 }
 
-/// The numbers that the crate can give, and those that the plain program alone gives.
+/// The numbers that the crate can give, and those, [`AFTER_NUL`] apart, that the plain program alone gives.
 const OF_CRATE: [std::ops::RangeInclusive<u32>; 7] = [10..=12, 20..=28, 30..=40, 44..=45, 50..=55, 60..=64, 71..=83];
 const OF_PAPER: [std::ops::RangeInclusive<u32>; 3] = [1..=3, 13..=13, 90..=96];
+
+impl Beside {
+    const ALL: [Beside; 3] = [Beside::Crate, Beside::AfterNul, Beside::Paper];
+
+    /// What the report calls it, and the numbers that are to be agreed on there.
+    fn told(self) -> (&'static str, Vec<u32>) {
+        match self {
+            Beside::Crate => ("beside the crate", OF_CRATE.into_iter().flatten().collect()),
+            Beside::AfterNul => ("after a NUL, counted apart, beside the plain program", AFTER_NUL.to_vec()),
+            Beside::Paper => ("beside the plain program alone", OF_PAPER.into_iter().flatten().collect()),
+        }
+    }
+}
 
 /// Each number is to be agreed on once in so many inputs, or more often. Shorter runs than this many floors have none.
 const FLOOR: u64 = 4_000;
 const SHORT: u64 = 5;
 
-/// Counts of what was held to one of the two.
+/// Counts of what was held to one of the three.
 #[derive(Default)]
 struct Counts {
     inputs: BTreeMap<&'static str, u64>,
@@ -79,15 +94,13 @@ impl Tally {
     pub fn print(&self) -> bool {
         let inputs = self.counts.values().map(Counts::total).sum::<u64>();
         println!("inputs {inputs}");
-        let mut enough = true;
-        for (beside, counts) in &self.counts {
-            match beside {
-                Beside::Crate => println!("beside the crate {}", counts.total()),
-                Beside::Paper => println!("beside the plain program alone {}", counts.total()),
-            }
-            counts.print(*beside == Beside::Crate);
-            let numbers = if *beside == Beside::Crate { &OF_CRATE[..] } else { &OF_PAPER[..] };
-            enough &= counts.floor(numbers, if inputs < SHORT * FLOOR { 0 } else { inputs / FLOOR });
+        let (mut enough, none) = (true, Counts::default());
+        for beside in Beside::ALL {
+            let counts = self.counts.get(&beside).unwrap_or(&none);
+            let (name, numbers) = beside.told();
+            println!("{name} {}", counts.total());
+            counts.print(beside == Beside::Crate);
+            enough &= counts.floor(&numbers, if inputs < SHORT * FLOOR { 0 } else { inputs / FLOOR });
         }
         println!("unexplained {}", self.unexplained.len());
         enough && self.unexplained.is_empty()
@@ -119,9 +132,8 @@ impl Counts {
     }
 
     /// Whether each of the numbers was agreed on so often. Prints the one that was least.
-    fn floor(&self, numbers: &[std::ops::RangeInclusive<u32>], floor: u64) -> bool {
+    fn floor(&self, all: &[u32], floor: u64) -> bool {
         let hits = |number: u32| self.hits.get(&number).copied().unwrap_or(0);
-        let all: Vec<u32> = numbers.iter().cloned().flatten().collect();
         for &number in all.iter().filter(|&&number| hits(number) < floor) {
             eprintln!("too seldom: {number} was agreed on {} times, and the floor is {floor}", hits(number));
         }

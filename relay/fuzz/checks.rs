@@ -2,7 +2,7 @@
 use super::{
     calls::{self, FeedAnswer},
     gen::{self, Rng, Sheet},
-    Count,
+    texts, Count,
 };
 
 /// A table or output full of marks, so that a write shows.
@@ -16,7 +16,7 @@ fn marked_out<const N: usize>(r: &mut Rng) -> [u64; N] {
 
 /// Counts an answer: 0 with nothing needed, 0 with bytes needed, or a refusal, whose number must be of the table.
 fn tell(count: &mut Count, number: u32, needed: u64) {
-    let table = [0..=3, 10..=13, 20..=28, 30..=40, 44..=45, 50..=55, 60..=64, 71..=83, 90..=96];
+    let table = [0..=3, 10..=13, 20..=45, 50..=55, 60..=64, 71..=83, 90..=96];
     assert!(table.iter().any(|numbers| numbers.contains(&number)), "{number} is no number of the table");
     count.calls += 1;
     match (number, needed) {
@@ -56,7 +56,7 @@ fn placed(number: u32, place: u64, length: usize, version: Option<u8>) {
     let Some(version @ 1..=4) = version else { return };
     let [schema, stype_in] = [[16, 50], [16, 42], [16, 42], [38, 64]][version as usize - 1];
     let fixed = match number {
-        20 => 0,
+        20 | 29 => 0,
         21 => schema,
         22 => stype_in,
         23 => stype_in + 1,
@@ -297,12 +297,11 @@ fn block(
     let mut wanted = out;
     wanted[named(a.number)].copy_from_slice(&whole.out[named(a.number)]);
     assert_eq!(a.out, wanted, "out of a block after {}", a.number);
-    if let (4, 50..=55) = (version, a.number) {
-        within(block, sheet, &out, a.number, a.out[PLACE]);
-    }
     if a.number != 0 {
-        return;
+        texts::refused(version, block, a.number, a.out[PLACE]);
+        return within(version, block, sheet, &out, a.number, a.out[PLACE]);
     }
+    texts::accepted(r, version, block, sheet, &a);
     let (sn, ln) = (a.out[10] as usize * 5, a.out[11] as usize * 9);
     names(r, block, &a.symbology[..sn], 5);
     if version < 4 {
@@ -318,7 +317,8 @@ fn block(
 }
 
 /// A layout that is refused in a block is refused by itself at the same byte, counted from the layout.
-fn within(block: &[u8], sheet: &Sheet, out: &[u64; 16], number: u32, place: u64) {
+fn within(version: u8, block: &[u8], sheet: &Sheet, out: &[u64; 16], number: u32, place: u64) {
+    let (4, 50..=55) = (version, number) else { return };
     let length = u32::from_le_bytes(block[100..104].try_into().unwrap()) as usize;
     let width = u16::from_le_bytes([block[67], block[68]]);
     let alone = calls::layout(&block[104..104 + length], width, &sheet.0, &[], out);
@@ -551,6 +551,7 @@ fn any_block(
         }
         placed(b.number, b.out[PLACE], block.len(), Some(version));
     }
+    texts::refused(version, block, b.number, b.out[PLACE]);
 }
 
 /// Rows of anything: a span outside gives 90.

@@ -2,6 +2,7 @@
 //!
 //! A layout is built as a small tree so that most of what is made passes every rule. Then a field, a count, a byte or a
 //! length is changed, so that what is refused is refused late and for many reasons.
+use std::ops::Range;
 
 /// A small generator of random numbers (xorshift with a multiplication).
 #[derive(Clone)]
@@ -219,18 +220,26 @@ pub fn name(r: &mut Rng, max: usize) -> Vec<u8> {
     out
 }
 
-/// A symbol of exactly `width` bytes: mostly text and NULs; sometimes NULs inside, the full width, or NULs only.
+/// A symbol of exactly `width` bytes: mostly text and NULs; sometimes the full width, or NULs only.
 pub fn symbol(r: &mut Rng, width: usize) -> Vec<u8> {
     let mut out = match r.below(10) {
         0 => Vec::new(),
         1 => vec![b'Z'; width],
         _ => name(r, width.min(8)),
     };
-    if r.one_in(10) && out.len() + 2 <= width {
-        out.extend([0, b'x']);
-    }
     out.resize(width, 0);
     out
+}
+
+/// Puts a name, a NUL, and another byte after it, often the last, into a text of two bytes or more. Now and then it is no UTF-8.
+pub fn after_nul(r: &mut Rng, text: &mut [u8]) {
+    let Some(most) = text.len().checked_sub(2) else { return };
+    let name = name(r, most);
+    text.fill(0);
+    text[..name.len()].copy_from_slice(&name);
+    let after = &mut text[name.len() + 1..];
+    let place = if r.one_in(3) { after.len() - 1 } else { r.below(after.len()) };
+    after[place] = if r.one_in(8) { 0xFF } else { b'x' };
 }
 
 pub fn date(r: &mut Rng) -> u32 {
@@ -665,6 +674,17 @@ pub struct Head {
     pub fill: bool,
 }
 
+impl Head {
+    /// The width of the dataset.
+    fn dataset(&self) -> usize {
+        if self.version == 4 {
+            38
+        } else {
+            16
+        }
+    }
+}
+
 /// A layout and its symbol width, bent as often as one of `bends` says; of eight one has a byte changed, and one is cut.
 pub fn some_layout(r: &mut Rng, sheet: &Sheet, bends: &[usize]) -> (Vec<u8>, u16) {
     let width = r.pick(&[0u16, 3, 8, 22, 71]);
@@ -685,6 +705,27 @@ pub fn some_layout(r: &mut Rng, sheet: &Sheet, bends: &[usize]) -> (Vec<u8>, u16
     (bytes, width)
 }
 
+/// Where the texts of a block stand whose symbology begins at `p`: the dataset; the symbols of the lists; the raw symbols; the
+/// symbols of the intervals.
+pub fn texts(head: &Head, mut p: usize, lists: [usize; 3], mappings: &[usize]) -> [Vec<Range<usize>>; 4] {
+    let mut out = [const { Vec::new() }; 4];
+    out[0].push(0..head.dataset());
+    let mut put = |kind: usize, from: usize| {
+        let end = from + head.width as usize;
+        out[kind].push(from..end);
+        end
+    };
+    for count in lists {
+        p = (0..count).fold(p + 4, |p, _| put(1, p));
+    }
+    p += 4;
+    for &intervals in mappings {
+        p = put(2, p) + 4;
+        p = (0..intervals).fold(p, |p, _| put(3, p + 8));
+    }
+    out
+}
+
 pub fn head(r: &mut Rng, version: u8, width: u16) -> Head {
     Head {
         version,
@@ -701,7 +742,7 @@ pub fn head(r: &mut Rng, version: u8, width: u16) -> Head {
 
 /// A block of these parts, with `after` bytes more.
 pub fn block(r: &mut Rng, head: &Head, layout: &[u8], symbology: &[u8], after: usize) -> Vec<u8> {
-    let mut out = symbol(r, if head.version == 4 { 38 } else { 16 });
+    let mut out = symbol(r, head.dataset());
     put16(&mut out, head.schema);
     out.extend(r.next().to_le_bytes());
     out.extend(head.end.to_le_bytes());
@@ -737,7 +778,7 @@ pub fn stream_of(version: u8, block: &[u8]) -> Vec<u8> {
     out
 }
 
-/// A stream start that is accepted (nearly always).
+/// A stream start that is accepted (nearly always). Now and then one of its texts has more than NULs after a NUL.
 pub fn stream(r: &mut Rng, sheet: &Sheet, version: u8) -> Vec<u8> {
     let width = r.pick(&[0u16, 1, 3, 8, 22, 71]);
     let head = head(r, version, width);
@@ -754,7 +795,13 @@ pub fn stream(r: &mut Rng, sheet: &Sheet, version: u8) -> Vec<u8> {
     } else {
         Vec::new()
     };
-    let block = block(r, &head, &layout, &symbology, after);
+    let mut block = block(r, &head, &layout, &symbology, after);
+    if r.one_in(10) {
+        let texts = &texts(&head, block.len() - after - symbology.len(), lists, &mappings)[r.below(4)];
+        if let Some(text) = texts.get(r.below(texts.len())) {
+            after_nul(r, &mut block[text.clone()]);
+        }
+    }
     stream_of(version, &block)
 }
 

@@ -3,10 +3,12 @@
 //! What is checked needs no second reader: nothing outside what is lent is read or written; a refusal is a number of the table, and leaves tables
 //! and output as they were, and `out` too but for what is named; it has a place where its number has one, within what was given; the answer is the
 //! same however a stream is cut; the count needed is the least that ends the stage; a block, its stream and its layout get the
-//! same answer; names lie within the bytes; what is read is written back, and what is written is read back.
+//! same answer; names lie within the bytes and hold no NUL, and the rest of their width is NULs, or the text is refused; what is read is
+//! written back, and what is written is read back.
 pub mod calls;
 mod checks;
 pub mod gen;
+mod texts;
 
 use gen::Rng;
 

@@ -45,6 +45,10 @@ pub struct Fields {
 }
 
 /// An accepted block: its fields, its symbology and its layout, with every name a part of the block's own bytes.
+///
+/// No name holds a NUL. The dataset and the symbols are filled with NULs to their width, which are no part of the name, and one that
+/// has more than NULs after a NUL is refused: by 29, 41, 42 and 43. So a name is the same one to whoever stops at the first NUL and to
+/// whoever takes NULs off the end.
 #[derive(Clone, Copy)]
 pub struct Block<'a> {
     version: u8,
@@ -118,7 +122,7 @@ impl<'a> Block<'a> {
         self.fields
     }
 
-    /// The dataset's name.
+    /// The dataset's name, which holds no NUL.
     pub fn dataset(&self) -> &'a str {
         self.dataset
     }
@@ -128,7 +132,7 @@ impl<'a> Block<'a> {
         rows(self.symbology)
     }
 
-    /// The name of a symbology row, or 90 where there is no such row.
+    /// The name of a symbology row, which holds no NUL, or 90 where there is no such row.
     pub fn name(&self, row: usize) -> Result<&'a str, Refusal> {
         let mut out = [0; 2];
         let (bytes, rows) = (self.bytes, self.symbology);
@@ -139,7 +143,7 @@ impl<'a> Block<'a> {
         part(self.bytes, number, out)
     }
 
-    /// The symbols that were asked for.
+    /// The symbols that were asked for. Like every name of a block, they hold no NUL.
     pub fn symbols(&self) -> impl Iterator<Item = &'a str> + use<'a> {
         self.list(0)
     }

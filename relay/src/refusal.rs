@@ -49,6 +49,7 @@ refusals! {
     NoLayout 26 "no layout in version 4"
     SymbologyLengthMissing 27 "the length of the symbology is missing"
     SymbologyNotSpanned 28 "the symbology does not span its section"
+    DatasetAfterNul 29 "the dataset has more than NULs after a NUL"
     ListCountMissing 30 "the count of a symbol list is missing"
     ListCountLarge 31 "the count of a symbol list is too large"
     ListNotUtf8 32 "a symbol of a list is not UTF-8"
@@ -60,6 +61,9 @@ refusals! {
     StartDate 38 "an interval's start date is no date"
     EndDate 39 "an interval's end date is no date"
     SymbolNotUtf8 40 "an interval's symbol is not UTF-8"
+    ListAfterNul 41 "a symbol of a list has more than NULs after a NUL"
+    RawSymbolAfterNul 42 "the raw symbol of a mapping has more than NULs after a NUL"
+    SymbolAfterNul 43 "an interval's symbol has more than NULs after a NUL"
     LayoutPastEnd 44 "the layout goes past the end of the block"
     SymbologyPastEnd 45 "the symbology goes past the end of the block"
     LayoutTruncated 50 "the layout is cut short"
@@ -202,7 +206,7 @@ mod tests {
 
     #[test]
     fn every_number_of_the_table_has_one_name_and_one_sentence() {
-        let ranges = [1..=3, 10..=13, 20..=28, 30..=40, 44..=45, 50..=55, 60..=64, 71..=83, 90..=96, 200..=201];
+        let ranges = [1..=3, 10..=13, 20..=45, 50..=55, 60..=64, 71..=83, 90..=96, 200..=201];
         let numbers: Vec<u32> = ranges.into_iter().flatten().collect();
         assert_eq!(RefusalKind::ALL.iter().map(|kind| kind.number()).collect::<Vec<_>>(), numbers);
         assert!(RefusalKind::ALL
@@ -216,7 +220,7 @@ mod tests {
     fn a_place_is_told_for_the_kinds_that_have_one() {
         let placed: Vec<u32> =
             RefusalKind::ALL.iter().filter(|kind| kind.has_place()).map(|kind| kind.number()).collect();
-        let ranges = [10..=12, 20..=28, 30..=40, 44..=45, 50..=55];
+        let ranges = [10..=12, 20..=45, 50..=55];
         assert_eq!(placed, ranges.into_iter().flatten().collect::<Vec<_>>());
         for kind in RefusalKind::ALL {
             let refusal = Refusal::unless_read(kind.number(), 104).expect_err("a refusal");
@@ -228,9 +232,9 @@ mod tests {
     }
 
     #[test]
-    #[should_panic(expected = "it answered 41, which is no number of the table")]
+    #[should_panic(expected = "it answered 46, which is no number of the table")]
     fn a_number_of_no_table_is_told_loudly() {
-        let _ = Refusal::unless_read(41, 0);
+        let _ = Refusal::unless_read(46, 0);
     }
 
     #[test]

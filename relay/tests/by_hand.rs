@@ -102,12 +102,10 @@ fn p10_one_symbol() {
 }
 
 #[test]
-fn p11_an_inner_nul_stays() {
+fn p11_a_letter_after_a_nul_is_41() {
     let bytes = p10([0x45, 0, 0x53]);
-    let mut tables = Tables::default();
-    let block = Block::read(2, &bytes, &plain(), &mut tables).unwrap();
-    assert_eq!(block.rows().collect::<Vec<_>>(), [&[0, 108, 3, 0, 0]]);
-    assert_eq!(block.symbols().collect::<Vec<_>>(), ["E\0S"]);
+    assert_eq!(refused(Block::read(2, &bytes, &plain(), &mut Tables::default())), (41, Some(108)));
+    assert_eq!(refused(fed(&stream_of(2, &bytes))), (41, Some(108)), "from the block");
 }
 
 #[test]

@@ -138,6 +138,9 @@ fn a_place_of_the_block_and_the_bytes_around_it() {
     };
     let dataset = "refused 20: The dataset is not UTF-8.\nplace 0 of the block\n[ff] 4c 42 58 2e 4d 44 50 33\n";
     assert_eq!(told_of(0, 0xff, 120), told(1, dataset));
+    let after_nul = "refused 29: The dataset has more than NULs after a NUL.\nplace 0 of the block\n\
+        [47] 4c 42 58 2e 4d 44 50 33\n";
+    assert_eq!(told_of(15, b'x', 120), told(1, after_nul));
     let schema = "refused 21: The schema is unknown.\nplace 16 of the block\n\
         33 00 00 00 00 00 00 00 [14] ff 00 00 00 00 00 00 00\n";
     assert_eq!(told_of(16, 20, 120), told(1, schema));
@@ -158,7 +161,7 @@ fn every_number_of_a_reader_has_a_sentence() {
     let sentences = std::fs::read_to_string(at("crates/show/src/refusals.rt")).expect("the sentences");
     let numbers = numbers.lines().filter_map(|line| line.split(" = ").nth(1)?.trim_end_matches(';').parse().ok());
     let of_readers: Vec<u32> = numbers.filter(|n| *n < 90).collect();
-    assert_eq!(of_readers.len(), 53);
+    assert_eq!(of_readers.len(), 57);
     for n in of_readers {
         assert!(sentences.contains(&format!("\n{n:02}: ")), "{n} has no sentence");
     }
@@ -183,6 +186,14 @@ fn a_hostile_name_forges_no_line() {
         limit: none\nstype_in: none\nstype_out: 12 (figi_ticker)\nts_out: no\nsymbol width: 40\nlayout version: none\nsymbology rows: 1\n\
         layout rows: 0\nsymbol: A\\x0d\\x0arecord: B\\x1b[2J\\\\x43\\x7f\\xc3\\xa9\\xe2\\x80\\xae\naccepted\n";
     assert_eq!(shown, told(0, report));
+}
+
+#[test]
+fn a_symbol_that_could_be_read_as_two_names() {
+    let stream = version_2(b"GLBX.MDP3\0\0\0\0\0\0\0", 8, &[b"ESH5", b"ESZ4\0H3"], 0);
+    let report = "refused 41: A listed symbol has more than NULs after a NUL.\nplace 116 of the block\n\
+        45 53 48 35 00 00 00 00 [45] 53 5a 34 00 48 33 00 00\n";
+    assert_eq!(show(&[], &stream), told(1, report));
 }
 
 #[test]

@@ -30,26 +30,30 @@ fn a_refusal_leaves_the_tables_and_out_but_for_its_place() {
     let (stream, _) = capture();
     let good = &stream[8..];
     // Each place broken in turn: dataset, schema, stype_in, stype_out, layout length, list count, a symbol, the mapping
-    // count, the raw symbol, the interval count, dates, and the last interval's symbol.
+    // count, the raw symbol, the interval count, dates, and the last interval's symbol; and each text's last byte, after its NULs.
     let last = good.len() - 71;
     let broken = [
-        (0, 20, 0),
-        (17, 21, 16),
-        (42, 22, 42),
-        (43, 23, 43),
-        (103, 44, 104),
-        (107, 31, 104),
-        (109, 32, 108),
-        (190, 34, 187),
-        (192, 36, 191),
-        (265, 37, 262),
-        (last - 5, 38, last - 8),
-        (last - 1, 39, last - 4),
-        (last + 1, 40, last),
+        (0, 0xFE, 20, 0),
+        (15, b'x', 29, 0),
+        (17, 0xFE, 21, 16),
+        (42, 0xFE, 22, 42),
+        (43, 0xFE, 23, 43),
+        (103, 0xFE, 44, 104),
+        (107, 0xFE, 31, 104),
+        (109, 0xFE, 32, 108),
+        (178, b'x', 41, 108),
+        (190, 0xFE, 34, 187),
+        (192, 0xFE, 36, 191),
+        (261, b'x', 42, 191),
+        (265, 0xFE, 37, 262),
+        (last - 5, 0xFE, 38, last - 8),
+        (last - 1, 0xFE, 39, last - 4),
+        (last + 1, 0xFE, 40, last),
+        (last + 70, b'x', 43, last),
     ];
-    for (byte, number, place) in broken {
+    for (byte, value, number, place) in broken {
         let mut bytes = good.to_vec();
-        bytes[byte] = 0xFE;
+        bytes[byte] = value;
         let (got, mut out, symbology, layout) = block(2, &bytes, 100, 100);
         assert_eq!(got, number, "byte {byte}");
         assert_eq!(std::mem::replace(&mut out[ffi::PLACE], 99), place as u64, "the place of {number}");

@@ -24,21 +24,14 @@ fn block(width: usize, symbols: &[Vec<u8>]) -> Vec<u8> {
     out
 }
 
-/// Symbols of a width: NULs only, then one for each place of the last letter, with a NUL before it and without.
+/// Symbols of a width: NULs only, then one for each place of the last letter.
 fn symbols(width: usize) -> Vec<Vec<u8>> {
-    let mut out = vec![vec![0; width]];
-    for last in 0..width {
-        let mut letters = vec![b'A'; last + 1];
-        letters.resize(width, 0);
-        out.push(letters.clone());
-        letters[last / 2] = 0;
-        out.push(letters);
-    }
-    out
+    let letters = |count: usize| [vec![b'A'; count], vec![0; width - count]].concat();
+    (0..=width).map(letters).collect()
 }
 
 #[test]
-fn names_lose_the_nuls_at_their_end_and_no_others() {
+fn names_lose_the_nuls_at_their_end_and_no_letter() {
     for width in 0..=80 {
         let symbols = symbols(width);
         let bytes = block(width, &symbols);
@@ -48,7 +41,24 @@ fn names_lose_the_nuls_at_their_end_and_no_others() {
         let wanted: Vec<&str> =
             symbols.iter().map(|symbol| std::str::from_utf8(symbol).expect("ASCII").trim_end_matches('\0')).collect();
         assert_eq!(names, wanted, "width {width}");
+        assert!(names.iter().all(|name| !name.contains('\0')), "width {width}");
         let listed: Vec<&str> = read.symbols().collect();
         assert_eq!(listed, if width == 0 { vec![] } else { wanted }, "width {width}, the list");
+    }
+}
+
+#[test]
+fn a_nul_before_the_last_letter_is_41_wherever_the_two_stand() {
+    for width in 0..=80 {
+        for (count, symbol) in symbols(width).into_iter().enumerate() {
+            for nul in 0..count.saturating_sub(1) {
+                let mut broken = symbol.clone();
+                broken[nul] = 0;
+                let bytes = block(width, &[symbol.clone(), broken]);
+                let told = Block::read(2, &bytes, None, &mut Tables::default()).expect_err("a refusal");
+                let wanted = (41, Some(108 + width));
+                assert_eq!((told.number(), told.place()), wanted, "width {width}, {count} letters, a NUL at {nul}");
+            }
+        }
     }
 }

@@ -1,4 +1,4 @@
--- The header of a block that has its 100 bytes: what it holds, and which of 20 to 23 comes first. Assumes nothing.
+-- The header of a block that has its 100 bytes: what it holds, and which of 20, 29 and 21 to 23 comes first. Assumes nothing.
 use Prim.Native.Nat.{ℕ, _+_, _-_, _≤_}
 use native.Mathlib.Nat.{zero-add}
 use native.Mathlib.Omega.{arith}
@@ -11,6 +11,9 @@ use Rattle.refusal.specs.declared.Refusal.{Refusal}
 use Rattle.codec.specs.CaseLaws.{by-bool}
 use Rattle.codec.specs.StepLaws.{raw-got, num-got, byte-got}
 use Rattle.text.specs.Utf8.{utf8}
+use Rattle.padded_text.specs.Padded.{nulPadded}
+use Rattle.padded_text.specs.Answer.{paddedOf}
+use Rattle.padded_text.specs.declared.Padded.{Padded}
 use Rattle.text.specs.Trim.{trimmedLen}
 use Rattle.block.specs.Block.{Header, header, isSchema, isStype, isStypeIn, widthOf}
 use Rattle.block.specs.Parts.{Fixed, OfHeader, refusalOf}
@@ -22,9 +25,9 @@ use Rattle.block.specs.declared.Optional.{Optional}
 pub was : (p : ℕ → Bool) {x y : ℕ} {r t : Bool} → x ≡ y → r ≡ p x → r ≡ t → p y ≡ t
 was p e f g = ap p (sym e) ∙ sym f ∙ g
 
--- a test of the first d bytes
-pub was-text : (d : ℕ) (b : List ℕ) {r t : Bool} → r ≡ utf8 (take (d - 0) (drop 0 b)) → r ≡ t → utf8 (take d (drop 0 b)) ≡ t
-was-text d b f g = let z : d - 0 ≡ d = omega arith in (rw z at (sym f)) ∙ g
+-- what is told of the first d bytes
+pub was-text : (d : ℕ) (b : List ℕ) {r t : Padded} → r ≡ paddedOf (take (d - 0) (drop 0 b)) → r ≡ t → t ≡ paddedOf (take d (drop 0 b))
+was-text d b f g = let z : d - 0 ≡ d = omega arith in sym g ∙ (rw z at f)
 
 module _ (b : List ℕ) where
   raw-to : (k n i m : ℕ) → i + n ≡ m → m ≤ length b → raw k n .parse 0 b i ≡ ok (take n (drop i b)) m
@@ -59,6 +62,7 @@ headerAt v b =
 abbrev tests : ℕ → ℕ → Header → Res Header
 tests d at h =
     need (utf8 (h .dataset)) 20 0 >>= λ _ _.
+    need (nulPadded (h .dataset)) 29 0 >>= λ _ _.
     need (isSchema (h .schema)) 21 d >>= λ _ _.
     need (isStypeIn (h .stypeIn)) 22 at >>= λ _ _.
     need (isStype (h .stypeOut)) 23 (at + 1) >>= λ _ _.
@@ -76,7 +80,9 @@ module _ (v : MetadataLengths) (b : List ℕ) (f : Fixed v b) where
       let h : Header = headerAt v b in
       rw (raw-to b 13 d 0 d (zero-add d) (omega arith))
       (by-bool (utf8 (h .dataset))
-      (λ e1. rw (e1, num-to b 13 2 d (d + 2) refl (omega arith))
+      (λ e1. rw e1
+      (by-bool (nulPadded (h .dataset))
+      (λ e0. rw (e0, num-to b 13 2 d (d + 2) refl (omega arith))
       (by-bool (isSchema (h .schema))
       (λ e2. rw (
         e2,
@@ -98,6 +104,7 @@ module _ (v : MetadataLengths) (b : List ℕ) (f : Fixed v b) where
       (λ e4. rw e4)))
       (λ e3. rw e3)))
       (λ e2. rw e2)))
+      (λ e0. rw e0)))
       (λ e1. rw e1))
 
 -- the number of a refusal, in both words
@@ -118,42 +125,58 @@ module _ (v : MetadataLengths) (b : List ℕ) (f : Fixed v b) where
   At = v .«dataset_cstr_len» + 26 + v .«record_count_len»
 
   pub fault-20 : utf8 (H .dataset) ≡ false → refusal 20 0 ≡ refusalOf (header v .codec .parse 0 b 0)
-  fault-20 e1 = rw (header-is v b f, e1)
+  fault-20 e = rw (header-is v b f, e)
 
-  pub fault-21 : utf8 (H .dataset) ≡ true → isSchema (H .schema) ≡ false → refusal 21 D ≡ refusalOf (header v .codec .parse 0 b 0)
-  fault-21 e1 e2 = rw (header-is v b f, e1, e2)
+  pub fault-29 : (utf8 (H .dataset) ≡ true) × (nulPadded (H .dataset) ≡ false) → refusal 29 0 ≡ refusalOf (header v .codec .parse 0 b 0)
+  fault-29 (e, e1) = rw (header-is v b f, e, e1)
 
-  pub fault-22 : utf8 (H .dataset) ≡ true → isSchema (H .schema) ≡ true → isStypeIn (H .stypeIn) ≡ false → refusal 22 At ≡ refusalOf (header v .codec .parse 0 b 0)
-  fault-22 e1 e2 e3 = rw (header-is v b f, e1, e2, e3)
+  -- the dataset passed
+  module _ (t : (utf8 (H .dataset) ≡ true) × (nulPadded (H .dataset) ≡ true)) where
+    pub fault-21 : isSchema (H .schema) ≡ false → refusal 21 D ≡ refusalOf (header v .codec .parse 0 b 0)
+    fault-21 e2 = rw (header-is v b f, t .0, t .1, e2)
 
-  pub fault-23 : utf8 (H .dataset) ≡ true → isSchema (H .schema) ≡ true → isStypeIn (H .stypeIn) ≡ true → isStype (H .stypeOut) ≡ false → refusal 23 (At + 1) ≡ refusalOf (header v .codec .parse 0 b 0)
-  fault-23 e1 e2 e3 e4 = rw (header-is v b f, e1, e2, e3, e4)
+    pub fault-22 : isSchema (H .schema) ≡ true → isStypeIn (H .stypeIn) ≡ false → refusal 22 At ≡ refusalOf (header v .codec .parse 0 b 0)
+    fault-22 e2 e3 = rw (header-is v b f, t .0, t .1, e2, e3)
 
-  pub fault-0 : utf8 (H .dataset) ≡ true → isSchema (H .schema) ≡ true → isStypeIn (H .stypeIn) ≡ true → isStype (H .stypeOut) ≡ true → refusal 0 0 ≡ refusalOf (header v .codec .parse 0 b 0)
-  fault-0 e1 e2 e3 e4 = rw (header-is v b f, e1, e2, e3, e4)
+    pub fault-23 : isSchema (H .schema) ≡ true → isStypeIn (H .stypeIn) ≡ true → isStype (H .stypeOut) ≡ false → refusal 23 (At + 1) ≡ refusalOf (header v .codec .parse 0 b 0)
+    fault-23 e2 e3 e4 = rw (header-is v b f, t .0, t .1, e2, e3, e4)
 
-  -- the tests give the header that stands there, or a refusal that is not 0
-  tests-ok : (a c d e : Bool) → 0 ≡ faultOf (need a 20 0 >>= λ _ _. need c 21 D >>= λ _ _. need d 22 At >>= λ _ _. need e 23 (At + 1) >>= λ _ _. ok H 100)
-      → (need a 20 0 >>= λ _ _. need c 21 D >>= λ _ _. need d 22 At >>= λ _ _. need e 23 (At + 1) >>= λ _ _. ok H 100) ≡ ok H 100
-  tests-ok true true true true z = refl
-  tests-ok true true true false z = absurd (omega arith)
-  tests-ok true true false e z = absurd (omega arith)
-  tests-ok true false d e z = absurd (omega arith)
-  tests-ok false c d e z = absurd (omega arith)
+    pub fault-0 : isSchema (H .schema) ≡ true → isStypeIn (H .stypeIn) ≡ true → isStype (H .stypeOut) ≡ true → refusal 0 0 ≡ refusalOf (header v .codec .parse 0 b 0)
+    fault-0 e2 e3 e4 = rw (header-is v b f, t .0, t .1, e2, e3, e4)
+
+  -- the tests by what each tells
+  tried : Bool → Bool → Bool → Bool → Bool → Res Header
+  tried a n c d e = need a 20 0 >>= λ _ _. need n 29 0 >>= λ _ _. need c 21 D >>= λ _ _. need d 22 At >>= λ _ _. need e 23 (At + 1) >>= λ _ _. ok H 100
+
+  header-tried : header v .codec .parse 0 b 0 ≡ tried (utf8 (H .dataset)) (nulPadded (H .dataset)) (isSchema (H .schema)) (isStypeIn (H .stypeIn)) (isStype (H .stypeOut))
+  unfolding tried
+  header-tried = header-is v b f
+
+  -- they give the header that stands there, or a refusal that is not 0
+  tests-ok : (a n c d e : Bool) → 0 ≡ faultOf (tried a n c d e) → tried a n c d e ≡ ok H 100
+  unfolding tried
+  tests-ok true true true true true z = refl
+  tests-ok true true true true false z = absurd (omega arith)
+  tests-ok true true true false e z = absurd (omega arith)
+  tests-ok true true false d e z = absurd (omega arith)
+  tests-ok true false c d e z = absurd (omega arith)
+  tests-ok false n c d e z = absurd (omega arith)
 
   pub header-got : 0 ≡ faultOf (header v .codec .parse 0 b 0) → header v .codec .parse 0 b 0 ≡ ok H 100
-  header-got z = header-is v b f ∙ tests-ok (utf8 (H .dataset)) (isSchema (H .schema)) (isStypeIn (H .stypeIn)) (isStype (H .stypeOut)) (z ∙ ap faultOf (header-is v b f))
+  header-got z = header-tried ∙ tests-ok _ _ _ _ _ (z ∙ ap faultOf header-tried)
 
-  tests-only : (a c d e : Bool) (h : Header) (j : ℕ) → (need a 20 0 >>= λ _ _. need c 21 D >>= λ _ _. need d 22 At >>= λ _ _. need e 23 (At + 1) >>= λ _ _. ok H 100) ≡ ok h j → H ≡ h
-  tests-only true true true true h j q = cc
-  tests-only true true true false h j q = absurd (let z : _≡_ {A = ℕ} 0 1 = cc in omega arith)
-  tests-only true true false e h j q = absurd (let z : _≡_ {A = ℕ} 0 1 = cc in omega arith)
-  tests-only true false d e h j q = absurd (let z : _≡_ {A = ℕ} 0 1 = cc in omega arith)
-  tests-only false c d e h j q = absurd (let z : _≡_ {A = ℕ} 0 1 = cc in omega arith)
+  tests-only : (a n c d e : Bool) (h : Header) (j : ℕ) → tried a n c d e ≡ ok h j → H ≡ h
+  unfolding tried
+  tests-only true true true true true h j q = cc
+  tests-only true true true true false h j q = absurd (let z : _≡_ {A = ℕ} 0 1 = cc in omega arith)
+  tests-only true true true false e h j q = absurd (let z : _≡_ {A = ℕ} 0 1 = cc in omega arith)
+  tests-only true true false d e h j q = absurd (let z : _≡_ {A = ℕ} 0 1 = cc in omega arith)
+  tests-only true false c d e h j q = absurd (let z : _≡_ {A = ℕ} 0 1 = cc in omega arith)
+  tests-only false n c d e h j q = absurd (let z : _≡_ {A = ℕ} 0 1 = cc in omega arith)
 
   -- so what holds of what stands there holds of the header
   pub of-header : (P : Header → Type 0) → P H → OfHeader v b P
-  of-header P p h j q = subst P (tests-only (utf8 (H .dataset)) (isSchema (H .schema)) (isStypeIn (H .stypeIn)) (isStype (H .stypeOut)) h j (sym (header-is v b f) ∙ q)) p
+  of-header P p h j q = subst P (tests-only _ _ _ _ _ h j (sym header-tried ∙ q)) p
 
   -- the fields, one by one
   pub fields-are : {a w st : ℕ} {sc en li si : Optional} (version m n : ℕ) → a ≡ trimmedLen (take (v .«dataset_cstr_len» - 0) (drop 0 b)) → sc ≡ schemaOf (H .schema) → st ≡ H .start

@@ -19,6 +19,7 @@ use Rattle.codec.specs.Codec.{Res, ok, refuse, refusal, moved, shifted, _>>=_, 
 use Rattle.codec.specs.Laws.{bind-ok, need-ok}
 use Rattle.codec.specs.StepLaws.{raw-got, raw-bad, num-got, num-bad}
 use Rattle.text.specs.Utf8.{utf8}
+use Rattle.padded_text.specs.Padded.{nulPadded}
 use Rattle.dates.specs.Date.{isDate}
 use Rattle.layout.specs.Layout.{Layout, Parts, parts, toLayout, fromLayout}
 use Rattle.layout.specs.LayoutOf.{D, layoutOf}
@@ -302,7 +303,7 @@ module _ (sheet : List ℕ) (width : ℕ) (b : List ℕ) where
 module _ (width : ℕ) (b : List ℕ) (at : ℕ) where
   pub symbology-cut : (has : Bool) {write : Bool} {t : List ℕ} {k : Refusal} → sectionAt has b at ≡ Span'.Refused k → SymbologyReads has write width b at t t (SectionAnswer'.Refused k)
   unfolding symbologyPart full
-  symbology-cut true {k = k} e = record { part = refuse k; end = λ j. j; is = rw (boxed-cut 27 27 45 0 zero-le (λ p. p) (symbology utf8 isDate width .codec .each) (symbology utf8 isDate width .codec) b at e); fives = refused-promise }
+  symbology-cut true {k = k} e = record { part = refuse k; end = λ j. j; is = rw (boxed-cut 27 27 45 0 zero-le (λ p. p) (symbology utf8 nulPadded isDate width .codec .each) (symbology utf8 nulPadded isDate width .codec) b at e); fives = refused-promise }
   symbology-cut false e = absurd (let z : _≡_ {A = ℕ} 0 1 = cc in omega arith)
 
   module _ (small : length b ≤ 4294967295) where
@@ -311,8 +312,8 @@ module _ (width : ℕ) (b : List ℕ) (at : ℕ) where
     symbology-section {p} {n} s h =
         let part : List ℕ = take n (drop p b) in
         let l : length part ≡ n = simp (length-take, length-drop) (omega arith) in
-        rw (boxed-read 27 27 45 0 zero-le (λ p. p) (symbology utf8 isDate width .codec .each) (symbology utf8 isDate width .codec) b at s zero-le, zero-add p, section-parse width p part (omega arith))
-        (go part l (symbology utf8 isDate width .codec .parse p part 0))
+        rw (boxed-read 27 27 45 0 zero-le (λ p. p) (symbology utf8 nulPadded isDate width .codec .each) (symbology utf8 nulPadded isDate width .codec) b at s zero-le, zero-add p, section-parse width p part (omega arith))
+        (go part l (symbology utf8 nulPadded isDate width .codec .parse p part 0))
       where
         by : (x : Symbology) (j : ℕ) (rest : List ℕ) → length rest ≡ n - j → (need (isNil rest) 28 (p + n - length rest) >>= λ _ _. ok x (p + n)) ≡ (shifted p (need (isNil rest) 28 j >>= λ _ _. ok x j) >>= λ x _. ok x (p + n))
         by x j [] e = refl

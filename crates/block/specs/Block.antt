@@ -8,8 +8,9 @@ use lib.ListN.{length}
 use lib.Dec.{leb, eqb}
 use Rattle.codec.specs.Codec
 use Rattle.codec.specs.Codec.{Res, _>>=_, need, whole, isNil}
-use Rattle.codec.specs.Format.{Format, raw, num, skip, rawTest, numTest, _then_, on, named, checked, judged, sized, apart, spanned, remainder}
+use Rattle.codec.specs.Format.{Format, raw, num, skip, rawTests, numTest, _then_, on, named, checked, judged, sized, apart, spanned, remainder}
 use Rattle.text.specs.Utf8.{utf8}
+use Rattle.padded_text.specs.Padded.{nulPadded}
 use Rattle.dates.specs.Date.{isDate}
 use Rattle.prelude.specs.Prelude.{isVersion}
 use Rattle.layout.specs.Layout.{Layout, Parts, parts, toLayout, fromLayout}
@@ -84,7 +85,7 @@ fromHeader h = (h .dataset, (h .schema, (h .start, (h .end, (h .limit, (h .count
 
 unfoldable pub header : MetadataLengths → Format Header false
 header v = named toHeader fromHeader (λ x. refl)
-    (rawTest utf8 20 13 (v .«dataset_cstr_len»)  -- dataset text
+    (rawTests utf8 20 nulPadded 29 13 (v .«dataset_cstr_len»)  -- dataset text
     then numTest isSchema 21 13 2  -- schema u16
     then num 13 8  -- start
     then num 13 8  -- end
@@ -140,8 +141,8 @@ layoutPart false sheet width = named noItems (λ l. l .rest) (λ x. refl) (check
 -- version 4: u32 symbology length (27 where it is missing) and that many bytes, 45 where they run past the end, 28 where the contents do not span them;
 -- below: the rest
 unfoldable pub symbologyPart : Bool → ℕ → Format Symbology false
-symbologyPart true width = spanned unspanned 27 45 4 (symbology utf8 isDate width)
-symbologyPart false width = remainder (symbology utf8 isDate width)
+symbologyPart true width = spanned unspanned 27 45 4 (symbology utf8 nulPadded isDate width)
+symbologyPart false width = remainder (symbology utf8 nulPadded isDate width)
 
 abbrev pub toBlock : Header × (Layout × Symbology) → Block
 toBlock z = record { header = z .0; layout = z .1 .0; symbology = z .1 .1 }

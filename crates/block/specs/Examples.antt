@@ -4,7 +4,7 @@ use mathlib.Core.Bool.{false}
 use mathlib.Core.Path.{_≡_, refl}
 use mathlib.Core.List.{List, [], _∷_, _++_}
 use lib.ListN.{replicate}
-use Rattle.codec.specs.Codec.{ok, raw, skip, num, _then_, _on_, named, checked, placed, sized, limited, asks, whole, remainder}
+use Rattle.codec.specs.Codec.{ok, refuse, refusal, raw, skip, num, _then_, _on_, named, checked, placed, sized, limited, asks, whole, remainder}
 use Rattle.text.specs.Utf8.{utf8}
 use Rattle.symbology.specs.Symbology.{symbol, date, list, interval, mapping, symbology}
 use Rattle.symbology.specs.SymbologyRows.{symbologyRows}
@@ -41,7 +41,12 @@ pub P10 : (sheet : List ℕ) → given 2 sheet (listed (69 ∷ 83 ∷ 0 ∷ []))
 unfolding blockOf lengths whole block _on_ header named _then_ checked raw skip num layoutPart sized symbologyPart remainder symbology list limited symbol placed date interval mapping asks symbologyRows rows fieldsOf fieldsWith utf8
 P10 sheet = refl
 
--- P11: an inner NUL is
-pub P11 : (sheet : List ℕ) → given 2 sheet (listed (69 ∷ 0 ∷ 83 ∷ [])) ≡ ok (zeroFields 3 1, ((0 ∷ 108 ∷ 3 ∷ 0 ∷ 0 ∷ []) ∷ [], [])) 123
+-- a symbol without a NUL has its whole width
+pub wide : (sheet : List ℕ) → given 2 sheet (listed (69 ∷ 83 ∷ 71 ∷ [])) ≡ ok (zeroFields 3 1, ((0 ∷ 108 ∷ 3 ∷ 0 ∷ 0 ∷ []) ∷ [], [])) 123
 unfolding blockOf lengths whole block _on_ header named _then_ checked raw skip num layoutPart sized symbologyPart remainder symbology list limited symbol placed date interval mapping asks symbologyRows rows fieldsOf fieldsWith utf8
+wide sheet = refl
+
+-- P11: after a NUL only NULs may follow
+pub P11 : (sheet : List ℕ) → blockOf 2 sheet (listed (69 ∷ 0 ∷ 83 ∷ [])) ≡ refuse (refusal 41 108)
+unfolding blockOf lengths whole block _on_ header named _then_ checked raw skip num layoutPart sized symbologyPart remainder symbology list limited symbol placed utf8
 P11 sheet = refl

@@ -7,3 +7,4 @@ pub mod RefusalLaws
 pub mod Single
 pub mod Examples
 pub mod SpanLaws
+pub mod NameLaws

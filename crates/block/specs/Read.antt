@@ -31,7 +31,7 @@ roomy b m n = leb (length (fives b)) (m / 5) && leb (length (nines b)) (n / 9)
 
 -- what refuses a block: its version, its size, its header, its sections, the symbology's contents, the layout's bytes, the rules
 abbrev pub blockNumbers : List ℕ
-blockNumbers = 11 ∷ 13 ∷ 20 ∷ 21 ∷ 22 ∷ 23 ∷ 24 ∷ 25 ∷ 26 ∷ 27 ∷ 28 ∷ 44 ∷ 45 ∷ (contentsNumbers ++ (wireNumbers ++ ruleNumbers))
+blockNumbers = 11 ∷ 13 ∷ 20 ∷ 21 ∷ 22 ∷ 23 ∷ 24 ∷ 25 ∷ 26 ∷ 27 ∷ 28 ∷ 29 ∷ 44 ∷ 45 ∷ (contentsNumbers ++ (wireNumbers ++ ruleNumbers))
 
 -- refused; or all is accepted and the tables are long enough; or 3, with the rows needed of both
 unfoldable pub answerOf : MetadataLengths → Res (Block × List ℕ) → ℕ → ℕ → BlockAnswer

@@ -7,6 +7,7 @@ use mathlib.Core.List.{List, _++_}
 use lib.ListN.{length, drop, length-append, length-drop}
 use lib.Seq.{drop-append-seam}
 use borrow.Author.Tests.{leb-true, le-leb}
+use Rattle.refusal.specs.declared.Refusal.{Refusal}
 use Rattle.codec.specs.Codec.{Res, ok, refuse, _>>=_}
 use Rattle.codec.specs.CaseLaws.{both-true}
 use Rattle.table.specs.Table.{flat}
@@ -17,7 +18,7 @@ use Rattle.block.specs.Fields.{fieldsOf}
 use Rattle.block.specs.declared.MetadataLengths.{MetadataLengths}
 use Rattle.block.specs.declared.Fields.{Fields}
 use Rattle.block.specs.declared.BlockAnswer.{BlockAnswer}
-use Rattle.block.specs.declared.BlockAnswer.the-variants.{Read}
+use Rattle.block.specs.declared.BlockAnswer.the-variants.{Read, Refused}
 use Rattle.block.specs.Read.{fives, nines, roomy, answerOf, over, symbologyAfter, layoutAfter, blockAnswer, blockSymbology, blockLayout, Promise}
 
 -- ---- tables that are long enough
@@ -65,6 +66,11 @@ read-given v b t s l f five nine k e hs hl = go (blockOf v t b) refl e
           symbology = sym (h .symbology ∙ ap (λ (rs : List (List ℕ)). over rs 5 s) e5);
           layout = sym (h .layout ∙ ap (λ (rs : List (List ℕ)). over rs 9 l) e9);
         }
+
+-- a refused block leaves both tables
+pub refused-given : (v : ℕ) (b t s l : List ℕ) {k : Refusal} → blockOf v t b ≡ refuse k → Promise v b t s l (Refused k) s l
+unfolding blockAnswer blockSymbology blockLayout answerOf symbologyAfter layoutAfter
+refused-given v b t s l e = record { answer = rw e; symbology = rw e; layout = rw e }
 
 -- ---- reading it again
 

@@ -14,6 +14,7 @@ use Rattle.codec.specs.Refusals.{Gives, In, Within}
 use Rattle.codec.specs.PlaceLaws.{within-is, within-test, within-whole}
 use Rattle.codec.specs.RefusalLaws.{in-more, gives-is, gives-test, gives-whole}
 use Rattle.text.specs.Utf8.{utf8}
+use Rattle.padded_text.specs.Padded.{nulPadded}
 use Rattle.dates.specs.Date.{isDate}
 use Rattle.prelude.specs.Prelude.{isVersion}
 use Rattle.layout.specs.LayoutOf.{D}
@@ -35,7 +36,7 @@ P = In blockNumbers
 header-numbers : (v : MetadataLengths) → header v .numbers P
 unfolding header
 header-numbers v =
-    ((refl, refl), ((refl, refl), (refl, (refl, (refl, (refl, ((refl, refl), ((refl, refl), (refl, (refl, refl))))))))))
+    (((refl, refl), refl), ((refl, refl), (refl, (refl, (refl, (refl, ((refl, refl), ((refl, refl), (refl, (refl, refl))))))))))
 
 layout-numbers : (has : Bool) (sheet : List ℕ) (width : ℕ) → layoutPart has sheet width .numbers P
 unfolding layoutPart
@@ -45,8 +46,8 @@ layout-numbers false sheet width = ((refl, λ n. refl), refl)
 
 section-numbers : (has : Bool) (width : ℕ) → symbologyPart has width .numbers P
 unfolding symbologyPart
-section-numbers true width = (symbology-numbers P (in-more contentsNumbers blockNumbers refl) utf8 isDate width, (refl, (refl, refl)))
-section-numbers false width = symbology-numbers P (in-more contentsNumbers blockNumbers refl) utf8 isDate width
+section-numbers true width = (symbology-numbers P (in-more contentsNumbers blockNumbers refl) utf8 nulPadded isDate width, (refl, (refl, refl)))
+section-numbers false width = symbology-numbers P (in-more contentsNumbers blockNumbers refl) utf8 nulPadded isDate width
 
 block-numbers : (sheet : List ℕ) (v : MetadataLengths) → block sheet v .numbers P
 unfolding block

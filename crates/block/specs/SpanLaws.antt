@@ -10,6 +10,7 @@ use borrow.Author.Tests.{ne-eqb}
 use Rattle.codec.specs.Codec.{ok, Bytes, named, full, boxed, remainder, _then_, _on_, whole}
 use Rattle.codec.specs.Laws.{need-ok, whole-back}
 use Rattle.text.specs.Utf8.{utf8}
+use Rattle.padded_text.specs.Padded.{nulPadded}
 use Rattle.dates.specs.Date.{isDate}
 use Rattle.prelude.specs.Prelude.{isVersion}
 use Rattle.table.specs.EachLaws.{Each, RowInside, PartInside, part-inside}
@@ -23,13 +24,13 @@ use Rattle.block.specs.Read.{fives, nines}
 use Rattle.block.specs.declared.MetadataLengths.{MetadataLengths}
 
 -- the symbology's section has the places of its contents
-part-each : (p : Bool) (w : ℕ) (P : ℕ → List ℕ → Type 0) (t : Symbology) → symbologyPart p w .codec .each P t → symbology utf8 isDate w .codec .each P t
+part-each : (p : Bool) (w : ℕ) (P : ℕ → List ℕ → Type 0) (t : Symbology) → symbologyPart p w .codec .each P t → symbology utf8 nulPadded isDate w .codec .each P t
 unfolding symbologyPart full boxed remainder
 part-each true w P t e = e
 part-each false w P t e = e
 
 -- what holds of every place of a block holds of the places of its symbology
-pub symbology-each : (sheet : List ℕ) (v : MetadataLengths) (P : ℕ → List ℕ → Type 0) (x : Block) → block sheet v .codec .each P x → symbology utf8 isDate (widthOf v (x .header)) .codec .each P (x .symbology)
+pub symbology-each : (sheet : List ℕ) (v : MetadataLengths) (P : ℕ → List ℕ → Type 0) (x : Block) → block sheet v .codec .each P x → symbology utf8 nulPadded isDate (widthOf v (x .header)) .codec .each P (x .symbology)
 unfolding block named _on_ _then_
 symbology-each sheet v P x e = part-each (v .«has_layout») (widthOf v (x .header)) P (x .symbology) (e .1 .1)
 
@@ -49,7 +50,7 @@ fives-lie version sheet b z k bs e =
     let w = whole-back (F .codec) (F .law) 0 b z k bs (block-whole version sheet b z k e) in
     let h : F .codec .each (PartInside (length b)) (F .codec .locate 0 (z .0)) =
     F .law .spotted (PartInside (length b)) 0 (z .0) (λ n u q. subst (λ a. PartInside (length a) (0 + n) u) (sym (w .bytes)) (part-inside (z .1) q)) in
-    symbology-lies utf8 isDate (widthOf v (z .0 .header)) (length b) (z .0 .symbology)
+    symbology-lies utf8 nulPadded isDate (widthOf v (z .0 .header)) (length b) (z .0 .symbology)
     (symbology-each sheet v (PartInside (length b)) (z .0) (subst (F .codec .each (PartInside (length b))) (w .located) h))
 
 -- the layout's part of a version without a layout has no rows

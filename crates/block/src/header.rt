@@ -2,6 +2,7 @@
 use super::Fields;
 use super::MetadataLengths;
 use super::Optional;
+use padded_text::Padded;
 use refusal::Refusal;
 ghost use mathlib.Core.Path.{_≡_};
 ghost use Prim.Native.Nat.{_+_, _≤_, _<_};
@@ -17,21 +18,22 @@ pub(crate) fn check_header(block: &[u8], v: MetadataLengths) -> Refusal
     ensures { λ r. ⌜ r ≡ refusalOf (header v .codec .parse 0 (now (block .entry)) 0) ⌝ }
 {
     let end = v.dataset_cstr_len;
-    let dataset = &block[0..end];
-    if text::is_utf8(dataset) {
-        if is_schema(half(block, end)) {
-            let at = end + 26 + v.record_count_len;
-            if is_stype_in(block[at]) {
-                if is_stype(block[at + 1]) {
-                    return refused(0, 0);
-                }
-                return refused(refusal::STYPE_OUT, at + 1);
-            }
-            return refused(refusal::STYPE_IN, at);
-        }
+    match padded_text::check_padded(&block[0..end]) {
+        Padded::Fine => {}
+        Padded::NotUtf8 => return refused(refusal::DATASET_NOT_UTF8, 0),
+        Padded::AfterNul => return refused(refusal::DATASET_AFTER_NUL, 0),
+    }
+    if !is_schema(half(block, end)) {
         return refused(refusal::SCHEMA, end);
     }
-    refused(refusal::DATASET_NOT_UTF8, 0)
+    let at = end + 26 + v.record_count_len;
+    if !is_stype_in(block[at]) {
+        return refused(refusal::STYPE_IN, at);
+    }
+    if !is_stype(block[at + 1]) {
+        return refused(refusal::STYPE_OUT, at + 1);
+    }
+    refused(0, 0)
 }
 
 // The refusal by a number at a place.

@@ -151,6 +151,14 @@ raw-blind test k n x = refl
 abbrev pub rawTest : {e : Bool} → (List ℕ → Bool) → ℕ → ℕ → ℕ → Format (List ℕ) e
 rawTest test k′ k n = checked test k′ (raw k n) (raw-blind test k n)
 
+-- n bytes that pass a test, or k′, and then another, or k″; k where they run past the end
+pub test-blind : (test test′ : List ℕ → Bool) (k′ k n : ℕ) (x : List ℕ) → test′ (Codec.checked test k′ (Codec.raw k n) .bare x) ≡ test′ x
+unfolding Codec.checked Codec.raw
+test-blind test test′ k′ k n x = refl
+
+abbrev pub rawTests : {e : Bool} → (List ℕ → Bool) → ℕ → (List ℕ → Bool) → ℕ → ℕ → ℕ → Format (List ℕ) e
+rawTests test k′ test′ k″ k n = checked test′ k″ (rawTest test k′ k n) (test-blind test test′ k′ k n)
+
 -- a number of w bytes that passes a test, or k′; k where they run past the end
 pub num-blind : (test : ℕ → Bool) (k w x : ℕ) → test (Codec.num k w .bare x) ≡ test x
 unfolding Codec.num

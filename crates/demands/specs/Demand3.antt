@@ -12,6 +12,7 @@ use Rattle.codec.specs.Codec.{ok, Bytes, raw, skip, num, named, checked, judged
 use Rattle.codec.specs.Laws.{whole-reads}
 use Rattle.codec.specs.Edits.{Marked, bytesOf, Edit, put}
 use Rattle.text.specs.Utf8.{utf8}
+use Rattle.padded_text.specs.Padded.{nulPadded}
 use Rattle.dates.specs.Date.{isDate}
 use Rattle.layout.specs.LayoutOf.{D}
 use Rattle.layout.specs.Layout.{parts, toLayout, bareLayout}
@@ -123,8 +124,8 @@ module _ (sheet : List ℕ) where
           layout = f9;
           names =
               ap (λ v. map (rowText v) (fives z)) q ∙ fives-texts sheet y r′
-              ∙ ap symbologyTexts (section-moved sheet x y (put e) legal ly same d) ∙ symbology-located utf8 isDate (width sheet x) (section sheet y + 4) (x .symbology)
-              ∙ sym (symbology-located utf8 isDate (width sheet x) (section sheet x + 4) (x .symbology)) ∙ ap symbologyTexts (sym (section-stays sheet x))
+              ∙ ap symbologyTexts (section-moved sheet x y (put e) legal ly same d) ∙ symbology-located utf8 nulPadded isDate (width sheet x) (section sheet y + 4) (x .symbology)
+              ∙ sym (symbology-located utf8 nulPadded isDate (width sheet x) (section sheet x + 4) (x .symbology)) ∙ ap symbologyTexts (sym (section-stays sheet x))
               ∙ sym (fives-texts sheet x r) ∙ ap₂ (λ v u. map (rowText v) (fives u)) (sym bytes) at;
           layoutNames =
               ap (λ v. map (rowText (layoutIn sheet v)) (nines z)) q ∙ nines-texts sheet y r′ ly (rest-bytes sheet y ly)

@@ -13,12 +13,14 @@ use Rattle.codec.specs.Laws.{Law, Here, Whole, whole-back, left-part, part-take
 use Rattle.codec.specs.Edits.{Marked, kept, _and_, bytesOf, Edit, put}
 use Rattle.codec.specs.EditLaws.{Inside, inside, put-all, put-kept, edits-kept, edits-then, edits-on, edits-named, edits-judged, edits-asks, edits-apart}
 use Rattle.text.specs.Utf8.{utf8}
+use Rattle.padded_text.specs.Padded.{nulPadded}
 use Rattle.dates.specs.Date.{isDate}
 use Rattle.layout.specs.LayoutOf.{D}
 use Rattle.layout.specs.Layout.{parts, toLayout, fromLayout, printLayout, locateLayout, bareLayout, LegalLayout}
 use Rattle.layout.specs.LayoutLaws.{parse-print, layout-octets}
 use Rattle.layout.specs.TextLaws.{rowText, texts, texts-bare, row-texts}
 use Rattle.layout.specs.Rows.{rows}
+use Rattle.symbology.specs.NameLaws.{Stands}
 use Rattle.symbology.specs.Symbology.{Symbology, symbology}
 use Rattle.symbology.specs.SymbologyRows.{symbologyRows}
 use Rattle.table.specs.EachLaws.{Each, RowInside}
@@ -27,7 +29,7 @@ use Rattle.block.specs.SpanLaws.{block-whole}
 use Rattle.block.specs.Block.{Header, Block, v4, lengths, header, widthOf, layoutPart, symbologyPart, block, blockOf}
 use Rattle.block.specs.Read.{fives, nines}
 use Rattle.demands.specs.LayoutRows.{moveRow, rows-move}
-use Rattle.demands.specs.SymbologyRows.{Shift, symbology-shift, Stands, symbologyTexts, symbology-texts}
+use Rattle.demands.specs.SymbologyRows.{Shift, symbology-shift, symbologyTexts, symbology-texts}
 
 -- the same bytes at the same place are the same value
 pub same-bytes : {A : Type 0} (c : Codec A) → Law c → (p : ℕ) (x y : A) → c .legal x → c .legal y → c .print x ≡ c .print y → c .locate p x ≡ c .locate p y
@@ -68,7 +70,7 @@ module _ (sheet : List ℕ) where
   unfolding block named _on_ _then_ layoutPart judged boxed
   layout-legal x lg = lg .1 .0 .0 .0
 
-  pub symbology-legal : (x : Block) → B4 .legal x → symbology utf8 isDate (width x) .codec .legal (x .symbology)
+  pub symbology-legal : (x : Block) → B4 .legal x → symbology utf8 nulPadded isDate (width x) .codec .legal (x .symbology)
   unfolding block named _on_ _then_ symbologyPart full boxed
   symbology-legal x lg = lg .1 .1 .0
 
@@ -99,7 +101,7 @@ module _ (sheet : List ℕ) where
   symbology-at x = ap (λ n. symbologyPart true (width x) .codec .locate (n + length (layoutPart true sheet (width x) .codec .print (x .layout))) (x .symbology)) (zero-add (length (header v4 .codec .print (x .header))))
 
   -- its contents come after the four bytes of its length
-  contents-at : (w p : ℕ) (t : Symbology) → symbologyPart true w .codec .locate p t ≡ symbology utf8 isDate w .codec .locate (p + 4) t
+  contents-at : (w p : ℕ) (t : Symbology) → symbologyPart true w .codec .locate p t ≡ symbology utf8 nulPadded isDate w .codec .locate (p + 4) t
   unfolding symbologyPart full boxed
   contents-at w p t = refl
 
@@ -158,7 +160,7 @@ module _ (sheet : List ℕ) where
 
   -- the symbology of the edited block is the same, with other places
   pub section-moved : (x y : Block) (before : ℕ → ℕ) → B4 .legal x → B4 .legal y → B4 .bare y ≡ B4 .bare x → Parted x y before
-      → B4 .locate 0 y .symbology ≡ symbology utf8 isDate (width x) .codec .locate (section y + 4) (x .symbology)
+      → B4 .locate 0 y .symbology ≡ symbology utf8 nulPadded isDate (width x) .codec .locate (section y + 4) (x .symbology)
   section-moved x y before lx ly same e =
       let w = width-bare x y same in
       let c : ℕ → Codec Symbology = λ n. symbologyPart true n .codec in
@@ -168,7 +170,7 @@ module _ (sheet : List ℕ) where
       ∙ same-bytes (c (width x)) (symbologyPart true (width x) .law) (section y) (y .symbology) (x .symbology) ly′ (section-legal x lx) pr
       ∙ contents-at (width x) (section y) (x .symbology)
 
-  pub section-stays : (x : Block) → B4 .locate 0 x .symbology ≡ symbology utf8 isDate (width x) .codec .locate (section x + 4) (x .symbology)
+  pub section-stays : (x : Block) → B4 .locate 0 x .symbology ≡ symbology utf8 nulPadded isDate (width x) .codec .locate (section x + 4) (x .symbology)
   section-stays x = symbology-at x ∙ contents-at (width x) (section x) (x .symbology)
 
   pub fives-move : (x y : Block) (before : ℕ → ℕ) → B4 .legal x → B4 .legal y → B4 .bare y ≡ B4 .bare x → Parted x y before
@@ -179,7 +181,7 @@ module _ (sheet : List ℕ) where
       let z : section x + 4 + n ≡ section x + (4 + n) = omega arith in
       omega (arith, ap before z, e .after (4 + n)) in
       ap symbologyRows (section-moved x y before lx ly same e)
-      ∙ symbology-shift utf8 isDate (width x) f (section x + 4) (section y + 4) (x .symbology) s
+      ∙ symbology-shift utf8 nulPadded isDate (width x) f (section x + 4) (section y + 4) (x .symbology) s
       ∙ ap (λ t. map (moveRow f) (symbologyRows t)) (sym (section-stays x))
 
   -- ---- the names
@@ -214,13 +216,13 @@ module _ (sheet : List ℕ) where
       ∙ texts-bare utf8 D (locateLayout utf8 D t)
       ∙ ap (λ v. texts (toLayout (v, []))) (parts utf8 D .law .still 0 (fromLayout t .0))
 
-  fives-each : (x : Block) (r : List ℕ) → symbology utf8 isDate (width x) .codec .each (Stands utf8 isDate (width x) (B4 .print x ++ r)) (B4 .locate 0 x .symbology)
+  fives-each : (x : Block) (r : List ℕ) → symbology utf8 nulPadded isDate (width x) .codec .each (Stands (B4 .print x ++ r)) (B4 .locate 0 x .symbology)
   unfolding block named _on_ _then_ symbologyPart full boxed header num
   fives-each x r =
-      block sheet v4 .law .spotted (Stands utf8 isDate (width x) (B4 .print x ++ r)) 0 x (λ n u q. rw zero-add (part-take (left-part r q))) .1 .1
+      block sheet v4 .law .spotted (Stands (B4 .print x ++ r)) 0 x (λ n u q. rw zero-add (part-take (left-part r q))) .1 .1
 
   pub fives-texts : (x : Block) (r : List ℕ) → map (rowText (B4 .print x ++ r)) (fives (B4 .locate 0 x)) ≡ symbologyTexts (B4 .locate 0 x .symbology)
-  fives-texts x r = symbology-texts utf8 isDate (width x) (B4 .print x ++ r) (B4 .locate 0 x .symbology) (fives-each x r)
+  fives-texts x r = symbology-texts utf8 nulPadded isDate (width x) (B4 .print x ++ r) (B4 .locate 0 x .symbology) (fives-each x r)
 
   -- ---- the rows' texts lie within the layout
 

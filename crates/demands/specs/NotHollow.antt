@@ -16,7 +16,7 @@ use Rattle.rules.specs.Rules.{rulesOf, seqsFault, structsFault, recordsFault}
 use Rattle.block.specs.Block.{Block, lengths, header, layoutPart, symbologyPart, block, blockOf}
 use Rattle.block.specs.Read.{fives, nines}
 use Rattle.block.specs.ReadLaws.{given}
-use Rattle.block.specs.Examples.{listed, P10, P11}
+use Rattle.block.specs.Examples.{listed, P10, wide}
 use Rattle.block.specs.declared.Fields.{Fields}
 
 -- the rows of what was read, or the refusal
@@ -51,11 +51,11 @@ accepts4 sheet = refl
 abbrev rowsGiven : Res (Fields × (List (List ℕ) × List (List ℕ))) → Res (List (List ℕ))
 rowsGiven r = r >>= λ z j. ok (z .1 .0) j
 
--- two blocks of version 2, each of one symbol, are told apart: 45 53 00 has two bytes, 45 00 53 has three
-pub rows-differ : (sheet : List ℕ) → given 2 sheet (listed (69 ∷ 83 ∷ 0 ∷ [])) ≡ given 2 sheet (listed (69 ∷ 0 ∷ 83 ∷ [])) → ⊥
+-- two blocks of version 2, each of one symbol, are told apart: 45 53 00 has two bytes, 45 53 47 has three
+pub rows-differ : (sheet : List ℕ) → given 2 sheet (listed (69 ∷ 83 ∷ 0 ∷ [])) ≡ given 2 sheet (listed (69 ∷ 83 ∷ 71 ∷ [])) → ⊥
 rows-differ sheet e =
     let q : _≡_ {A = Res (List (List ℕ))} (ok ((0 ∷ 108 ∷ 2 ∷ 0 ∷ 0 ∷ []) ∷ []) 123) (ok ((0 ∷ 108 ∷ 3 ∷ 0 ∷ 0 ∷ []) ∷ []) 123) =
-    ap rowsGiven (sym (P10 sheet) ∙ e ∙ P11 sheet) in
+    ap rowsGiven (sym (P10 sheet) ∙ e ∙ wide sheet) in
     let z : _≡_ {A = ℕ} 2 3 = cc in
     omega arith
 

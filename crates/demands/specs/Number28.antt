@@ -13,6 +13,7 @@ use borrow.Author.Tests.{le-leb}
 use Rattle.codec.specs.Codec.{ok, refuse, refusal, Bytes, little, raw, skip, num, named, checked, judged, whole, boxed, isNil, full, _then_, _on_}
 use Rattle.codec.specs.Laws.{Here, length-little, law-boxed}
 use Rattle.text.specs.Utf8.{utf8}
+use Rattle.padded_text.specs.Padded.{nulPadded}
 use Rattle.dates.specs.Date.{isDate}
 use Rattle.layout.specs.LayoutOf.{D}
 use Rattle.layout.specs.Layout.{printLayout}
@@ -26,17 +27,17 @@ isNil-some (x ∷ u) h = refl
 
 -- the symbology section of a block, with u added at its end and its length raised
 abbrev pub longer : ℕ → Symbology → List ℕ → List ℕ
-longer w t u = little 4 (0 + length (symbology utf8 isDate w .codec .print t ++ u)) ++ (symbology utf8 isDate w .codec .print t ++ u)
+longer w t u = little 4 (0 + length (symbology utf8 nulPadded isDate w .codec .print t ++ u)) ++ (symbology utf8 nulPadded isDate w .codec .print t ++ u)
 
-section28 : (w base : ℕ) (s : List ℕ) (i : ℕ) (t : Symbology) (u r : List ℕ) → symbology utf8 isDate w .codec .legal t → Bytes u → 0 < length u
-    → 0 + length (symbology utf8 isDate w .codec .print t ++ u) < 256 ^ 4 → Here s i (longer w t u) r → symbologyPart true w .codec .parse base s i ≡ refuse (refusal 28 (i + (4 + length (symbology utf8 isDate w .codec .print t))))
+section28 : (w base : ℕ) (s : List ℕ) (i : ℕ) (t : Symbology) (u r : List ℕ) → symbology utf8 nulPadded isDate w .codec .legal t → Bytes u → 0 < length u
+    → 0 + length (symbology utf8 nulPadded isDate w .codec .print t ++ u) < 256 ^ 4 → Here s i (longer w t u) r → symbologyPart true w .codec .parse base s i ≡ refuse (refusal 28 (i + (4 + length (symbology utf8 nulPadded isDate w .codec .print t))))
 unfolding symbologyPart full boxed
 section28 w base s i t u r lg bs some fit here =
-    let T : List ℕ = symbology utf8 isDate w .codec .print t in
+    let T : List ℕ = symbology utf8 nulPadded isDate w .codec .print t in
     let at : i + length (longer w t u) - length u ≡ i + (4 + length T) =
     omega (arith, length-append (little 4 (0 + length (T ++ u))) (T ++ u), length-little 4 (0 + length (T ++ u)), length-append T u) in
     rw (
-      law-boxed (symbology utf8 isDate w .codec) (symbology utf8 isDate w .law) 27 27 45 4 0 0 zero-le (λ x lg. zero-le) (λ p. p) (symbology utf8 isDate w .codec .each) (symbology utf8 isDate w .law .spotted) .reads base s i (t, u) r (lg, bs, fit) here,
+      law-boxed (symbology utf8 nulPadded isDate w .codec) (symbology utf8 nulPadded isDate w .law) 27 27 45 4 0 0 zero-le (λ x lg. zero-le) (λ p. p) (symbology utf8 nulPadded isDate w .codec .each) (symbology utf8 nulPadded isDate w .law .spotted) .reads base s i (t, u) r (lg, bs, fit) here,
       isNil-some u some,
     )
     (ap (λ (n : ℕ). refuse (refusal 28 n)) at)
@@ -58,9 +59,9 @@ module _ (sheet : List ℕ) (z : Block) where
 
   -- the place of the first added byte
   abbrev added : ℕ
-  added = 0 + length H + length L + (4 + length (symbology utf8 isDate (width sheet z) .codec .print (z .symbology)))
+  added = 0 + length H + length L + (4 + length (symbology utf8 nulPadded isDate (width sheet z) .codec .print (z .symbology)))
 
-  block28 : (u r : List ℕ) → B4 sheet .legal z → Bytes u → 0 < length u → 0 + length (symbology utf8 isDate (width sheet z) .codec .print (z .symbology) ++ u) < 256 ^ 4
+  block28 : (u r : List ℕ) → B4 sheet .legal z → Bytes u → 0 < length u → 0 + length (symbology utf8 nulPadded isDate (width sheet z) .codec .print (z .symbology) ++ u) < 256 ^ 4
       → B4 sheet .parse 0 (grown u r) 0 ≡ refuse (refusal 28 added)
   unfolding block named _on_ _then_
   block28 u r lg bs some fit =
@@ -79,7 +80,7 @@ module _ (sheet : List ℕ) (z : Block) where
         section28 (width sheet z) 0 s (0 + length H + length L) (z .symbology) u r (symbology-legal sheet z lg) bs some fit h3,
       )
 
-  whole28 : (u r : List ℕ) → B4 sheet .legal z → Bytes u → 0 < length u → 0 + length (symbology utf8 isDate (width sheet z) .codec .print (z .symbology) ++ u) < 256 ^ 4
+  whole28 : (u r : List ℕ) → B4 sheet .legal z → Bytes u → 0 < length u → 0 + length (symbology utf8 nulPadded isDate (width sheet z) .codec .print (z .symbology) ++ u) < 256 ^ 4
       → length (grown u r) ≤ 4294967295 → blockOf 4 sheet (grown u r) ≡ refuse (refusal 28 added)
   unfolding blockOf lengths whole
   whole28 u r lg bs some fit high =
@@ -113,7 +114,7 @@ layout-length sheet z = omega arith
 pub demand28 : (sheet b : List ℕ) (z : Block) (r : List ℕ) (k : ℕ) → Bytes b → blockOf 4 sheet b ≡ ok (z, r) k → Spanned sheet b r
 demand28 sheet b z r k bs read =
     let w = block-back sheet b (z, r) k bs read in
-    let T = symbology utf8 isDate (width sheet z) .codec .print (z .symbology) in
+    let T = symbology utf8 nulPadded isDate (width sheet z) .codec .print (z .symbology) in
     record {
       front = H sheet z ++ L sheet z;
       contents = T;

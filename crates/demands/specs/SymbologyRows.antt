@@ -14,6 +14,7 @@ use Rattle.text.specs.TrimLaws.{trimmed-le}
 use Rattle.table.specs.Table.{flat}
 use Rattle.layout.specs.TextLaws.{rowText}
 use Rattle.symbology.specs.Symbology.{Symbol, Interval, Mapping, Symbology, symbol, date, list, interval, mapping, symbology}
+use Rattle.symbology.specs.NameLaws.{Stands}
 use Rattle.symbology.specs.SymbologyRows.{symbolRow, intervalRow, mappingRows, listRow, symbologyRows}
 use Rattle.demands.specs.LayoutRows.{moveRow}
 
@@ -42,41 +43,41 @@ module _ {A : Type 0} (c : Codec A) (f : ℕ → ℕ) where
   length-locate p [] = refl
   length-locate p (x ∷ xs) = ap suc (length-locate _ xs)
 
-module _ (utf8 : List ℕ → Bool) (isDate : ℕ → Bool) (width : ℕ) (f : ℕ → ℕ) where
+module _ (utf8 nulPadded : List ℕ → Bool) (isDate : ℕ → Bool) (width : ℕ) (f : ℕ → ℕ) where
   start-at : (p q : ℕ) → Shift f p q → q ≡ f p
   start-at p q s = sym (ap f (omega arith) ∙ s 0 ∙ omega arith)
 
-  symbol-shift : (a b kind : ℕ) → eqb kind 11 ≡ false → (x y p q : ℕ) (s : Symbol) → Shift f p q
-      → symbolRow kind (symbol utf8 isDate width a b .codec .locate q s) x y ≡ moveRow f (symbolRow kind (symbol utf8 isDate width a b .codec .locate p s) x y)
+  symbol-shift : (a b d kind : ℕ) → eqb kind 11 ≡ false → (x y p q : ℕ) (s : Symbol) → Shift f p q
+      → symbolRow kind (symbol utf8 nulPadded isDate width a b d .codec .locate q s) x y ≡ moveRow f (symbolRow kind (symbol utf8 nulPadded isDate width a b d .codec .locate p s) x y)
   unfolding symbol named placed checked raw
-  symbol-shift a b kind other x y p q s h = rw (other, start-at p q h)
+  symbol-shift a b d kind other x y p q s h = rw (other, start-at p q h)
 
-  interval-shift : (p q : ℕ) (i : Interval) → Shift f p q → intervalRow (interval utf8 isDate width .codec .locate q i) ≡ moveRow f (intervalRow (interval utf8 isDate width .codec .locate p i))
+  interval-shift : (p q : ℕ) (i : Interval) → Shift f p q → intervalRow (interval utf8 nulPadded isDate width .codec .locate q i) ≡ moveRow f (intervalRow (interval utf8 nulPadded isDate width .codec .locate p i))
   unfolding interval named _then_ date checked num
-  interval-shift p q i h = symbol-shift 37 40 4 refl (i .from) (i .to) (p + 4 + 4) (q + 4 + 4) (i .symbol) (shift-on f (p + 4) (q + 4) 4 (shift-on f p q 4 h))
+  interval-shift p q i h = symbol-shift 37 40 43 4 refl (i .from) (i .to) (p + 4 + 4) (q + 4 + 4) (i .symbol) (shift-on f (p + 4) (q + 4) 4 (shift-on f p q 4 h))
 
-  mapping-shift : (p q : ℕ) (m : Mapping) → Shift f p q → mappingRows (mapping utf8 isDate width .codec .locate q m) ≡ map (moveRow f) (mappingRows (mapping utf8 isDate width .codec .locate p m))
+  mapping-shift : (p q : ℕ) (m : Mapping) → Shift f p q → mappingRows (mapping utf8 nulPadded isDate width .codec .locate q m) ≡ map (moveRow f) (mappingRows (mapping utf8 nulPadded isDate width .codec .locate p m))
   unfolding mapping named asks _then_ limited
   mapping-shift p q m h =
-      let l = length (symbol utf8 isDate width 35 36 .codec .print (m .rawSymbol)) in
-      let c = interval utf8 isDate width .codec in
+      let l = length (symbol utf8 nulPadded isDate width 35 36 42 .codec .print (m .rawSymbol)) in
+      let c = interval utf8 nulPadded isDate width .codec in
       let n = length-locate c f (p + l + 4) (m .intervals) in
       let n′ = length-locate c f (q + l + 4) (m .intervals) in
       ap₂ _∷_
-      (ap (λ k. symbolRow 3 (symbol utf8 isDate width 35 36 .codec .locate q (m .rawSymbol)) k 0) (n′ ∙ sym n) ∙ symbol-shift 35 36 3 refl _ 0 p q (m .rawSymbol) h)
+      (ap (λ k. symbolRow 3 (symbol utf8 nulPadded isDate width 35 36 42 .codec .locate q (m .rawSymbol)) k 0) (n′ ∙ sym n) ∙ symbol-shift 35 36 42 3 refl _ 0 p q (m .rawSymbol) h)
       (shift-map c f intervalRow interval-shift (p + l + 4) (q + l + 4) (m .intervals) (shift-on f (p + l) (q + l) 4 (shift-on f p q l h)))
 
   list-shift : (kind : ℕ) → eqb kind 11 ≡ false → (p q : ℕ) (xs : List Symbol) → Shift f p q
-      → map (listRow kind) (list utf8 isDate width .codec .locate q xs) ≡ map (moveRow f) (map (listRow kind) (list utf8 isDate width .codec .locate p xs))
+      → map (listRow kind) (list utf8 nulPadded isDate width .codec .locate q xs) ≡ map (moveRow f) (map (listRow kind) (list utf8 nulPadded isDate width .codec .locate p xs))
   unfolding list limited
   list-shift kind other p q xs h =
-      shift-map (symbol utf8 isDate width 31 32 .codec) f (listRow kind) (λ p q s h. symbol-shift 31 32 kind other 0 0 p q s h) (p + 4) (q + 4) xs (shift-on f p q 4 h)
+      shift-map (symbol utf8 nulPadded isDate width 31 32 41 .codec) f (listRow kind) (λ p q s h. symbol-shift 31 32 41 kind other 0 0 p q s h) (p + 4) (q + 4) xs (shift-on f p q 4 h)
 
   pub symbology-shift : (p q : ℕ) (t : Symbology) → Shift f p q
-      → symbologyRows (symbology utf8 isDate width .codec .locate q t) ≡ map (moveRow f) (symbologyRows (symbology utf8 isDate width .codec .locate p t))
+      → symbologyRows (symbology utf8 nulPadded isDate width .codec .locate q t) ≡ map (moveRow f) (symbologyRows (symbology utf8 nulPadded isDate width .codec .locate p t))
   unfolding symbologyRows symbology named _then_ limited
   symbology-shift p q t h =
-      let L = list utf8 isDate width .codec in
+      let L = list utf8 nulPadded isDate width .codec in
       let a = length (L .print (t .symbols)) in
       let b = length (L .print (t .partial)) in
       let d = length (L .print (t .notFound)) in
@@ -89,7 +90,7 @@ module _ (utf8 : List ℕ → Bool) (isDate : ℕ → Bool) (width : ℕ) (f : �
       ap₂ _++_
       (ap₂ _++_ (ap₂ _++_ (list-shift 0 refl p q (t .symbols) h) (list-shift 1 refl (p + a) (q + a) (t .partial) h1) ∙ sym (map-append (moveRow f) r0 r1))
       (list-shift 2 refl (p + a + b) (q + a + b) (t .notFound) h2) ∙ sym (map-append (moveRow f) (r0 ++ r1) r2))
-      (shift-concat (mapping utf8 isDate width .codec) f mappingRows mapping-shift _ _ (t .mappings) (shift-on f (p + a + b + d) (q + a + b + d) 4 h3))
+      (shift-concat (mapping utf8 nulPadded isDate width .codec) f mappingRows mapping-shift _ _ (t .mappings) (shift-on f (p + a + b + d) (q + a + b + d) 4 h3))
       ∙ sym (map-append (moveRow f) (r0 ++ r1 ++ r2) _)
 
 -- ---- texts
@@ -108,39 +109,35 @@ mappingTexts m = symbolText (m .rawSymbol) ∷ map intervalText (m .intervals)
 unfoldable pub symbologyTexts : Symbology → List (List ℕ)
 symbologyTexts t = map symbolText (t .symbols) ++ map symbolText (t .partial) ++ map symbolText (t .notFound) ++ flat (map mappingTexts (t .mappings))
 
-module _ (utf8 : List ℕ → Bool) (isDate : ℕ → Bool) (width : ℕ) (b : List ℕ) where
-  -- the text u stands at place n of b
-  abbrev pub Stands : ℕ → List ℕ → Type 0
-  Stands n u = take (length u) (drop n b) ≡ u
-
-  symbol-text : (kind : ℕ) → eqb kind 11 ≡ false → (x y : ℕ) (s : Symbol) → Stands (s .start) (s .text) → rowText b (symbolRow kind s x y) ≡ symbolText s
+module _ (utf8 nulPadded : List ℕ → Bool) (isDate : ℕ → Bool) (width : ℕ) (b : List ℕ) where
+  symbol-text : (kind : ℕ) → eqb kind 11 ≡ false → (x y : ℕ) (s : Symbol) → Stands b (s .start) (s .text) → rowText b (symbolRow kind s x y) ≡ symbolText s
   symbol-text kind other x y s h =
       let n = trimmedLen (s .text) in
       rw other (sym (take-take n (length (s .text)) (drop (s .start) b) (trimmed-le (s .text))) ∙ ap (take n) h)
 
   module _ {A : Type 0} (c : Codec A) where
-    each-map : (row : A → List ℕ) (text : A → List ℕ) → ((x : A) → c .each Stands x → rowText b (row x) ≡ text x) → (xs : List A) → timesEach c Stands xs
+    each-map : (row : A → List ℕ) (text : A → List ℕ) → ((x : A) → c .each (Stands b) x → rowText b (row x) ≡ text x) → (xs : List A) → timesEach c (Stands b) xs
         → map (rowText b) (map row xs) ≡ map text xs
     each-map row text h [] e = refl
     each-map row text h (x ∷ xs) e = ap₂ _∷_ (h x (e .0)) (each-map row text h xs (e .1))
 
-    each-concat : (g : A → List (List ℕ)) (text : A → List (List ℕ)) → ((x : A) → c .each Stands x → map (rowText b) (g x) ≡ text x) → (xs : List A) → timesEach c Stands xs
+    each-concat : (g : A → List (List ℕ)) (text : A → List (List ℕ)) → ((x : A) → c .each (Stands b) x → map (rowText b) (g x) ≡ text x) → (xs : List A) → timesEach c (Stands b) xs
         → map (rowText b) (flat (map g xs)) ≡ flat (map text xs)
     each-concat g text h [] e = refl
     each-concat g text h (x ∷ xs) e = map-append (rowText b) (g x) (flat (map g xs)) ∙ ap₂ _++_ (h x (e .0)) (each-concat g text h xs (e .1))
 
-  symbols-text : (kind : ℕ) → eqb kind 11 ≡ false → (xs : List Symbol) → list utf8 isDate width .codec .each Stands xs → map (rowText b) (map (listRow kind) xs) ≡ map symbolText xs
+  symbols-text : (kind : ℕ) → eqb kind 11 ≡ false → (xs : List Symbol) → list utf8 nulPadded isDate width .codec .each (Stands b) xs → map (rowText b) (map (listRow kind) xs) ≡ map symbolText xs
   unfolding list limited symbol named placed checked raw
-  symbols-text kind other xs e = each-map (symbol utf8 isDate width 31 32 .codec) (listRow kind) symbolText (λ s h. symbol-text kind other 0 0 s h) xs e
+  symbols-text kind other xs e = each-map (symbol utf8 nulPadded isDate width 31 32 41 .codec) (listRow kind) symbolText (λ s h. symbol-text kind other 0 0 s h) xs e
 
-  mapping-text : (m : Mapping) → mapping utf8 isDate width .codec .each Stands m → map (rowText b) (mappingRows m) ≡ mappingTexts m
+  mapping-text : (m : Mapping) → mapping utf8 nulPadded isDate width .codec .each (Stands b) m → map (rowText b) (mappingRows m) ≡ mappingTexts m
   unfolding mapping named asks _then_ limited interval symbol placed checked raw date num
   mapping-text m e =
       ap₂ _∷_ (symbol-text 3 refl (length (m .intervals)) 0 (m .rawSymbol) (e .0))
-      (each-map (interval utf8 isDate width .codec) intervalRow intervalText (λ i h. symbol-text 4 refl (i .from) (i .to) (i .symbol) (h .1 .1)) (m .intervals) (e .1))
+      (each-map (interval utf8 nulPadded isDate width .codec) intervalRow intervalText (λ i h. symbol-text 4 refl (i .from) (i .to) (i .symbol) (h .1 .1)) (m .intervals) (e .1))
 
   -- what a row names in the bytes is its symbol without the NULs at its end
-  pub symbology-texts : (t : Symbology) → symbology utf8 isDate width .codec .each Stands t → map (rowText b) (symbologyRows t) ≡ symbologyTexts t
+  pub symbology-texts : (t : Symbology) → symbology utf8 nulPadded isDate width .codec .each (Stands b) t → map (rowText b) (symbologyRows t) ≡ symbologyTexts t
   unfolding symbologyRows symbologyTexts symbology named _then_ limited
   symbology-texts t e =
       let r0 = map (listRow 0) (t .symbols) in
@@ -150,7 +147,7 @@ module _ (utf8 : List ℕ → Bool) (isDate : ℕ → Bool) (width : ℕ) (b : L
       ∙ ap₂ _++_
       (map-append (rowText b) (r0 ++ r1) r2
       ∙ ap₂ _++_ (map-append (rowText b) r0 r1 ∙ ap₂ _++_ (symbols-text 0 refl (t .symbols) (e .0)) (symbols-text 1 refl (t .partial) (e .1 .0))) (symbols-text 2 refl (t .notFound) (e .1 .1 .0)))
-      (each-concat (mapping utf8 isDate width .codec) mappingRows mappingTexts mapping-text (t .mappings) (e .1 .1 .1))
+      (each-concat (mapping utf8 nulPadded isDate width .codec) mappingRows mappingTexts mapping-text (t .mappings) (e .1 .1 .1))
 
 -- ---- the texts of a located symbology do not depend on its place
 module _ {A : Type 0} (c : Codec A) {B : Type 0} (g : A → B) (h : (p : ℕ) (x : A) → g (c .locate p x) ≡ g x) where
@@ -158,14 +155,14 @@ module _ {A : Type 0} (c : Codec A) {B : Type 0} (g : A → B) (h : (p : ℕ) (x
   map-locate p [] = refl
   map-locate p (x ∷ xs) = ap₂ _∷_ (h p x) (map-locate _ xs)
 
-module _ (utf8 : List ℕ → Bool) (isDate : ℕ → Bool) (width : ℕ) where
-  mapping-locate : (p : ℕ) (m : Mapping) → mappingTexts (mapping utf8 isDate width .codec .locate p m) ≡ mappingTexts m
+module _ (utf8 nulPadded : List ℕ → Bool) (isDate : ℕ → Bool) (width : ℕ) where
+  mapping-locate : (p : ℕ) (m : Mapping) → mappingTexts (mapping utf8 nulPadded isDate width .codec .locate p m) ≡ mappingTexts m
   unfolding mapping named asks _then_ limited symbol placed checked raw interval date num
-  mapping-locate p m = ap (λ v. symbolText (m .rawSymbol) ∷ v) (map-locate (interval utf8 isDate width .codec) intervalText (λ p i. refl) _ (m .intervals))
+  mapping-locate p m = ap (λ v. symbolText (m .rawSymbol) ∷ v) (map-locate (interval utf8 nulPadded isDate width .codec) intervalText (λ p i. refl) _ (m .intervals))
 
-  pub symbology-located : (p : ℕ) (t : Symbology) → symbologyTexts (symbology utf8 isDate width .codec .locate p t) ≡ symbologyTexts t
+  pub symbology-located : (p : ℕ) (t : Symbology) → symbologyTexts (symbology utf8 nulPadded isDate width .codec .locate p t) ≡ symbologyTexts t
   unfolding symbologyTexts symbology named _then_ limited list symbol placed checked raw
   symbology-located p t =
-      let c = symbol utf8 isDate width 31 32 .codec in
+      let c = symbol utf8 nulPadded isDate width 31 32 41 .codec in
       ap₂ _++_ (ap₂ _++_ (ap₂ _++_ (map-locate c symbolText (λ p s. refl) _ (t .symbols)) (map-locate c symbolText (λ p s. refl) _ (t .partial)))
-      (map-locate c symbolText (λ p s. refl) _ (t .notFound))) (ap flat (map-locate (mapping utf8 isDate width .codec) mappingTexts mapping-locate _ (t .mappings)))
+      (map-locate c symbolText (λ p s. refl) _ (t .notFound))) (ap flat (map-locate (mapping utf8 nulPadded isDate width .codec) mappingTexts mapping-locate _ (t .mappings)))

@@ -27,13 +27,15 @@ use Rattle.rules.specs.Rules.{rulesOf, ruledOf, seqsFault, structsFault, record
 use Rattle.given_layout.specs.Ruled.{Ruled}
 use Rattle.given_layout.specs.RuledLaws
 use Rattle.given_layout.specs.Single.{read-layout-single}
+use Rattle.block.specs.Block.{blockOf}
 use Rattle.block.specs.Read.{Promise}
-use Rattle.block.specs.ReadLaws.{given, read-given}
+use Rattle.block.specs.ReadLaws.{given, read-given, refused-given}
 use Rattle.block.specs.Single.{read-block-single}
 use Rattle.block.specs.Examples.{listed, zeroFields, P10, P11}
 use Rattle.block.specs.declared.Fields.{Fields}
 use Rattle.block.specs.declared.BlockAnswer.{BlockAnswer}
 use Rattle.block.specs.declared.BlockAnswer.the-variants.{Read}
+use Rattle.block.specs.declared.BlockAnswer.the-variants as Block'
 use Rattle.feed.specs.Examples.{Gives, p1, p2, p3, p4, p5}
 use Rattle.feed.specs.declared.Answer.the-variants.{Needs, Refused}
 
@@ -53,6 +55,10 @@ abbrev pub BlockGives : List ℕ → Fields → List (List ℕ) → Type 0
 BlockGives b f rs = (sheet s l s′ l′ : List ℕ) (r : BlockAnswer) → 5 * length rs ≤ length s → Promise 2 b sheet s l r s′ l′
     → (r ≡ Read f) × (s′ ≡ flat rs ++ drop (5 * length rs) s) × (l′ ≡ l)
 
+-- the block b of version 2 is refused, with any sheet and any tables, and both tables are as they were
+abbrev pub BlockRefuses : List ℕ → Refusal → Type 0
+BlockRefuses b n = (sheet s l s′ l′ : List ℕ) (r : BlockAnswer) → Promise 2 b sheet s l r s′ l′ → (r ≡ Block'.Refused n) × (s′ ≡ s) × (l′ ≡ l)
+
 -- what a layout gives is what its reader leaves
 layout-gives : (b : List ℕ) (version : ℕ) (rs : List (List ℕ)) (k : ℕ) → ((sheet : List ℕ) (width : ℕ) → RuledLaws.given sheet width b ≡ ok (version, rs) k) → LayoutGives b version rs
 layout-gives b version rs k e sheet width t t′ r h p = read-layout-single p (RuledLaws.read-given sheet width b t version rs k (e sheet width) (omega arith))
@@ -64,6 +70,10 @@ layout-refuses b n e sheet width t t′ r p = read-layout-single p (RuledLaws.ru
 -- and so for a block without layout rows
 block-gives : (b : List ℕ) (f : Fields) (rs : List (List ℕ)) (k : ℕ) → ((sheet : List ℕ) → given 2 sheet b ≡ ok (f, (rs, [])) k) → BlockGives b f rs
 block-gives b f rs k e sheet s l s′ l′ r h p = read-block-single p (read-given 2 b sheet s l f rs [] k (e sheet) (omega arith) (omega arith))
+
+-- a refused block leaves both tables
+block-refuses : (b : List ℕ) (n : Refusal) → ((sheet : List ℕ) → blockOf 2 sheet b ≡ refuse n) → BlockRefuses b n
+block-refuses b n e sheet s l s′ l′ r p = read-block-single p (refused-given 2 b sheet s l (e sheet))
 
 -- P6's layout
 abbrev pub p6 : List ℕ
@@ -101,7 +111,7 @@ pub record TableP : Type 0 where
   pub p08 : LayoutGives p8 1 p7rows
   pub p09 : LayoutRefuses p9 (refusal 51 8)
   pub p10 : BlockGives (listed (69 ∷ 83 ∷ 0 ∷ [])) (zeroFields 3 1) ((0 ∷ 108 ∷ 2 ∷ 0 ∷ 0 ∷ []) ∷ [])
-  pub p11 : BlockGives (listed (69 ∷ 0 ∷ 83 ∷ [])) (zeroFields 3 1) ((0 ∷ 108 ∷ 3 ∷ 0 ∷ 0 ∷ []) ∷ [])
+  pub p11 : BlockRefuses (listed (69 ∷ 0 ∷ 83 ∷ [])) (refusal 41 108)
   pub dates : (isDate 20240229 ≡ true) × (isDate 20000229 ≡ true) × (isDate 19000229 ≡ false) × (isDate 20241301 ≡ false)
   pub texts : (utf8 (0xE2 ∷ 0x80 ∷ 0x8D ∷ []) ≡ true) × (utf8 (0xC0 ∷ 0x80 ∷ []) ≡ false) × (utf8 (0xED ∷ 0xA0 ∷ 0x80 ∷ []) ≡ false) × (utf8 (0xF4 ∷ 0x90 ∷ 0x80 ∷ 0x80 ∷ []) ≡ false)
 
@@ -118,7 +128,7 @@ table = record {
   p08 = layout-gives p8 1 p7rows 24 P8;
   p09 = layout-refuses p9 (refusal 51 8) P9;
   p10 = block-gives (listed (69 ∷ 83 ∷ 0 ∷ [])) (zeroFields 3 1) ((0 ∷ 108 ∷ 2 ∷ 0 ∷ 0 ∷ []) ∷ []) 123 P10;
-  p11 = block-gives (listed (69 ∷ 0 ∷ 83 ∷ [])) (zeroFields 3 1) ((0 ∷ 108 ∷ 3 ∷ 0 ∷ 0 ∷ []) ∷ []) 123 P11;
+  p11 = block-refuses (listed (69 ∷ 0 ∷ 83 ∷ [])) (refusal 41 108) P11;
   dates = p12;
   texts = p13;
 }

@@ -60,6 +60,8 @@ pub const SYMBOLOGY_LENGTH_MISSING: u32 = 27;
 
 pub const SYMBOLOGY_NOT_SPANNED: u32 = 28;
 
+pub const DATASET_AFTER_NUL: u32 = 29;
+
 // The symbology.
 pub const LIST_COUNT_MISSING: u32 = 30;
 
@@ -82,6 +84,12 @@ pub const START_DATE: u32 = 38;
 pub const END_DATE: u32 = 39;
 
 pub const SYMBOL_NOT_UTF8: u32 = 40;
+
+pub const LIST_AFTER_NUL: u32 = 41;
+
+pub const RAW_SYMBOL_AFTER_NUL: u32 = 42;
+
+pub const SYMBOL_AFTER_NUL: u32 = 43;
 
 // The bytes that a block's lengths announce.
 pub const LAYOUT_PAST_END: u32 = 44;

@@ -6,6 +6,9 @@ use crate::words;
 use libc::STDOUT_FILENO;
 use refusal::Refusal;
 
+// The least number of a symbology's contents.
+const FIRST_OF_SYMBOLOGIES: u32 = 30;
+
 // The least number of a layout.
 const FIRST_OF_LAYOUTS: u32 = 50;
 
@@ -31,13 +34,16 @@ pub(crate) fn show(why: Refusal, held: &[u8], is_made: bool) -> bool {
 
 // The sentence of a number.
 fn sentence(n: u32) {
-    if n < FIRST_OF_LAYOUTS {
+    if n < FIRST_OF_SYMBOLOGIES {
         return of_blocks(n);
+    }
+    if n < FIRST_OF_LAYOUTS {
+        return of_symbologies(n);
     }
     of_layouts(n);
 }
 
-// Of the numbers that a stream, a block or a symbology gives.
+// Of the numbers that a stream gives, and a block but for the contents of its symbology and layout.
 fn of_blocks(n: u32) {
     words::say(
         STDOUT_FILENO,
@@ -58,6 +64,17 @@ fn of_blocks(n: u32) {
 26: There is no layout in version 4.
 27: The symbology's length is missing.
 28: The symbology does not span its section.
+29: The dataset has more than NULs after a NUL.
+",
+        n as u64,
+    );
+}
+
+// Of the numbers that a symbology's contents give, and the two of bytes past the block's end.
+fn of_symbologies(n: u32) {
+    words::say(
+        STDOUT_FILENO,
+        b"
 30: A symbol list has no count.
 31: A symbol list's count is too large.
 32: A listed symbol is not UTF-8.
@@ -69,6 +86,9 @@ fn of_blocks(n: u32) {
 38: An interval's start is no date.
 39: An interval's end is no date.
 40: An interval's symbol is not UTF-8.
+41: A listed symbol has more than NULs after a NUL.
+42: A mapping's raw symbol has more than NULs after a NUL.
+43: An interval's symbol has more than NULs after a NUL.
 44: The layout goes past the end of the block.
 45: The symbology goes past the end of the block.
 ",

@@ -17,7 +17,7 @@ use Rattle.symbology.specs.declared.SectionAnswer.the-variants as Sectio
 
 -- what refuses a symbology: 13 for its size, 28 where it leaves bytes of its section over, else a number of its contents
 abbrev pub contentsNumbers : List ℕ
-contentsNumbers = 30 ∷ 31 ∷ 32 ∷ 33 ∷ 34 ∷ 35 ∷ 36 ∷ 37 ∷ 38 ∷ 39 ∷ 40 ∷ []
+contentsNumbers = 30 ∷ 31 ∷ 32 ∷ 33 ∷ 34 ∷ 35 ∷ 36 ∷ 37 ∷ 38 ∷ 39 ∷ 40 ∷ 41 ∷ 42 ∷ 43 ∷ []
 
 abbrev pub symbologyNumbers : List ℕ
 symbologyNumbers = 13 ∷ 28 ∷ contentsNumbers

@@ -9,6 +9,7 @@ use borrow.Author.Tests.{le-leb}
 use Rattle.refusal.specs.declared.Refusal.{Refusal}
 use Rattle.codec.specs.Codec.{Res, ok, refuse, moved, shifted, _>>=_, need, isNil}
 use Rattle.text.specs.Utf8.{utf8}
+use Rattle.padded_text.specs.Padded.{nulPadded}
 use Rattle.dates.specs.Date.{isDate}
 use Rattle.table.specs.Table.{flat, allRows}
 use Rattle.table.specs.TableLaws.{Wide, wide-append, wide-map, wide-all, flat-length}
@@ -21,17 +22,17 @@ use Rattle.symbology.specs.declared.SectionAnswer.{SectionAnswer}
 use Rattle.symbology.specs.declared.SectionAnswer.the-variants as SectionAnswer'
 
 -- a symbology in a block of a length that fits is read by its format
-pub symbology-parse : (width base : ℕ) (s : List ℕ) → base + length s ≤ 4294967295 → symbologyOf width base s ≡ Symbology.symbology utf8 isDate width .codec .parse base s 0
+pub symbology-parse : (width base : ℕ) (s : List ℕ) → base + length s ≤ 4294967295 → symbologyOf width base s ≡ Symbology.symbology utf8 nulPadded isDate width .codec .parse base s 0
 unfolding symbologyOf
 symbology-parse width base s h = rw (le-leb (base + length s) 4294967295 h)
 
 -- a section of its own, by the format and what it leaves over; other bytes, by the format
 pub section-parse : (width base : ℕ) (s : List ℕ) → base + length s ≤ 4294967295
-    → sectionOf true width base s ≡ (Symbology.symbology utf8 isDate width .codec .parse base s 0 >>= λ t j. need (isNil (drop j s)) unspanned j >>= λ _ _. ok t j)
+    → sectionOf true width base s ≡ (Symbology.symbology utf8 nulPadded isDate width .codec .parse base s 0 >>= λ t j. need (isNil (drop j s)) unspanned j >>= λ _ _. ok t j)
 unfolding sectionOf
 section-parse width base s h = rw (symbology-parse width base s h)
 
-pub rest-parse : (width base : ℕ) (s : List ℕ) → base + length s ≤ 4294967295 → sectionOf false width base s ≡ Symbology.symbology utf8 isDate width .codec .parse base s 0
+pub rest-parse : (width base : ℕ) (s : List ℕ) → base + length s ≤ 4294967295 → sectionOf false width base s ≡ Symbology.symbology utf8 nulPadded isDate width .codec .parse base s 0
 unfolding sectionOf
 rest-parse width base s h = symbology-parse width base s h
 

@@ -13,6 +13,7 @@ use Rattle.codec.specs.Refusals.{Gives, In, Within, ends, tells}
 use Rattle.codec.specs.PlaceLaws.{within-is, within-then, within-test}
 use Rattle.codec.specs.RefusalLaws.{in-more, gives-is, gives-then, gives-test, gives-by}
 use Rattle.text.specs.Utf8.{utf8}
+use Rattle.padded_text.specs.Padded.{nulPadded}
 use Rattle.dates.specs.Date.{isDate}
 use Rattle.symbology.specs.Symbology.{symbol, date, list, interval, mapping, symbology, unspanned}
 use Rattle.symbology.specs.Reader.{symbologyOf, sectionOf}
@@ -22,20 +23,20 @@ use Rattle.symbology.specs.declared.SectionAnswer.{SectionAnswer}
 use Rattle.symbology.specs.declared.SectionAnswer.the-variants.{Refused}
 
 module _ (P : ℕ → Type 0) (h : (k : ℕ) → In contentsNumbers k → P k) where
-  pub symbology-numbers : (utf8 : List ℕ → Bool) (isDate : ℕ → Bool) (width : ℕ) → symbology utf8 isDate width .numbers P
+  pub symbology-numbers : (utf8 nulPadded : List ℕ → Bool) (isDate : ℕ → Bool) (width : ℕ) → symbology utf8 nulPadded isDate width .numbers P
   unfolding symbol date list interval mapping symbology
-  symbology-numbers utf8 isDate width =
-      let lists : (P 31 × P 32) × (P 30 × P 31) = ((h 31 refl, h 32 refl), (h 30 refl, h 31 refl)) in
-      let intervals : (P 38 × P 38) × ((P 39 × P 39) × (P 37 × P 40)) = ((h 38 refl, h 38 refl), ((h 39 refl, h 39 refl), (h 37 refl, h 40 refl))) in
-      let mappings : ((P 35 × P 36) × (((P 38 × P 38) × ((P 39 × P 39) × (P 37 × P 40))) × (P 35 × P 37))) × P 35 = (((h 35 refl, h 36 refl), (intervals, (h 35 refl, h 37 refl))), h 35 refl) in
+  symbology-numbers utf8 nulPadded isDate width =
+      let lists : ((P 31 × P 32) × P 41) × (P 30 × P 31) = (((h 31 refl, h 32 refl), h 41 refl), (h 30 refl, h 31 refl)) in
+      let intervals : (P 38 × P 38) × ((P 39 × P 39) × ((P 37 × P 40) × P 43)) = ((h 38 refl, h 38 refl), ((h 39 refl, h 39 refl), ((h 37 refl, h 40 refl), h 43 refl))) in
+      let mappings : (((P 35 × P 36) × P 42) × (((P 38 × P 38) × ((P 39 × P 39) × ((P 37 × P 40) × P 43))) × (P 35 × P 37))) × P 35 = ((((h 35 refl, h 36 refl), h 42 refl), (intervals, (h 35 refl, h 37 refl))), h 35 refl) in
       (lists, (lists, (lists, (mappings, (h 33 refl, h 34 refl)))))
 
 module _ (width base : ℕ) (s : List ℕ) where
   symbology-gives : Gives (In symbologyNumbers) (symbologyOf width base s)
   unfolding symbologyOf
   symbology-gives =
-      gives-by (In symbologyNumbers) (leb (base + length s) 4294967295) (symbology utf8 isDate width .codec .parse base s 0) (refuse (refusal 13 0))
-      (symbology utf8 isDate width .refuses (In symbologyNumbers) (symbology-numbers (In symbologyNumbers) (in-more contentsNumbers symbologyNumbers refl) utf8 isDate width) base s 0)
+      gives-by (In symbologyNumbers) (leb (base + length s) 4294967295) (symbology utf8 nulPadded isDate width .codec .parse base s 0) (refuse (refusal 13 0))
+      (symbology utf8 nulPadded isDate width .refuses (In symbologyNumbers) (symbology-numbers (In symbologyNumbers) (in-more contentsNumbers symbologyNumbers refl) utf8 nulPadded isDate width) base s 0)
       refl
 
   pub section-gives : (spanned : Bool) → Gives (In symbologyNumbers) (sectionOf spanned width base s)
@@ -49,7 +50,7 @@ module _ (width base : ℕ) (s : List ℕ) where
   unfolding symbologyOf
   symbology-within =
       by-bool (leb (base + length s) 4294967295)
-      (λ e. rw e (symbology utf8 isDate width .inside base s 0 zero-le))
+      (λ e. rw e (symbology utf8 nulPadded isDate width .inside base s 0 zero-le))
       (λ e. rw e (tells zero-le))
 
   -- the contents end within the section, and so does the place of a refusal

@@ -13,7 +13,7 @@ use Rattle.table.specs.EachLaws.{Each, each-append, each-map, each-all, RowInsi
 use Rattle.symbology.specs.Symbology.{Symbol, Mapping, Symbology, symbol, date, list, interval, mapping, symbology}
 use Rattle.symbology.specs.SymbologyRows.{symbolRow, intervalRow, mappingRows, listRow, symbologyRows}
 
-module _ (utf8 : List ℕ → Bool) (isDate : ℕ → Bool) (width m : ℕ) where
+module _ (utf8 nulPadded : List ℕ → Bool) (isDate : ℕ → Bool) (width m : ℕ) where
   abbrev Good : List ℕ → Type 0
   Good = RowInside 0 4 m
 
@@ -21,19 +21,19 @@ module _ (utf8 : List ℕ → Bool) (isDate : ℕ → Bool) (width m : ℕ) wher
   symbol-lies : (kind : ℕ) → (leb 0 kind && leb kind 4) ≡ true → (x y : ℕ) (s : Symbol) → PartInside m (s .start) (s .text) → Good (symbolRow kind s x y)
   symbol-lies kind k x y s h = record { kind = k; inside = λ _. omega (arith, trimmed-le (s .text)) }
 
-  symbols-lie : (kind : ℕ) → (leb 0 kind && leb kind 4) ≡ true → (xs : List Symbol) → list utf8 isDate width .codec .each (PartInside m) xs → Each Good (map (listRow kind) xs)
+  symbols-lie : (kind : ℕ) → (leb 0 kind && leb kind 4) ≡ true → (xs : List Symbol) → list utf8 nulPadded isDate width .codec .each (PartInside m) xs → Each Good (map (listRow kind) xs)
   unfolding list limited symbol named placed checked raw
-  symbols-lie kind k xs e = each-map (symbol utf8 isDate width 31 32 .codec) (PartInside m) Good (listRow kind) (λ s h. symbol-lies kind k 0 0 s h) xs e
+  symbols-lie kind k xs e = each-map (symbol utf8 nulPadded isDate width 31 32 41 .codec) (PartInside m) Good (listRow kind) (λ s h. symbol-lies kind k 0 0 s h) xs e
 
-  mapping-lies : (x : Mapping) → mapping utf8 isDate width .codec .each (PartInside m) x → Each Good (mappingRows x)
+  mapping-lies : (x : Mapping) → mapping utf8 nulPadded isDate width .codec .each (PartInside m) x → Each Good (mappingRows x)
   unfolding mapping named asks _then_ limited interval symbol placed checked raw date num
   mapping-lies x e = (
     symbol-lies 3 refl (length (x .intervals)) 0 (x .rawSymbol) (e .0),
-    each-map (interval utf8 isDate width .codec) (PartInside m) Good intervalRow (λ i h. symbol-lies 4 refl (i .from) (i .to) (i .symbol) (h .1 .1)) (x .intervals) (e .1),
+    each-map (interval utf8 nulPadded isDate width .codec) (PartInside m) Good intervalRow (λ i h. symbol-lies 4 refl (i .from) (i .to) (i .symbol) (h .1 .1)) (x .intervals) (e .1),
   )
 
   -- every row is of kind 0 to 4, and its text lies within the m bytes
-  pub symbology-lies : (t : Symbology) → symbology utf8 isDate width .codec .each (PartInside m) t → Each (RowInside 0 4 m) (symbologyRows t)
+  pub symbology-lies : (t : Symbology) → symbology utf8 nulPadded isDate width .codec .each (PartInside m) t → Each (RowInside 0 4 m) (symbologyRows t)
   unfolding symbologyRows symbology named _then_ limited
   symbology-lies t e =
       let r0 = map (listRow 0) (t .symbols) in
@@ -41,4 +41,4 @@ module _ (utf8 : List ℕ → Bool) (isDate : ℕ → Bool) (width m : ℕ) wher
       let r2 = map (listRow 2) (t .notFound) in
       each-append Good (r0 ++ r1 ++ r2) (allRows mappingRows (t .mappings))
       (each-append Good (r0 ++ r1) r2 (each-append Good r0 r1 (symbols-lie 0 refl (t .symbols) (e .0)) (symbols-lie 1 refl (t .partial) (e .1 .0))) (symbols-lie 2 refl (t .notFound) (e .1 .1 .0)))
-      (each-all (mapping utf8 isDate width .codec) (PartInside m) Good mappingRows mapping-lies (t .mappings) (e .1 .1 .1))
+      (each-all (mapping utf8 nulPadded isDate width .codec) (PartInside m) Good mappingRows mapping-lies (t .mappings) (e .1 .1 .1))

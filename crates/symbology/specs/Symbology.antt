@@ -8,7 +8,7 @@ use mathlib.Core.List.{List}
 use lib.ListN.{length, length-append}
 use Rattle.codec.specs.Codec
 use Rattle.codec.specs.Laws.{length-little}
-use Rattle.codec.specs.Format.{Format, _then_, named, placed, rawTest, numTest, asks, limited}
+use Rattle.codec.specs.Format.{Format, _then_, named, placed, rawTests, numTest, asks, limited}
 
 -- what refuses a section that its contents do not span
 abbrev pub unspanned : ℕ
@@ -46,39 +46,39 @@ toMapping z = record { rawSymbol = z .0; intervals = z .1 }
 abbrev pub toSymbology : List Symbol × (List Symbol × (List Symbol × List Mapping)) → Symbology
 toSymbology z = record { symbols = z .0; partial = z .1 .0; notFound = z .1 .1 .0; mappings = z .1 .1 .1 }
 
-module _ (utf8 : List ℕ → Bool) (isDate : ℕ → Bool) (width : ℕ) where
-  -- k where it is cut short, k′ where it is not UTF-8
-  unfoldable pub symbol : ℕ → ℕ → Format Symbol true
-  symbol k k′ = named toSymbol (λ s. (s .start, s .text)) (λ x. refl) (placed (rawTest utf8 k′ k width))
+module _ (utf8 nulPadded : List ℕ → Bool) (isDate : ℕ → Bool) (width : ℕ) where
+  -- k where it is cut short, k′ where it is not UTF-8, k″ where another byte follows a NUL
+  unfoldable pub symbol : ℕ → ℕ → ℕ → Format Symbol true
+  symbol k k′ k″ = named toSymbol (λ s. (s .start, s .text)) (λ x. refl) (placed (rawTests utf8 k′ nulPadded k″ k width))
 
-  pub symbol-big : (k k′ : ℕ) (x : Symbol) → symbol k k′ .codec .legal x → width ≤ length (symbol k k′ .codec .print x)
+  pub symbol-big : (k k′ k″ : ℕ) (x : Symbol) → symbol k k′ k″ .codec .legal x → width ≤ length (symbol k k′ k″ .codec .print x)
   unfolding symbol Codec.named Codec.placed Codec.checked Codec.raw
-  symbol-big k k′ x lg = omega (arith, lg .0 .0)
+  symbol-big k k′ k″ x lg = omega (arith, lg .0 .0 .0)
 
   -- year x 10000 + month x 100 + day in four bytes; k where they are cut short or no date
   unfoldable pub date : ℕ → Format ℕ true
   date k = numTest isDate k k 4
 
-  -- u32 count, then fixed-width symbols; 30 where the count is missing, 31 where it is too large, 32 where one is not UTF-8
+  -- u32 count, then fixed-width symbols; 30 where the count is missing, 31 where it is too large; in each symbol 32 where it is not UTF-8, then 41
   unfoldable pub list : Format (List Symbol) true
-  list = limited (symbol 31 32) 30 31 4 width (symbol-big 31 32)
+  list = limited (symbol 31 32 41) 30 31 4 width (symbol-big 31 32 41)
 
-  -- start date, end date, symbol; 38, 39 and 40
+  -- start date (38), end date (39), symbol (40, then 43)
   unfoldable pub interval : Format Interval true
   interval = named toInterval (λ i. (i .from, (i .to, i .symbol))) (λ x. refl)
-      (date 38 then date 39 then symbol 37 40)
+      (date 38 then date 39 then symbol 37 40 43)
 
   pub interval-big : (x : Interval) → interval .codec .legal x → width + 8 ≤ length (interval .codec .print x)
   unfolding interval Codec.named Codec._then_ date Codec.checked Codec.num
-  interval-big x lg = simp (length-append, length-little) (omega (arith, symbol-big 37 40 (x .symbol) (lg .1 .1)))
+  interval-big x lg = simp (length-append, length-little) (omega (arith, symbol-big 37 40 43 (x .symbol) (lg .1 .1)))
 
-  -- raw symbol (36), u32 interval count (37 where it is too large), intervals
+  -- raw symbol (36, then 42), u32 interval count (37 where it is too large), intervals
   abbrev pub mappingBody : Format (Symbol × List Interval) true
-  mappingBody = symbol 35 36 then limited interval 35 37 4 (width + 8) interval-big
+  mappingBody = symbol 35 36 42 then limited interval 35 37 4 (width + 8) interval-big
 
   pub body-big : (x : Symbol × List Interval) → mappingBody .codec .legal x → width + 4 ≤ length (mappingBody .codec .print x)
   unfolding Codec._then_ Codec.limited
-  body-big x lg = simp (length-append, length-little) (omega (arith, symbol-big 35 36 (x .0) (lg .0)))
+  body-big x lg = simp (length-append, length-little) (omega (arith, symbol-big 35 36 42 (x .0) (lg .0)))
 
   -- 35 where symbol and count do not fit, before anything in the item is judged
   unfoldable pub mapping : Format Mapping true

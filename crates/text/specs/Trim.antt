@@ -1,7 +1,8 @@
 -- Bytes without the zeros at their end.
 -- Assumes nothing.
 use mathlib.Core.List.{List, [], _∷_}
-use Prim.Native.Nat.{ℕ, zero, suc}
+use Prim.Native.Nat.{ℕ, zero, suc, _+_, _≤_, _<_}
+use lib.ListN.{length}
 
 -- how many are kept of a byte b before n kept bytes: a zero that nothing kept follows is not
 abbrev pub kept : ℕ → ℕ → ℕ
@@ -13,3 +14,9 @@ kept b (suc n) = suc (suc n)
 abbrev pub trimmedLen : List ℕ → ℕ
 trimmedLen [] = zero
 trimmedLen (b ∷ s) = kept b (trimmedLen s)
+
+-- e is no length of s that is shorter, and less than n too long
+pub record Near (n : ℕ) (s : List ℕ) (e : ℕ) : Type 0 where
+  pub least : trimmedLen s ≤ e
+  pub within : e ≤ length s
+  pub near : e < trimmedLen s + n
