@@ -19,7 +19,7 @@ use Rattle.codec.specs.Codec.{Res, ok, refuse, refusal, moved, shifted, _>>=_, 
 use Rattle.codec.specs.Laws.{bind-ok, need-ok}
 use Rattle.codec.specs.StepLaws.{raw-got, raw-bad, num-got, num-bad}
 use Rattle.text.specs.Utf8.{utf8}
-use Rattle.padded_text.specs.Padded.{nulPadded}
+use Rattle.text.specs.Padded.{nulPadded}
 use Rattle.dates.specs.Date.{isDate}
 use Rattle.layout.specs.Layout.{Layout, Parts, parts, toLayout, fromLayout}
 use Rattle.layout.specs.LayoutOf.{D, layoutOf}

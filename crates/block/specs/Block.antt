@@ -10,7 +10,7 @@ use Rattle.codec.specs.Codec
 use Rattle.codec.specs.Codec.{Res, _>>=_, need, whole, isNil}
 use Rattle.codec.specs.Format.{Format, raw, num, skip, rawTests, numTest, _then_, on, named, checked, judged, sized, apart, spanned, remainder}
 use Rattle.text.specs.Utf8.{utf8}
-use Rattle.padded_text.specs.Padded.{nulPadded}
+use Rattle.text.specs.Padded.{nulPadded}
 use Rattle.dates.specs.Date.{isDate}
 use Rattle.prelude.specs.Prelude.{isVersion}
 use Rattle.layout.specs.Layout.{Layout, Parts, parts, toLayout, fromLayout}

@@ -11,8 +11,8 @@ use Rattle.codec.specs.Laws.{whole-back, left-part, part-take}
 use Rattle.text.specs.Utf8.{utf8}
 use Rattle.text.specs.Trim.{trimmedLen}
 use Rattle.text.specs.TrimLaws.{trimmed-le}
-use Rattle.padded_text.specs.Padded.{nulPadded, beforeNul}
-use Rattle.padded_text.specs.PaddedLaws.{Name, padded-name}
+use Rattle.text.specs.Padded.{nulPadded, beforeNul}
+use Rattle.text.specs.PaddedLaws.{Name, padded-name}
 use Rattle.dates.specs.Date.{isDate}
 use Rattle.table.specs.EachLaws.{Each}
 use Rattle.symbology.specs.Symbology.{Symbology, symbology}

@@ -13,7 +13,7 @@ use borrow.Author.Tests.{le-leb}
 use Rattle.codec.specs.Codec.{ok, refuse, refusal, Bytes, little, raw, skip, num, named, checked, judged, whole, boxed, isNil, full, _then_, _on_}
 use Rattle.codec.specs.Laws.{Here, length-little, law-boxed}
 use Rattle.text.specs.Utf8.{utf8}
-use Rattle.padded_text.specs.Padded.{nulPadded}
+use Rattle.text.specs.Padded.{nulPadded}
 use Rattle.dates.specs.Date.{isDate}
 use Rattle.layout.specs.LayoutOf.{D}
 use Rattle.layout.specs.Layout.{printLayout}

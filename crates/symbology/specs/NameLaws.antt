@@ -8,8 +8,8 @@ use lib.Seq.{take-take}
 use Rattle.codec.specs.Codec.{Codec, raw, num, named, checked, placed, asks, limited, timesEach, timesLegal, _then_}
 use Rattle.text.specs.Trim.{trimmedLen}
 use Rattle.text.specs.TrimLaws.{trimmed-le}
-use Rattle.padded_text.specs.Padded.{nulPadded, beforeNul}
-use Rattle.padded_text.specs.PaddedLaws.{Name, padded-name}
+use Rattle.text.specs.Padded.{nulPadded, beforeNul}
+use Rattle.text.specs.PaddedLaws.{Name, padded-name}
 use Rattle.table.specs.Table.{allRows}
 use Rattle.table.specs.EachLaws.{Each, each-append}
 use Rattle.symbology.specs.Symbology.{Symbol, Interval, Mapping, Symbology, symbol, date, list, interval, mapping, symbology}

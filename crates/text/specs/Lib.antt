@@ -12,3 +12,8 @@ pub mod TrimLaws
 pub mod Single
 pub mod Runs
 pub mod States
+pub mod Padded
+pub mod Pairs
+pub mod PaddedAnswer
+pub mod PaddedAnswerLaws
+pub mod PaddedLaws

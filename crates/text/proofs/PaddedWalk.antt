@@ -1,18 +1,23 @@
--- Bytes with the ones before, all at once and in parts; and the bytes before the first NUL. Assumes nothing.
+-- Bytes with the ones before, all at once, in parts and one after the other. Assumes nothing.
 use Prim.Native.Nat.{ℕ, zero, suc, _+_, _-_, _≤_, _<_}
 use native.Mathlib.Nat.{zero-add, suc-add, add-zero, sub-zero}
 use native.Mathlib.Omega.{arith}
 use mathlib.Core.Path.{_≡_, refl, sym, ap, _∙_}
 use mathlib.Core.Bool.{Bool, true, false, _&&_}
 use mathlib.Core.List.{List, [], _∷_}
-use lib.Dec.{ltb, eqb·suc-zero}
-use lib.ListN.{length, getD, drop}
-use lib.Seq.{drop-cons, drop-drop, getD-drop}
-use borrow.Author.Tests.{lt-ltb, le-ltb}
+use mathlib.Core.Option.{some}
+use lib.Bits.{bitOr}
+use lib.Dec.{ltb, eqb, eqb·suc-zero}
+use lib.ListN.{length, getD, take, drop, length-drop, drop-of-length-le}
+use lib.Seq.{drop-cons, drop-drop, getD-drop, take-all}
+use borrow.Author.Tests.{lt-ltb, le-ltb, ne-eqb}
+use Rattle.text.specs.Utf8.{goes}
 use Rattle.text.specs.Ascii.{ascii}
 use Rattle.text.specs.AndLaws.{and-left, and-true, and-false, and-join}
-use Rattle.padded_text.specs.Padded.{nulPadded, beforeNul}
-use Rattle.padded_text.specs.Pairs.{goodPair, goodPairs}
+use Rattle.text.specs.Padded.{nuls, nulPadded}
+use Rattle.text.specs.Pairs.{goodPair, goodPairs}
+use Rattle.text.specs.Runs.{ored}
+use Rattle.text.proofs.Or.{or-left, or-right}
 
 -- ---- in parts
 
@@ -60,9 +65,9 @@ pairs-high [] h e = absurd (omega arith)
 pairs-high (b ∷ t) h e = sym (pairs-all b t ∙ rw (le-ltb b 128 e))
 
 -- or below 128
-module _ (s : List ℕ) (some : 0 < length s) (low : getD s 0 0 < 128) where
+module _ (s : List ℕ) (any : 0 < length s) (low : getD s 0 0 < 128) where
   pub pairs-whole : goodPairs (length s - 1) s ≡ (ascii s && nulPadded s)
-  pairs-whole = go s some low
+  pairs-whole = go s any low
     where
       go : (s : List ℕ) → 0 < length s → getD s 0 0 < 128 → goodPairs (length s - 1) s ≡ (ascii s && nulPadded s)
       go [] h l = absurd (omega arith)
@@ -93,14 +98,42 @@ module _ (s : List ℕ) (some : 0 < length s) (low : getD s 0 0 < 128) where
         let all : goodPairs (length s - 1) s ≡ goodPairs n (drop a s) = ap (λ k. goodPairs k s) (sym place) ∙ pairs-add a n s ∙ ap (λ x. x && goodPairs n (drop a s)) first in
         sym all ∙ pairs-whole
 
--- ---- the bytes before the first NUL
+-- ---- one byte after the other
 
-pub name-next : (s : List ℕ) (i : ℕ) → i < length s → (getD s i 0 ≡ 0 → ⊥) → i + length (beforeNul (drop i s)) ≡ i + 1 + length (beforeNul (drop (i + 1) s))
-name-next s i h some = let place : i + 1 ≡ suc i = omega arith in rw (place, drop-cons s i 0) (go (getD s i 0) some)
+-- a byte that is no NUL says nothing of what follows a NUL
+pub padded-next : (s : List ℕ) (i : ℕ) → i < length s → (getD s i 0 ≡ 0 → ⊥) → nulPadded (drop i s) ≡ nulPadded (drop (i + 1) s)
+padded-next s i h other = let place : i + 1 ≡ suc i = omega arith in rw (place, drop-cons s i 0) (go (getD s i 0) other)
   where
-    go : (b : ℕ) → (b ≡ 0 → ⊥) → i + length (beforeNul (b ∷ drop (suc i) s)) ≡ suc i + length (beforeNul (drop (suc i) s))
+    go : (b : ℕ) → (b ≡ 0 → ⊥) → nulPadded (b ∷ drop (suc i) s) ≡ nulPadded (drop (suc i) s)
     go zero e = absurd (e refl)
-    go (suc b) e = omega arith
+    go (suc b) e = refl
 
-pub name-stop : (s : List ℕ) (i : ℕ) → i < length s → getD s i 0 ≡ 0 → i + length (beforeNul (drop i s)) ≡ i
-name-stop s i h e = rw (drop-cons s i 0, e) (add-zero i)
+-- from a NUL on there are to be NULs
+pub padded-nul : (s : List ℕ) (i : ℕ) → i < length s → getD s i 0 ≡ 0 → nulPadded (drop i s) ≡ nuls (drop i s)
+padded-nul s i h e = rw (drop-cons s i 0, e)
+
+-- NULs are rows by themselves
+pub goes-nuls : (l : List ℕ) → nuls l ≡ true → goes (some []) l ≡ true
+goes-nuls [] e = refl
+goes-nuls (zero ∷ l) e = goes-nuls l e
+goes-nuls (suc b ∷ l) e = let z : _≡_ {A = ℕ} 0 1 = cc in absurd (omega arith)
+
+-- no byte is left
+pub padded-end : (s : List ℕ) (i : ℕ) → length s ≤ i → nulPadded (drop i s) ≡ true
+padded-end s i h = rw (drop-of-length-le s h)
+
+-- the bits of NULs
+two : (x b : ℕ) → eqb (bitOr x b) 0 ≡ (eqb x 0 && eqb b 0)
+two zero zero = refl
+two (suc x) b = let big : bitOr (suc x) b ≡ 0 → ⊥ = λ e. absurd (omega (arith, or-left (suc x) b)) in rw (ne-eqb (bitOr (suc x) b) 0 big, eqb·suc-zero x)
+two zero (suc b) = let big : bitOr 0 (suc b) ≡ 0 → ⊥ = λ e. absurd (omega (arith, or-right 0 (suc b))) in rw (ne-eqb (bitOr 0 (suc b)) 0 big)
+
+ored-nuls : (l : List ℕ) (x : ℕ) → eqb (ored x l) 0 ≡ (eqb x 0 && nuls l)
+ored-nuls [] x = sym (and-true (eqb x 0))
+ored-nuls (zero ∷ l) x = ored-nuls l (bitOr x 0) ∙ ap (λ t. t && nuls l) (two x 0 ∙ and-true (eqb x 0))
+ored-nuls (suc b ∷ l) x =
+    let none : eqb (bitOr x (suc b)) 0 ≡ false = two x (suc b) ∙ ap (λ t. eqb x 0 && t) (eqb·suc-zero b) ∙ and-false (eqb x 0) in
+    ored-nuls l (bitOr x (suc b)) ∙ ap (λ t. t && nuls l) none ∙ sym (and-false (eqb x 0))
+
+pub rest-nuls : (s : List ℕ) (a : ℕ) → eqb (ored 0 (take (length s - a) (drop a s))) 0 ≡ nuls (drop a s)
+rest-nuls s a = ored-nuls (take (length s - a) (drop a s)) 0 ∙ ap nuls (take-all (length s - a) (drop a s) (omega (arith, length-drop a s)))

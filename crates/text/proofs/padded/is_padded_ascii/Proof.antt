@@ -6,11 +6,11 @@ use mathlib.Core.Bool.{true}
 use native.Mathlib.Omega.{arith}
 use lib.ListN.{length}
 use borrow.Author.Tests.{not-true, not-false}
-use Rattle.padded_text.specs.Pairs.{goodPairs}
-use Rattle.padded_text.proofs.Walk.{pairs-empty, pairs-high, pairs-whole, pairs-next, pairs-miss, pairs-last}
+use Rattle.text.specs.Pairs.{goodPairs}
+use Rattle.text.proofs.PaddedWalk.{pairs-empty, pairs-high, pairs-whole, pairs-next, pairs-miss, pairs-last}
 use borrow.Author.Needs.{needs}
-use Rattle.padded_text.proofs.is_padded_ascii.Statement.{statement}
-use Rattle.padded_text.proofs.is_padded_ascii.Tie as tie
+use Rattle.text.proofs.padded.is_padded_ascii.Statement.{statement}
+use Rattle.text.proofs.padded.is_padded_ascii.Tie as tie
 
 abbrev Inv-loop : tie.InvT-loop
 Inv-loop s last i₀ i = (i ≤ length s - 1) × (goodPairs i s ≡ true)

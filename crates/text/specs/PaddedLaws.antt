@@ -5,12 +5,12 @@ use native.Mathlib.Omega.{arith}
 use mathlib.Core.Path.{_≡_, refl, sym, ap, _∙_}
 use mathlib.Core.Bool.{true, false}
 use mathlib.Core.List.{List, [], _∷_, _++_}
-use lib.Dec.{leb, leb·suc-zero, leb·suc-suc, leb·zero, eqb·zero-suc}
+use lib.Dec.{eqb·zero-suc}
 use lib.ListN.{length, take, replicate}
 use Rattle.codec.specs.Codec.{among}
 use Rattle.text.specs.Trim.{kept, trimmedLen}
 use Rattle.text.specs.TrimLaws.{zeros-trimmed}
-use Rattle.padded_text.specs.Padded.{nuls, nulPadded, beforeNul}
+use Rattle.text.specs.Padded.{nuls, nulPadded, beforeNul}
 
 -- NULs are as many as there are bytes
 nuls-are : (s : List ℕ) → nuls s ≡ true → s ≡ replicate (length s) 0
@@ -57,28 +57,3 @@ name-padded [] zero e = (refl, refl)
 name-padded [] (suc n) e = (nuls-of n, refl)
 name-padded (zero ∷ t) n e = let z : _≡_ {A = ℕ} 0 1 = cc in absurd (omega arith)
 name-padded (suc b ∷ t) n e = let (p, q) = name-padded t n (rw (eqb·zero-suc b) at e) in (p, ap (λ v. suc b ∷ v) q)
-
--- ---- by two lengths
-
-nuls-trimmed : (s : List ℕ) → nuls s ≡ leb (trimmedLen s) 0
-nuls-trimmed [] = refl
-nuls-trimmed (zero ∷ s) = nuls-trimmed s ∙ none (trimmedLen s)
-  where
-    none : (n : ℕ) → leb n 0 ≡ leb (kept 0 n) 0
-    none zero = refl
-    none (suc n) = leb·suc-zero n ∙ sym (leb·suc-zero (suc n))
-nuls-trimmed (suc b ∷ s) = some (trimmedLen s)
-  where
-    some : (n : ℕ) → false ≡ leb (kept (suc b) n) 0
-    some zero = sym (leb·suc-zero 0)
-    some (suc n) = sym (leb·suc-zero (suc n))
-
--- a text is filled up with NULs just where nothing is kept of what follows its name
-pub padded-by-lengths : (s : List ℕ) → nulPadded s ≡ leb (trimmedLen s) (length (beforeNul s))
-padded-by-lengths [] = refl
-padded-by-lengths (zero ∷ s) = nuls-trimmed (zero ∷ s)
-padded-by-lengths (suc b ∷ s) = padded-by-lengths s ∙ more (trimmedLen s) (length (beforeNul s))
-  where
-    more : (n m : ℕ) → leb n m ≡ leb (kept (suc b) n) (suc m)
-    more zero m = leb·zero m ∙ sym (leb·suc-suc 0 m ∙ leb·zero m)
-    more (suc n) m = sym (leb·suc-suc (suc n) m)

@@ -5,11 +5,11 @@ use mathlib.Core.Path.{_≡_, sym, _∙_}
 use mathlib.Core.Bool.{_&&_}
 use native.Mathlib.Nat.{add-zero, sub-zero}
 use lib.ListN.{drop}
-use Rattle.padded_text.specs.Pairs.{goodPairs}
-use Rattle.padded_text.proofs.Walk.{pairs-one, pairs-none}
+use Rattle.text.specs.Pairs.{goodPairs}
+use Rattle.text.proofs.PaddedWalk.{pairs-one, pairs-none}
 use borrow.Author.Needs.{needs}
-use Rattle.padded_text.proofs.good_pairs.Statement.{statement}
-use Rattle.padded_text.proofs.good_pairs.Tie as tie
+use Rattle.text.proofs.padded.good_pairs.Statement.{statement}
+use Rattle.text.proofs.padded.good_pairs.Tie as tie
 
 abbrev Inv-loop : tie.InvT-loop
 Inv-loop s a n all₀ j₀ all j = (j ≤ n) × (goodPairs n (drop a s) ≡ (all && goodPairs (n - j) (drop (a + j) s)))

@@ -1,12 +1,19 @@
 // Texts of a fixed width that are filled up with NULs, as the dataset and the symbols are: after a NUL only NULs follow.
+use crate::tables::CLASS;
+use crate::tables::WORD;
+use crate::utf8::is_utf8;
+use crate::utf8::next;
+use crate::utf8::or_all;
 ghost use mathlib.Core.Path.{_≡_};
 ghost use mathlib.Core.Bool.{_&&_};
-ghost use Prim.Native.Nat.{_+_, _<_};
+ghost use Prim.Native.Nat.{_+_, _<_, _≤_};
 ghost use lib.ListN.{length, drop};
+ghost use Rattle.text.specs.Utf8.{utf8};
 ghost use Rattle.text.specs.Ascii.{ascii};
-ghost use Rattle.padded_text.specs.Padded.{nulPadded, beforeNul};
-ghost use Rattle.padded_text.specs.Pairs.{goodPair, goodPairs};
-ghost use Rattle.padded_text.specs.Answer.{paddedOf};
+ghost use Rattle.text.specs.Padded.{nuls, nulPadded};
+ghost use Rattle.text.specs.Pairs.{goodPair, goodPairs};
+ghost use Rattle.text.specs.PaddedAnswer.{told, paddedOf};
+ghost use Rattle.text.specs.States.{Rule};
 
 // What is wrong with such a text, if anything: it is not UTF-8; or it is, and another byte follows a NUL.
 pub enum Padded {
@@ -15,20 +22,14 @@ pub enum Padded {
     AfterNul,
 }
 
-// Whether s is UTF-8, and then whether only NULs follow a NUL. Where every byte is below 128 one walk tells both.
+// Whether s is UTF-8, and then whether only NULs follow a NUL. One walk tells both of a text that is not refused.
 pub fn check_padded(s: &[u8]) -> Padded
     ensures { λ r. ⌜ r ≡ paddedOf (now (s .entry)) ⌝ }
 {
     if is_padded_ascii(s) {
         return Padded::Fine;
     }
-    if !text::is_utf8(s) {
-        return Padded::NotUtf8;
-    }
-    if text::trimmed_len(s) <= name_len(s) {
-        return Padded::Fine;
-    }
-    Padded::AfterNul
+    by_table(&CLASS, &WORD, s)
 }
 
 // Whether every byte of s is below 128 and only NULs follow a NUL. Sixteen bytes are looked at together, each with the one
@@ -75,16 +76,44 @@ fn good_pair(before: u8, b: u8) -> bool
     ((0 < before) | (b == 0)) & (b < 128)
 }
 
-// How many bytes stand before the first NUL.
-fn name_len(s: &[u8]) -> usize
-    ensures { λ r. ⌜ r ≡ length (beforeNul (now (s .entry))) ⌝ }
+// The verdict on s by the tables: the bytes before the first NUL one by one, those from it on together.
+fn by_table(classes: &[u8; 256], words: &[u64; 12], s: &[u8]) -> Padded
+    requires { ⌜ Rule (now classes) (now words) ⌝ }
+    ensures { λ r. ⌜ r ≡ paddedOf (now (s .entry)) ⌝ }
 {
+    let mut st: u64 = 0;
     let mut i = 0;
     while i < s.len() {
         if s[i] == 0 {
-            return i;
+            let closed = are_nuls(s, i);
+            if closed & (st == 0) {
+                return Padded::Fine;
+            }
+            return tell(is_utf8(s), closed);
         }
+        st = next(classes, words, st, s[i]);
         i += 1;
     }
-    i
+    tell(st == 0, true)
+}
+
+// Whether all bytes of s from a on are NULs.
+fn are_nuls(s: &[u8], a: usize) -> bool
+    requires { ⌜ a ≤ length (now s) ⌝ }
+    ensures { λ r. ⌜ r ≡ nuls (drop a (now (s .entry))) ⌝ }
+{
+    or_all(s, a, s.len() - a) == 0
+}
+
+// What is wrong with a text, by whether it is UTF-8 and whether only NULs follow a NUL.
+fn tell(valid: bool, padded: bool) -> Padded
+    ensures { λ r. ⌜ r ≡ told valid padded ⌝ }
+{
+    if !valid {
+        return Padded::NotUtf8;
+    }
+    if !padded {
+        return Padded::AfterNul;
+    }
+    Padded::Fine
 }

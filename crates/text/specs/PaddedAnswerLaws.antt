@@ -1,23 +1,23 @@
 -- What an answer says of the text. Assumes nothing.
 use Prim.Native.Nat.{ℕ}
 use mathlib.Core.Path.{_≡_, refl, sym, subst}
-use mathlib.Core.Bool.{Bool, true, false, _&&_, cond}
+use mathlib.Core.Bool.{Bool, true, false, _&&_}
 use mathlib.Core.List.{List}
 use Rattle.text.specs.Utf8.{utf8}
 use Rattle.text.specs.Ascii.{ascii}
 use Rattle.text.specs.AsciiLaws.{ascii-utf8}
 use Rattle.text.specs.AndLaws.{and-left, and-right}
-use Rattle.padded_text.specs.Padded.{nulPadded}
-use Rattle.padded_text.specs.Answer.{paddedOf}
-use Rattle.padded_text.specs.declared.Padded.{Padded}
-use Rattle.padded_text.specs.declared.Padded.the-variants.{Fine, NotUtf8, AfterNul}
+use Rattle.text.specs.Padded.{nulPadded}
+use Rattle.text.specs.PaddedAnswer.{told, paddedOf}
+use Rattle.text.specs.declared.padded.Padded.{Padded}
+use Rattle.text.specs.declared.padded.Padded.the-variants.{Fine, NotUtf8, AfterNul}
 
 abbrev Says : Bool → Bool → Padded → Type 0
 Says u p Fine = (u ≡ true) × (p ≡ true)
 Says u p NotUtf8 = u ≡ false
 Says u p AfterNul = (u ≡ true) × (p ≡ false)
 
-says : (u p : Bool) → Says u p (cond u (cond p Fine AfterNul) NotUtf8)
+says : (u p : Bool) → Says u p (told u p)
 says true true = (refl, refl)
 says true false = (refl, refl)
 says false p = refl
