@@ -15,7 +15,7 @@ abbrev pub trimmedLen : List ℕ → ℕ
 trimmedLen [] = zero
 trimmedLen (b ∷ s) = kept b (trimmedLen s)
 
--- e is no length of s that is shorter, and less than n too long
+-- e is a length of s that is not too short, and less than n too long
 pub record Near (n : ℕ) (s : List ℕ) (e : ℕ) : Type 0 where
   pub least : trimmedLen s ≤ e
   pub within : e ≤ length s
