@@ -1,23 +1,22 @@
 -- The names of an accepted block: its dataset's, and that of every symbology row. Assumes nothing.
 use Prim.Native.Nat.{ℕ, _+_}
 use native.Mathlib.Nat.{zero-add}
-use mathlib.Core.Path.{_≡_, refl, sym, ap, _∙_, subst}
+use mathlib.Core.Path.{_≡_, sym, subst}
 use mathlib.Core.Bool.{Bool, true, false}
 use mathlib.Core.List.{List, _++_, append-assoc}
-use lib.ListN.{length, take, drop}
-use lib.Seq.{take-take, take-append-seam}
+use lib.ListN.{length, take}
+use lib.Seq.{take-append-seam}
 use Rattle.codec.specs.Codec.{ok, Bytes, raw, named, checked, full, boxed, remainder, _then_, _on_}
 use Rattle.codec.specs.Laws.{whole-back, left-part, part-take}
 use Rattle.text.specs.Utf8.{utf8}
 use Rattle.text.specs.Trim.{trimmedLen}
-use Rattle.text.specs.TrimLaws.{trimmed-le}
-use Rattle.text.specs.Padded.{nulPadded, beforeNul}
-use Rattle.text.specs.PaddedLaws.{Name, padded-name}
+use Rattle.text.specs.Padded.{nulPadded}
+use Rattle.text.specs.PaddedLaws.{Name}
 use Rattle.dates.specs.Date.{isDate}
 use Rattle.table.specs.EachLaws.{Each}
 use Rattle.symbology.specs.Symbology.{Symbology, symbology}
 use Rattle.symbology.specs.NameLaws.{NamedIn, Stands, name-stands, symbology-named}
-use Rattle.block.specs.Block.{Block, Header, header, widthOf, symbologyPart, block, lengths, blockOf}
+use Rattle.block.specs.Block.{Block, header, widthOf, symbologyPart, block, lengths, blockOf}
 use Rattle.block.specs.Read.{fives}
 use Rattle.block.specs.SpanLaws.{symbology-each, block-whole}
 use Rattle.block.specs.declared.MetadataLengths.{MetadataLengths}

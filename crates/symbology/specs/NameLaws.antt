@@ -12,7 +12,7 @@ use Rattle.text.specs.Padded.{nulPadded, beforeNul}
 use Rattle.text.specs.PaddedLaws.{Name, padded-name}
 use Rattle.table.specs.Table.{allRows}
 use Rattle.table.specs.EachLaws.{Each, each-append}
-use Rattle.symbology.specs.Symbology.{Symbol, Interval, Mapping, Symbology, symbol, date, list, interval, mapping, symbology}
+use Rattle.symbology.specs.Symbology.{Symbol, Mapping, Symbology, symbol, date, list, interval, mapping, symbology}
 use Rattle.symbology.specs.SymbologyRows.{symbolRow, intervalRow, mappingRows, listRow, symbologyRows}
 
 -- the name by a row's start and length is that of the symbol of this width that begins there

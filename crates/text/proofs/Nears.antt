@@ -1,20 +1,17 @@
 -- How far an end is from the length without zeros, from what the bytes before it are. Assumes nothing.
-use Prim.Native.Nat.{ℕ, suc, _+_, _-_, _*_, _≤_, _<_}
-use mathlib.Core.Path.{_≡_, sym, _∙_}
+use Prim.Native.Nat.{ℕ, suc, _+_, _-_, _≤_, _<_}
+use mathlib.Core.Path.{_≡_, _∙_}
 use mathlib.Core.List.{List}
 use native.Mathlib.Omega.{arith}
 use native.Mathlib.Decide.{decLt}
 use lib.ListN.{length, take, drop}
 use Rattle.text.specs.Runs.{ored}
-use Rattle.text.specs.Trim.{trimmedLen, Near}
+use Rattle.text.specs.Trim.{trimmedLen}
 use Rattle.text.specs.TrimLaws.{after-kept, last-kept}
 use Rattle.text.proofs.Or.{run-below, run-zero}
 
 -- r is the bits of the n bytes before e
 module _ (s : List ℕ) (e n r : ℕ) (least : trimmedLen s ≤ e) (within : e ≤ length s) (some : n ≤ e) (bits : r ≡ ored 0 (take n (drop (e - n) s))) where
-  back : e - n + n ≡ e
-  back = omega arith
-
   -- zeros are not kept
   pub not-kept : r ≡ 0 → trimmedLen s ≤ e - n
   not-kept z =

@@ -1,16 +1,13 @@
 -- Bytes below 128 are UTF-8. Assumes nothing.
-use Prim.Native.Nat.{ℕ, _+_, _<_, _≤_, zero-le}
+use Prim.Native.Nat.{ℕ, _<_, _≤_, zero-le}
 use native.Mathlib.Omega.{arith}
-use mathlib.Core.Path.{_≡_, refl, sym, ap, _∙_}
-use mathlib.Core.Bool.{true, _&&_}
+use mathlib.Core.Path.{_≡_, refl}
+use mathlib.Core.Bool.{true}
 use mathlib.Core.List.{List, [], _∷_}
-use lib.ListN.{take, drop}
-use lib.Seq.{take-add}
 use lib.Dec.{ltb}
 use borrow.Author.Tests.{ltb-true, le-leb}
 use Rattle.text.specs.Utf8.{utf8}
 use Rattle.text.specs.Ascii.{ascii}
-use Rattle.text.specs.AllLaws.{all-append}
 use Rattle.text.specs.AndLaws.{and-left, and-right}
 
 pub ascii-utf8 : (s : List ℕ) → ascii s ≡ true → utf8 s ≡ true

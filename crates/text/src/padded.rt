@@ -8,7 +8,6 @@ ghost use mathlib.Core.Path.{_≡_};
 ghost use mathlib.Core.Bool.{_&&_};
 ghost use Prim.Native.Nat.{_+_, _<_, _≤_};
 ghost use lib.ListN.{length, drop};
-ghost use Rattle.text.specs.Utf8.{utf8};
 ghost use Rattle.text.specs.Ascii.{ascii};
 ghost use Rattle.text.specs.Padded.{nuls, nulPadded};
 ghost use Rattle.text.specs.Pairs.{goodPair, goodPairs};
@@ -22,7 +21,8 @@ pub enum Padded {
     AfterNul,
 }
 
-// Whether s is UTF-8, and then whether only NULs follow a NUL. One walk tells both of a text that is not refused.
+// Whether s is UTF-8, and then whether only NULs follow a NUL. One walk tells both of bytes below 128; other texts go through the
+// table from the first byte on.
 pub fn check_padded(s: &[u8]) -> Padded
     ensures { λ r. ⌜ r ≡ paddedOf (now (s .entry)) ⌝ }
 {

@@ -1,6 +1,6 @@
 -- `by_sixteen` meets its contract. The loop keeps: `end` is no shorter than the length without zeros.
 -- Assumes nothing.
-use Prim.Native.Nat.{_≤_, _-_}
+use Prim.Native.Nat.{_≤_}
 use native.Mathlib.Omega.{arith}
 use borrow.Author.Needs.{needs}
 use lib.ListN.{length}
