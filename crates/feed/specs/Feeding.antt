@@ -1,46 +1,42 @@
 -- Feeding, as document 01's section has it: what held bytes say, what a feed takes of a piece, and what it answers.
 -- Assumes nothing.
-use Prim.Native.Nat.{ℕ, _+_, _-_, min}
-use mathlib.Core.Bool.{cond}
+use Prim.Native.Nat.{ℕ, _+_, _-_}
 use mathlib.Core.Path.{_≡_}
 use mathlib.Core.List.{List, _∷_, _++_}
-use lib.ListN.{length, take, drop}
-use lib.Seq.{paste}
-use lib.Dec.{ltb}
-use Rattle.codec.specs.Codec.{refusal}
+use lib.ListN.{take, drop}
 use Rattle.block.specs.Read.{blockNumbers, blockAnswer, blockSymbology, blockLayout}
 use Rattle.block.specs.declared.BlockAnswer.{BlockAnswer}
 use Rattle.block.specs.declared.BlockAnswer.the-variants.{Read}
 use Rattle.prelude.specs.Prelude.{preludeNumbers, preludeOf}
 use Rattle.prelude.specs.declared.Stage.{Stage}
-use Rattle.prelude.specs.declared.Stage.the-variants.{Whole}
+use Rattle.held.specs.Held as held
+use Rattle.held.specs.Held.{Head, heldOf}
+use Rattle.held.specs.declared.Holding.{Holding}
+use Rattle.held.specs.declared.Holding.the-variants.{Needs, Refused, Whole}
 use Rattle.feed.specs.declared.Answer.{Answer}
 use Rattle.feed.specs.declared.Answer.the-variants.{Done}
 use Rattle.feed.specs.declared.Fed.{Fed}
 
 -- ---- the held bytes
 
--- eight bytes held name a block: 2 where the store of n bytes is below 8 + length, 1 where the k held go beyond the whole block,
--- what is missing of it, or the whole block
-abbrev pub bounded : ℕ → ℕ → Stage → Stage
-bounded n k (Stage.Needs m) = Stage.Needs m
-bounded n k (Stage.Refused e) = Stage.Refused e
-bounded n k (Whole v len) =
-    cond (ltb n (8 + len)) (Stage.Refused (refusal 2 0))
-    (cond (ltb (8 + len) k) (Stage.Refused (refusal 1 0))
-    (cond (ltb k (8 + len)) (Stage.Needs (8 + len - k))
-    (Whole v len)))
+-- eight bytes held name a whole: prelude and block
+abbrev pub announced : Stage → Holding
+announced (Stage.Needs n) = Needs n
+announced (Stage.Refused e) = Refused e
+announced (Stage.Whole v len) = Whole (8 + len) v
 
--- the first k bytes of a store, up to the block's own verdict: 1 beyond the store, 2 below 8, then the prelude
-unfoldable pub stageOf : ℕ → List ℕ → Stage
-stageOf k st =
-    cond (ltb (length st) k) (Stage.Refused (refusal 1 0))
-    (cond (ltb (length st) 8) (Stage.Refused (refusal 2 0))
-    (bounded (length st) k (preludeOf (take k st))))
+-- the start of a stream: its head is the prelude; 2 refuses a store below 8 bytes, or below 8 + length
+abbrev pub start : Head
+start = record { size = 8; short = 2; says = λ s. announced (preludeOf s) }
 
--- the block of n bytes that a store holds after the prelude
+-- the first k bytes of a store, up to the block's own verdict: 1 beyond the store, 2 below 8, then the prelude; with eight held 2 below
+-- the whole, 1 beyond it, what is missing of it, or the whole, n bytes, and its version
+abbrev pub stageOf : ℕ → List ℕ → Holding
+stageOf = heldOf start
+
+-- the block of a whole of n bytes: what comes after the prelude
 abbrev pub blockIn : List ℕ → ℕ → List ℕ
-blockIn st n = take n (drop 8 st)
+blockIn st n = take (n - 8) (drop 8 st)
 
 -- the block's answer is the answer
 unfoldable pub blockSays : BlockAnswer → Answer
@@ -49,22 +45,22 @@ blockSays (BlockAnswer.Refused e) = Answer.Refused e
 blockSays (BlockAnswer.Short s l) = Answer.Short s l
 
 -- the answer by stage: t is the sheet, s and l are the tables lent now
-unfoldable pub answerAt : Stage → List ℕ → List ℕ → List ℕ → List ℕ → Answer
-answerAt (Stage.Needs n) st t s l = Answer.Needs n
-answerAt (Stage.Refused e) st t s l = Answer.Refused e
-answerAt (Whole v n) st t s l = blockSays (blockAnswer v (blockIn st n) t s l)
+unfoldable pub answerAt : Holding → List ℕ → List ℕ → List ℕ → List ℕ → Answer
+answerAt (Needs n) st t s l = Answer.Needs n
+answerAt (Refused e) st t s l = Answer.Refused e
+answerAt (Whole n v) st t s l = blockSays (blockAnswer v (blockIn st n) t s l)
 
 -- the symbology table by stage: only a whole block may change it
-unfoldable pub symbologyAt : Stage → List ℕ → List ℕ → List ℕ → List ℕ → List ℕ
-symbologyAt (Stage.Needs n) st t s l = s
-symbologyAt (Stage.Refused e) st t s l = s
-symbologyAt (Whole v n) st t s l = blockSymbology v (blockIn st n) t s l
+unfoldable pub symbologyAt : Holding → List ℕ → List ℕ → List ℕ → List ℕ → List ℕ
+symbologyAt (Needs n) st t s l = s
+symbologyAt (Refused e) st t s l = s
+symbologyAt (Whole n v) st t s l = blockSymbology v (blockIn st n) t s l
 
 -- the layout table by stage
-unfoldable pub layoutAt : Stage → List ℕ → List ℕ → List ℕ → List ℕ → List ℕ
-layoutAt (Stage.Needs n) st t s l = l
-layoutAt (Stage.Refused e) st t s l = l
-layoutAt (Whole v n) st t s l = blockLayout v (blockIn st n) t s l
+unfoldable pub layoutAt : Holding → List ℕ → List ℕ → List ℕ → List ℕ → List ℕ
+layoutAt (Needs n) st t s l = l
+layoutAt (Refused e) st t s l = l
+layoutAt (Whole n v) st t s l = blockLayout v (blockIn st n) t s l
 
 -- what refuses held bytes: the count or the store, the prelude, the block
 abbrev pub feedNumbers : List ℕ
@@ -78,28 +74,16 @@ pub record Judgement (k : ℕ) (st t s l : List ℕ) (r : Answer) (s′ l′ : L
 
 -- ---- a feed
 
--- how many bytes a stage still needs
-abbrev pub needOf : Stage → ℕ
-needOf (Stage.Needs n) = n
-needOf (Stage.Refused e) = 0
-needOf (Whole v len) = 0
-
--- of n bytes that are offered, so many are taken by the present stage
-unfoldable pub poured : ℕ → List ℕ → ℕ → ℕ
-poured k st n = min (needOf (stageOf k st)) n
-
 -- a feed takes what the prelude, then the block, still needs, at most the whole piece
-unfoldable pub takenOf : ℕ → List ℕ → List ℕ → ℕ
-takenOf k st p =
-    let a = poured k st (length p) in
-    a + poured (k + a) (paste st k p a) (length p - a)
+abbrev pub takenOf : ℕ → List ℕ → List ℕ → ℕ
+takenOf = held.takenOf start
 
 -- the held count and the store after a feed
 abbrev pub heldAfter : ℕ → List ℕ → List ℕ → ℕ
-heldAfter k st p = k + takenOf k st p
+heldAfter = held.heldAfter start
 
 abbrev pub storeAfter : ℕ → List ℕ → List ℕ → List ℕ
-storeAfter k st p = paste st k p (takenOf k st p)
+storeAfter = held.storeAfter start
 
 -- A FEED of the piece p: the count taken; those bytes right after the held ones, the rest of the store as it was; the new count; the verdict on that
 pub record Feeding (k : ℕ) (st p t s l : List ℕ) (r : Fed) (st′ s′ l′ : List ℕ) : Type 0 where

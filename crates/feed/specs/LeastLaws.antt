@@ -1,19 +1,19 @@
 -- What "needs n" promises of the feeds after it: fewer bytes leave exactly the rest needed, so many end the stage. Assumes nothing.
-use Prim.Native.Nat.{ℕ, _+_, _-_, _≤_, _<_, min}
+use Prim.Native.Nat.{ℕ, _-_, _≤_, _<_}
 use native.Mathlib.Omega.{arith}
 use mathlib.Core.Path.{_≡_, sym, ap, ap₂, _∙_}
 use mathlib.Core.List.{List}
 use lib.ListN.{length}
-use lib.Seq.{paste}
 use Rattle.block.specs.Read.{blockAnswer}
 use Rattle.block.specs.declared.BlockAnswer.{BlockAnswer}
 use Rattle.block.specs.declared.BlockAnswer.the-variants.{Read}
-use Rattle.feed.specs.Feeding.{stageOf, needOf, poured, takenOf, blockSays, blockIn, answerAt, Feeding, symbologyAt, layoutAt}
-use Rattle.feed.specs.NeededLaws.{needs-rest, needs-eight, needs-whole}
+use Rattle.feed.specs.Feeding.{start, stageOf, storeAfter, blockSays, blockIn, answerAt, Feeding, symbologyAt, layoutAt}
+use Rattle.feed.specs.StageLaws.{start-law}
+use Rattle.held.specs.LeastLaws as held
 use Rattle.feed.specs.declared.Answer.{Answer}
 use Rattle.feed.specs.declared.Fed.{Fed}
-use Rattle.prelude.specs.declared.Stage.{Stage}
-use Rattle.prelude.specs.declared.Stage.the-variants.{Needs, Refused, Whole}
+use Rattle.held.specs.declared.Holding.{Holding}
+use Rattle.held.specs.declared.Holding.the-variants.{Needs, Refused, Whole}
 
 block-never : (a : BlockAnswer) (n : ℕ) → blockSays a ≡ Answer.Needs n → ⊥
 unfolding blockSays answerAt symbologyAt layoutAt
@@ -22,56 +22,34 @@ block-never (BlockAnswer.Refused m) n e = let z : _≡_ {A = ℕ} 0 1 = cc in om
 block-never (BlockAnswer.Short a b) n e = let z : _≡_ {A = ℕ} 0 1 = cc in omega arith
 
 -- only a stage says that bytes are needed
-says-needs : (z : Stage) (st t s l : List ℕ) (n : ℕ) → answerAt z st t s l ≡ Answer.Needs n → z ≡ Needs n
+says-needs : (z : Holding) (st t s l : List ℕ) (n : ℕ) → answerAt z st t s l ≡ Answer.Needs n → z ≡ Needs n
 unfolding blockSays answerAt symbologyAt layoutAt
 says-needs (Needs m) st t s l n e = let q : m ≡ n = cc in ap Needs q
 says-needs (Refused m) st t s l n e = absurd (let z : _≡_ {A = ℕ} 0 1 = cc in omega arith)
-says-needs (Whole v m) st t s l n e = absurd (block-never (blockAnswer v (blockIn st m) t s l) n e)
+says-needs (Whole m v) st t s l n e = absurd (block-never (blockAnswer v (blockIn st m) t s l) n e)
 
 needs-stage : (k : ℕ) (st p t s l : List ℕ) (x : Fed) (st1 s1 l1 : List ℕ) (n : ℕ) → Feeding k st p t s l x st1 s1 l1 → x .answer ≡ Answer.Needs n
     → stageOf (x .state .held) st1 ≡ Needs n
 needs-stage k st p t s l x st1 s1 l1 n f e = ap₂ stageOf (f .held) (f .store) ∙ says-needs _ _ t s l n (sym (f .verdict .answer) ∙ e)
 
 module _ (k : ℕ) (st : List ℕ) (n : ℕ) (e : stageOf k st ≡ Needs n) (q t s l : List ℕ) (y : Fed) (st2 s2 l2 : List ℕ) (g : Feeding k st q t s l y st2 s2 l2) where
-  fewer-taken : length q < n → takenOf k st q ≡ length q
-  unfolding takenOf poured
-  fewer-taken h = omega (arith, ap needOf e)
+  abbrev of : held.Least start k st n q
+  of = held.least start start-law k st n e q
 
   fewer-of : length q < n → (y .taken ≡ length q) × (y .answer ≡ Answer.Needs (n - length q))
   unfolding blockSays answerAt symbologyAt layoutAt
-  fewer-of h =
-      let a = fewer-taken h in (
-        g .taken ∙ a,
-        g .verdict .answer
-            ∙ ap (λ m. answerAt (stageOf (k + m) (paste st k q m)) (paste st k q m) t s l) a
-            ∙ ap (λ z. answerAt z (paste st k q (length q)) t s l) (needs-rest k st n e q (length q) h (omega arith)),
-      )
-
-  most : n ≤ length q → n ≤ y .taken
-  unfolding takenOf poured
-  most h = omega (arith, ap needOf e, g .taken)
+  fewer-of h = (g .taken ∙ of .fewer h .0, g .verdict .answer ∙ ap (λ z. answerAt z (storeAfter k st q) t s l) (of .fewer h .1))
 
   prelude-of : n ≤ length q → k < 8 → 8 ≤ y .state .held
-  prelude-of h few = omega (arith, most h, needs-eight k st n e few, g .held, g .taken)
-
-  block-taken : n ≤ length q → 8 ≤ k → takenOf k st q ≡ n
-  unfolding takenOf poured
-  block-taken h many =
-      let (v, len, w) = needs-whole k st n e many q h in
-      let a : min (needOf (stageOf k st)) (length q) ≡ n = omega (arith, ap needOf e) in
-      let z : needOf (stageOf (k + min (needOf (stageOf k st)) (length q)) (paste st k q (min (needOf (stageOf k st)) (length q)))) ≡ 0 = rw a (ap needOf w) in
-      omega arith
+  prelude-of h few = omega (arith, of .head h few, g .held)
 
   block-of : n ≤ length q → 8 ≤ k → (y .taken ≡ n) × ((m : ℕ) → y .answer ≡ Answer.Needs m → ⊥)
   unfolding blockSays answerAt symbologyAt layoutAt
   block-of h many =
-      let (v, len, w) = needs-whole k st n e many q h in
-      let a = block-taken h many in (
-        g .taken ∙ a,
-        λ m u. block-never (blockAnswer v (blockIn (paste st k q n) len) t s l) m
-            (sym (ap (λ z. answerAt z (paste st k q n) t s l) w)
-            ∙ sym (ap (λ i. answerAt (stageOf (k + i) (paste st k q i)) (paste st k q i) t s l) a)
-            ∙ sym (g .verdict .answer) ∙ u),
+      let (all, (w, v, u)) = of .whole h many in (
+        g .taken ∙ all,
+        λ m i. block-never (blockAnswer v (blockIn (storeAfter k st q) w) t s l) m
+            (sym (ap (λ z. answerAt z (storeAfter k st q) t s l) u) ∙ sym (g .verdict .answer) ∙ i),
       )
 
 -- THE LEAST COUNT. Where a feed that left k bytes held answered that n are needed, what a feed y of the piece q then gives:

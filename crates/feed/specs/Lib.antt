@@ -1,11 +1,9 @@
 pub mod Feeding
 pub mod StageLaws
-pub mod NeededLaws
 pub mod HeldLaws
 pub mod RefusalLaws
 pub mod Single
 pub mod LeastLaws
-pub mod BytewiseLaws
 pub mod PieceLaws
 pub mod NeverPastLaws
 pub mod Examples

@@ -1,68 +1,47 @@
 -- What a feed never takes: a byte past the block, or any byte where the held ones already give done or a refusal.
 -- Assumes nothing.
-use Prim.Native.Nat.{ℕ, suc, _+_, _-_, _≤_}
+use Prim.Native.Nat.{ℕ, _+_, _≤_}
 use native.Mathlib.Nat.{add-zero}
 use native.Mathlib.Omega.{arith}
 use mathlib.Core.Logic.{_⊎_, inl, inr, ⊎-elim}
-use mathlib.Core.Path.{_≡_, refl, sym, ap, subst, subst₂, _∙_}
-use mathlib.Core.List.{List, [], _∷_, _++_}
-use lib.ListN.{take, drop, set}
-use lib.Seq.{take-set-le, paste, paste-zero}
+use mathlib.Core.Path.{_≡_, refl, sym, ap, subst₂, _∙_}
+use mathlib.Core.List.{List, _++_}
+use lib.ListN.{length, take, drop}
+use lib.Seq.{paste, paste-zero, take-take}
+use Rattle.block.specs.declared.Fields.{Fields}
 use Rattle.prelude.specs.Prelude.{preludeOf}
-use Rattle.feed.specs.Feeding.{stageOf, needOf, takenOf, answerAt, Judgement, Feeding, blockSays, symbologyAt, layoutAt}
-use Rattle.feed.specs.StageLaws.{needing}
-use Rattle.feed.specs.NeededLaws.{needs-room}
-use Rattle.feed.specs.BytewiseLaws.{eat, eats, after-eats}
+use Rattle.prelude.specs.declared.Stage.the-variants as Stage'
+use Rattle.held.specs.Held.{needOf}
+use Rattle.held.specs.StageLaws.{is-whole, taken-most}
+use Rattle.held.specs.AloneLaws.{front-paste}
+use Rattle.held.specs.NeverPastLaws as held
+use Rattle.held.specs.NeverPastLaws.{Inside}
+use Rattle.held.specs.declared.Holding.{Holding}
+use Rattle.held.specs.declared.Holding.the-variants.{Needs, Refused, Whole}
+use Rattle.feed.specs.Feeding.{start, stageOf, takenOf, heldAfter, storeAfter, answerAt, Judgement, Feeding, blockSays, symbologyAt, layoutAt}
+use Rattle.feed.specs.StageLaws.{start-law, whole-prelude}
 use Rattle.feed.specs.PieceLaws.{taken-none, join}
 use Rattle.feed.specs.Single.{Same, one-feed}
 use Rattle.feed.specs.declared.Answer.{Answer}
+use Rattle.feed.specs.declared.Answer.the-variants.{Done}
 use Rattle.feed.specs.declared.Fed.{Fed}
-use Rattle.prelude.specs.declared.Stage.{Stage}
-use Rattle.prelude.specs.declared.Stage.the-variants.{Needs, Refused, Whole}
 
--- so many held bytes do not reach past the prelude, or past the block that it announces
-abbrev pub Inside : ℕ → List ℕ → Type 0
-Inside k st = (k ≤ 8) ⊎ ((v : ℕ) × (len : ℕ) × (preludeOf (take 8 st) ≡ Whole v len) × (k ≤ 8 + len))
-
-inside-eat : (k : ℕ) (st : List ℕ) (b n : ℕ) → stageOf k st ≡ Needs n → Inside (k + 1) (set st k b)
-inside-eat k st b n e = ⊎-elim (λ f. inl (omega arith)) (λ f. inr (f .v, f .len, ap preludeOf (take-set-le 8 st k b (f .many)) ∙ f .eight, omega arith)) (needing k st n e)
-
-eat-of : (k : ℕ) (st : List ℕ) (b : ℕ) (r : Stage) → stageOf k st ≡ r
-    → (eat (k, st) b ≡ (k, st)) ⊎ ((eat (k, st) b ≡ (k + 1, set st k b)) × Inside (k + 1) (set st k b))
-unfolding eat
-eat-of k st b (Needs n) e =
-    let s : needOf (stageOf k st) ≡ suc (n - 1) = ap needOf e ∙ omega (arith, needs-room k st n e) in
-    inr (rw s, inside-eat k st b n e)
-eat-of k st b (Refused n) e = inl (rw e)
-eat-of k st b (Whole v n) e = inl (rw e)
-
-eats-inside : (k : ℕ) (st p : List ℕ) → (eats (k, st) p ≡ (k, st)) ⊎ Inside (eats (k, st) p .0) (eats (k, st) p .1)
-unfolding eats
-eats-inside k st [] = inl refl
-eats-inside k st (b ∷ p) =
-    ⊎-elim
-    (λ e. subst (λ x. (eats x p ≡ (k, st)) ⊎ Inside (eats x p .0) (eats x p .1)) (sym e) (eats-inside k st p))
-    (λ e.
-    subst (λ x. (eats x p ≡ (k, st)) ⊎ Inside (eats x p .0) (eats x p .1)) (sym (e .0))
-    (⊎-elim (λ s. inr (subst (λ x. Inside (x .0) (x .1)) (sym s) (e .1))) (λ s. inr s) (eats-inside (k + 1) (set st k b) p)))
-    (eat-of k st b (stageOf k st) refl)
-
-taken-inside : (k : ℕ) (st p : List ℕ) → (takenOf k st p ≡ 0) ⊎ Inside (k + takenOf k st p) (paste st k p (takenOf k st p))
-taken-inside k st p =
-    ⊎-elim (λ e. inl (omega (arith, ap (λ x. x .0) (sym (after-eats k st p) ∙ e))))
-    (λ i. inr (subst (λ x. Inside (x .0) (x .1)) (after-eats k st p) i))
-    (eats-inside k st p)
-
--- NEVER PAST THE BLOCK: a feed takes nothing, or what is then held does not reach past the block
-pub never-past : (k : ℕ) (st p t s l : List ℕ) (x : Fed) (st1 s1 l1 : List ℕ) → Feeding k st p t s l x st1 s1 l1 → (x .taken ≡ 0) ⊎ Inside (x .state .held) st1
+-- NEVER PAST THE BLOCK: a feed takes nothing, or what is then held does not reach past the prelude, or past the block that it announces
+pub never-past : (k : ℕ) (st p t s l : List ℕ) (x : Fed) (st1 s1 l1 : List ℕ) → Feeding k st p t s l x st1 s1 l1 → (x .taken ≡ 0) ⊎ Inside start (x .state .held) st1
 never-past k st p t s l x st1 s1 l1 f =
-    ⊎-elim (λ e. inl (f .taken ∙ e)) (λ i. inr (subst₂ Inside (sym (f .held)) (sym (f .store)) i)) (taken-inside k st p)
+    ⊎-elim (λ e. inl (f .taken ∙ e)) (λ i. inr (subst₂ (Inside start) (sym (f .held)) (sym (f .store)) i)) (held.never-past start start-law k st p)
 
-need-or : (z : Stage) (st t s l : List ℕ) → ((n : ℕ) → answerAt z st t s l ≡ Answer.Needs n → ⊥) → needOf z ≡ 0
+done-stage : (z : Holding) (st t s l : List ℕ) (f : Fields) → answerAt z st t s l ≡ Done f → (w : ℕ) × (v : ℕ) × (z ≡ Whole w v)
+unfolding blockSays answerAt symbologyAt layoutAt
+done-stage (Needs n) st t s l f e = absurd (let z : _≡_ {A = ℕ} 0 1 = cc in omega arith)
+done-stage (Refused n) st t s l f e = absurd (let z : _≡_ {A = ℕ} 0 1 = cc in omega arith)
+done-stage (Whole w v) st t s l f e = (w, v, refl)
+
+need-or : (z : Holding) (st t s l : List ℕ) → ((n : ℕ) → answerAt z st t s l ≡ Answer.Needs n → ⊥) → needOf z ≡ 0
 unfolding blockSays answerAt symbologyAt layoutAt
 need-or (Needs n) st t s l h = absurd (h n refl)
 need-or (Refused e) st t s l h = refl
-need-or (Whole v n) st t s l h = refl
+need-or (Whole n v) st t s l h = refl
 
 -- NOTHING MORE: a feed whose held bytes already give done or a refusal, with what is lent now, takes nothing
 pub nothing-more : (k : ℕ) (st p t s l : List ℕ) (x : Fed) (st1 s1 l1 : List ℕ) → Feeding k st p t s l x st1 s1 l1
@@ -92,3 +71,18 @@ settled k st p q t s l x y st1 s1 l1 st2 s2 l2 f h g =
       symbology = one .symbology;
       layout = one .layout;
     }
+
+-- DONE: a feed from the start that is done took the prelude and the block that it announces, and no more
+pub done-whole : (st p t s l : List ℕ) (x : Fed) (st1 s1 l1 : List ℕ) (f : Fields) → Feeding 0 st p t s l x st1 s1 l1 → x .answer ≡ Done f
+    → (v : ℕ) × (len : ℕ) × (preludeOf (take 8 p) ≡ Stage'.Whole v len) × (x .taken ≡ 8 + len) × (x .taken ≤ length p)
+done-whole st p t s l x st1 s1 l1 f g e =
+    let n = takenOf 0 st p in
+    let (w, v, q) = done-stage (stageOf (heldAfter 0 st p) (storeAfter 0 st p)) (storeAfter 0 st p) t s l f (sym (g .verdict .answer) ∙ e) in
+    let i = is-whole start start-law (heldAfter 0 st p) (storeAfter 0 st p) w v q in
+    let most : n ≤ length p = taken-most start start-law 0 st p in
+    let many : 8 ≤ heldAfter 0 st p = i .many in
+    let sum : heldAfter 0 st p ≡ w = i .sum in
+    let front : take 8 (storeAfter 0 st p) ≡ take 8 p =
+    sym (take-take 8 n (storeAfter 0 st p) (omega arith)) ∙ ap (take 8) (front-paste st p n most) ∙ take-take 8 n p (omega arith) in
+    let (len, said, m) = whole-prelude (take 8 p) w v (ap (start .says) (sym front) ∙ i .says) in
+    (v, len, said, omega (arith, g .taken), omega (arith, g .taken))

@@ -6,14 +6,16 @@ use mathlib.Core.Path.{_≡_, refl, sym, ap, ap₂, subst₂, _∙_}
 use mathlib.Core.List.{List, _++_}
 use lib.ListN.{drop}
 use lib.Seq.{paste, paste-zero}
-use Rattle.feed.specs.BytewiseLaws.{eats, after, after-eats, eats-append, eats-none, rest}
-use Rattle.feed.specs.Feeding.{stageOf, needOf, takenOf, blockSays, blockIn, answerAt, symbologyAt, layoutAt, Judgement, Feeding}
+use Rattle.held.specs.Held.{needOf}
+use Rattle.held.specs.PieceLaws as pieces
+use Rattle.feed.specs.Feeding.{start, stageOf, takenOf, blockSays, blockIn, answerAt, symbologyAt, layoutAt, Judgement, Feeding}
+use Rattle.feed.specs.StageLaws.{start-law}
 use Rattle.feed.specs.Single.{Same, one-feed}
 use Rattle.block.specs.ReadLaws.{again}
 use Rattle.feed.specs.declared.Answer.{Answer}
 use Rattle.feed.specs.declared.Fed.{Fed}
-use Rattle.prelude.specs.declared.Stage.{Stage}
-use Rattle.prelude.specs.declared.Stage.the-variants.{Needs, Refused, Whole}
+use Rattle.held.specs.declared.Holding.{Holding}
+use Rattle.held.specs.declared.Holding.the-variants.{Needs, Refused, Whole}
 
 -- what two feeds come to
 abbrev pub joined : Fed → Fed → Fed
@@ -37,33 +39,9 @@ pub data Handed : ℕ → List ℕ → List ℕ → List ℕ → List ℕ → Li
 
 -- a feed whose stage needs nothing takes nothing
 pub taken-none : (k : ℕ) (st p : List ℕ) → needOf (stageOf k st) ≡ 0 → takenOf k st p ≡ 0
-taken-none k st p e = omega (arith, ap (λ x. x .0) (sym (after-eats k st p) ∙ eats-none (k, st) p e))
+taken-none = pieces.taken-none start start-law
 
 -- two pieces: a feed of the first, and one of what may follow, are a feed of both
-module _ (k : ℕ) (st p q : List ℕ) (m : ℕ) (far : takenOf k st p ≤ m) where
-  abbrev t1 : ℕ
-  t1 = takenOf k st p
-
-  abbrev s1 : List ℕ
-  s1 = paste st k p t1
-
-  abbrev t2 : ℕ
-  t2 = takenOf (k + t1) s1 (drop m p ++ q)
-
-  both-after : after k st (p ++ q) ≡ (k + t1 + t2, paste s1 (k + t1) (drop m p ++ q) t2)
-  both-after =
-      sym (after-eats k st (p ++ q))
-      ∙ eats-append (k, st) p q
-      ∙ ap (λ x. eats x q) (after-eats k st p ∙ sym (rest k st p m far))
-      ∙ sym (eats-append (k + t1, s1) (drop m p) q)
-      ∙ after-eats (k + t1) s1 (drop m p ++ q)
-
-  both-taken : takenOf k st (p ++ q) ≡ t1 + t2
-  both-taken = omega (arith, ap (λ x. x .0) both-after)
-
-  both-store : paste st k (p ++ q) (takenOf k st (p ++ q)) ≡ paste s1 (k + t1) (drop m p ++ q) t2
-  both-store = ap (λ x. x .1) both-after
-
 pub join : (k : ℕ) (st p q t u s l : List ℕ) (s0 l0 : List ℕ) (x y : Fed) (st1 s1 l1 st2 s2 l2 : List ℕ) (m : ℕ)
     → Feeding k st p u s0 l0 x st1 s1 l1 → x .taken ≤ m → Feeding (x .state .held) st1 (drop m p ++ q) t s l y st2 s2 l2
     → Feeding k st (p ++ q) t s l (joined x y) st2 s2 l2
@@ -71,9 +49,9 @@ join k st p q t u s l s0 l0 x y st1 s1 l1 st2 s2 l2 m f far g =
     let r = drop m p ++ q in
     let far2 : takenOf k st p ≤ m = omega (arith, f .taken) in
     let a : takenOf (x .state .held) st1 r ≡ takenOf (k + takenOf k st p) (paste st k p (takenOf k st p)) r = ap₂ (λ m n. takenOf m n r) (f .held) (f .store) in
-    let n : takenOf k st (p ++ q) ≡ takenOf k st p + takenOf (x .state .held) st1 r = both-taken k st p q m far2 ∙ ap (λ m. takenOf k st p + m) (sym a) in
+    let n : takenOf k st (p ++ q) ≡ takenOf k st p + takenOf (x .state .held) st1 r = pieces.both-taken start start-law k st p q m far2 ∙ ap (λ m. takenOf k st p + m) (sym a) in
     let e : paste st k (p ++ q) (takenOf k st (p ++ q)) ≡ paste st1 (x .state .held) r (takenOf (x .state .held) st1 r) =
-    both-store k st p q m far2 ∙ sym (ap₂ (λ m i. paste i m r (takenOf m i r)) (f .held) (f .store)) in
+    pieces.both-store start start-law k st p q m far2 ∙ sym (ap₂ (λ m i. paste i m r (takenOf m i r)) (f .held) (f .store)) in
     let h : x .state .held + takenOf (x .state .held) st1 r ≡ k + takenOf k st (p ++ q) = omega (arith, f .held) in
     record {
       taken = omega (arith, f .taken, g .taken);
@@ -88,14 +66,14 @@ lent-is-one (last f) = f
 lent-is-one (more q m f far r) = join _ _ _ q _ _ _ _ _ _ _ _ _ _ _ _ _ _ m f far (lent-is-one r)
 
 -- the verdict again, with the tables as a verdict left them
-again-at : (r : Stage) (st t s l : List ℕ)
+again-at : (r : Holding) (st t s l : List ℕ)
     → (answerAt r st t (symbologyAt r st t s l) (layoutAt r st t s l) ≡ answerAt r st t s l)
     × (symbologyAt r st t (symbologyAt r st t s l) (layoutAt r st t s l) ≡ symbologyAt r st t s l)
     × (layoutAt r st t (symbologyAt r st t s l) (layoutAt r st t s l) ≡ layoutAt r st t s l)
 unfolding blockSays answerAt symbologyAt layoutAt
 again-at (Needs n) st t s l = (refl, refl, refl)
 again-at (Refused e) st t s l = (refl, refl, refl)
-again-at (Whole v n) st t s l = let h = again v (blockIn st n) t s l in (ap blockSays (h .answer), h .symbology, h .layout)
+again-at (Whole n v) st t s l = let h = again v (blockIn st n) t s l in (ap blockSays (h .answer), h .symbology, h .layout)
 
 judged-again : (k : ℕ) (st t s l s1 l1 : List ℕ) (x r : Answer) (s2 l2 : List ℕ) → Judgement k st t s l x s1 l1 → Judgement k st t s1 l1 r s2 l2 → Judgement k st t s l r s2 l2
 judged-again k st t s l s1 l1 x r s2 l2 f g =
@@ -108,7 +86,7 @@ judged-again k st t s l s1 l1 x r s2 l2 f g =
     }
 
 -- the tables handed on too: the second verdict is that with the first tables
-handed-of : (k : ℕ) (st q t s l s1 l1 : List ℕ) (x r : Answer) (s2 l2 : List ℕ) (z : Stage) → stageOf k st ≡ z
+handed-of : (k : ℕ) (st q t s l s1 l1 : List ℕ) (x r : Answer) (s2 l2 : List ℕ) (z : Holding) → stageOf k st ≡ z
     → Judgement k st t s l x s1 l1 → Judgement (k + takenOf k st q) (paste st k q (takenOf k st q)) t s1 l1 r s2 l2
     → Judgement (k + takenOf k st q) (paste st k q (takenOf k st q)) t s l r s2 l2
 unfolding blockSays answerAt symbologyAt layoutAt
@@ -116,7 +94,7 @@ handed-of k st q t s l s1 l1 x r s2 l2 (Needs n) e f g =
     subst₂ (λ m i. Judgement (k + takenOf k st q) (paste st k q (takenOf k st q)) t m i r s2 l2) (f .symbology ∙ simp e) (f .layout ∙ simp e) g
 handed-of k st q t s l s1 l1 x r s2 l2 (Refused n) e f g =
     subst₂ (λ m i. Judgement (k + takenOf k st q) (paste st k q (takenOf k st q)) t m i r s2 l2) (f .symbology ∙ simp e) (f .layout ∙ simp e) g
-handed-of k st q t s l s1 l1 x r s2 l2 (Whole v n) e f g =
+handed-of k st q t s l s1 l1 x r s2 l2 (Whole n v) e f g =
     let none : takenOf k st q ≡ 0 = taken-none k st q (ap needOf e) in
     let hk : k ≡ k + takenOf k st q = omega arith in
     let hs : st ≡ paste st k q (takenOf k st q) = paste-zero st k q ∙ ap (paste st k q) (sym none) in

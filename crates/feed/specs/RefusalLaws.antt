@@ -20,8 +20,12 @@ use Rattle.block.specs.Read.{blockNumbers, blockAnswer}
 use Rattle.block.specs.RefusalLaws.{answer-refuses, answer-within, refused-anyway}
 use Rattle.block.specs.declared.BlockAnswer.{BlockAnswer}
 use Rattle.block.specs.declared.BlockAnswer.the-variants as BlockAnswer'
-use Rattle.feed.specs.Feeding.{bounded, stageOf, blockIn, blockSays, answerAt, feedNumbers, Feeding}
-use Rattle.feed.specs.StageLaws.{is-whole}
+use Rattle.feed.specs.Feeding.{announced, start, stageOf, blockIn, blockSays, answerAt, feedNumbers, Feeding}
+use Rattle.feed.specs.StageLaws.{start-law}
+use Rattle.held.specs.StageLaws.{is-whole}
+use Rattle.held.specs.RefusalLaws as why
+use Rattle.held.specs.declared.Holding.{Holding}
+use Rattle.held.specs.declared.Holding.the-variants as Holding'
 use Rattle.feed.specs.declared.Answer.{Answer}
 use Rattle.feed.specs.declared.Fed.{Fed}
 
@@ -37,37 +41,27 @@ pub data Why (k : ℕ) (st t s l : List ℕ) (e : Refusal) : Type 0 where
   held : e ≡ refusal 1 0 → Why k st t s l e
   store : e ≡ refusal 2 0 → Why k st t s l e
   prelude : preludeOf (take k st) ≡ Refused e → Why k st t s l e
-  block : (v n : ℕ) → stageOf k st ≡ Whole v n → BlockAnswer.Refused e ≡ blockAnswer v (blockIn st n) t s l → Why k st t s l e
+  block : (v n : ℕ) → stageOf k st ≡ Holding'.Whole n v → BlockAnswer.Refused e ≡ blockAnswer v (blockIn st n) t s l → Why k st t s l e
 
 module _ (k : ℕ) (st t s l : List ℕ) {e : Refusal} where
-  bounded-why : (x : Stage) → preludeOf (take k st) ≡ x → bounded (length st) k x ≡ Refused e → Why k st t s l e
-  bounded-why (Needs m) h q = let z : _≡_ {A = ℕ} 0 1 = cc in absurd (omega arith)
-  bounded-why (Refused j) h q = prelude (h ∙ q)
-  bounded-why (Whole v len) h q = go (ltb (length st) (8 + len)) (ltb (8 + len) k) (ltb k (8 + len)) q
-    where
-      go : (a b c : Bool) → cond a (Refused (refusal 2 0)) (cond b (Refused (refusal 1 0)) (cond c (Needs (8 + len - k)) (Whole v len))) ≡ Refused e → Why k st t s l e
-      go true b c q = let z : refusal 2 0 ≡ e = cc in store (sym z)
-      go false true c q = let z : refusal 1 0 ≡ e = cc in held (sym z)
-      go false false true q = let z : _≡_ {A = ℕ} 0 1 = cc in absurd (omega arith)
-      go false false false q = let z : _≡_ {A = ℕ} 0 1 = cc in absurd (omega arith)
+  announced-why : (x : Stage) → announced x ≡ Holding'.Refused e → x ≡ Refused e
+  announced-why (Needs m) q = let z : _≡_ {A = ℕ} 0 1 = cc in absurd (omega arith)
+  announced-why (Refused j) q = let z : j ≡ e = cc in ap Refused z
+  announced-why (Whole v len) q = let z : _≡_ {A = ℕ} 0 1 = cc in absurd (omega arith)
 
-  stage-why : stageOf k st ≡ Refused e → Why k st t s l e
-  unfolding stageOf
-  stage-why q = go (ltb (length st) k) (ltb (length st) 8) q
-    where
-      go : (a b : Bool) → cond a (Refused (refusal 1 0)) (cond b (Refused (refusal 2 0)) (bounded (length st) k (preludeOf (take k st)))) ≡ Refused e → Why k st t s l e
-      go true b q = let z : refusal 1 0 ≡ e = cc in held (sym z)
-      go false true q = let z : refusal 2 0 ≡ e = cc in store (sym z)
-      go false false q = bounded-why (preludeOf (take k st)) refl q
+  stage-why : why.Why start k st e → Why k st t s l e
+  stage-why (why.held q) = held q
+  stage-why (why.store q) = store q
+  stage-why (why.head q) = prelude (announced-why (preludeOf (take k st)) q)
 
   pub answer-why : answerAt (stageOf k st) st t s l ≡ Answer.Refused e → Why k st t s l e
   unfolding answerAt
   answer-why q = go (stageOf k st) refl q
     where
-      go : (x : Stage) → stageOf k st ≡ x → answerAt x st t s l ≡ Answer.Refused e → Why k st t s l e
-      go (Needs n) i q = let z : _≡_ {A = ℕ} 0 1 = cc in absurd (omega arith)
-      go (Refused j) i q = let z : j ≡ e = cc in stage-why (i ∙ ap Refused z)
-      go (Whole v n) i q = block v n i (says-refused (blockAnswer v (blockIn st n) t s l) q)
+      go : (x : Holding) → stageOf k st ≡ x → answerAt x st t s l ≡ Answer.Refused e → Why k st t s l e
+      go (Holding'.Needs n) i q = let z : _≡_ {A = ℕ} 0 1 = cc in absurd (omega arith)
+      go (Holding'.Refused j) i q = let z : j ≡ e = cc in stage-why (why.why start k st (i ∙ ap Holding'.Refused z))
+      go (Holding'.Whole n v) i q = block v n i (says-refused (blockAnswer v (blockIn st n) t s l) q)
 
   number-of : Why k st t s l e → In feedNumbers (e .number)
   number-of (held q) = subst (λ (j : Refusal). In feedNumbers (j .number)) (sym q) refl
@@ -80,8 +74,8 @@ module _ (k : ℕ) (st t s l : List ℕ) {e : Refusal} where
   place-of (store q) = rw q zero-le
   place-of (prelude q) = omega (arith, prelude-place (take k st) q, length-take k st)
   place-of (block v n i q) =
-      let w = is-whole k st v n i in
-      ⊎-elim (λ z. rw z (omega (arith, w .sum))) (λ h. omega (arith, w .sum, length-take n (drop 8 st))) (answer-within v (blockIn st n) t s l q)
+      let w = is-whole start start-law k st n v i in
+      ⊎-elim (λ z. rw z (omega (arith, w .sum))) (λ h. omega (arith, w .sum, length-take (n - 8) (drop 8 st))) (answer-within v (blockIn st n) t s l q)
 
   -- the number of the verdict's refusal, and its place, which is within the held bytes
   pub answer-refused : answerAt (stageOf k st) st t s l ≡ Answer.Refused e → In feedNumbers (e .number)
@@ -95,10 +89,10 @@ module _ (k : ℕ) (st t s l : List ℕ) {e : Refusal} where
   unfolding answerAt blockSays
   answer-anyway q s₂ l₂ = go (stageOf k st) q
     where
-      go : (x : Stage) → answerAt x st t s l ≡ Answer.Refused e → answerAt x st t s₂ l₂ ≡ Answer.Refused e
-      go (Needs n) q = let z : _≡_ {A = ℕ} 0 1 = cc in absurd (omega arith)
-      go (Refused j) q = q
-      go (Whole v n) q = ap blockSays (refused-anyway v (blockIn st n) t s l (says-refused (blockAnswer v (blockIn st n) t s l) q) s₂ l₂)
+      go : (x : Holding) → answerAt x st t s l ≡ Answer.Refused e → answerAt x st t s₂ l₂ ≡ Answer.Refused e
+      go (Holding'.Needs n) q = let z : _≡_ {A = ℕ} 0 1 = cc in absurd (omega arith)
+      go (Holding'.Refused j) q = q
+      go (Holding'.Whole n v) q = ap blockSays (refused-anyway v (blockIn st n) t s l (says-refused (blockAnswer v (blockIn st n) t s l) q) s₂ l₂)
 
 -- what a feed's answer refuses with, and where
 module _ (k : ℕ) (st p t s l : List ℕ) (r : Fed) (st′ s′ l′ : List ℕ) {e : Refusal} (f : Feeding k st p t s l r st′ s′ l′) (q : r .answer ≡ Answer.Refused e) where

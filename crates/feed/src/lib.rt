@@ -1,15 +1,11 @@
 // Feeding: the start of a stream comes in pieces, is held in a store that the caller lends, and is read once its block is whole.
 use block::BlockAnswer;
 use block::Fields;
+use held::Holding;
 use prelude::Stage;
 use refusal::Refusal;
 ghost use mathlib.Core.Path.{_≡_};
-ghost use Prim.Native.Nat.{_+_, _-_, _≤_, min};
-ghost use lib.ListN.{length};
-ghost use lib.Seq.{paste};
-ghost use Rattle.codec.specs.Codec.{refusal};
-ghost use Rattle.prelude.specs.declared.Stage.{Stage};
-ghost use Rattle.feed.specs.Feeding.{stageOf, needOf, poured, Judgement, Feeding};
+ghost use Rattle.feed.specs.Feeding.{stageOf, Judgement, Feeding};
 
 // The bytes of a prelude.
 const METADATA_PRELUDE_LEN: usize = 8;
@@ -48,9 +44,9 @@ pub fn feed(
     ensures { λ r. ⌜ Feeding (state .held) (now (store .entry)) (now (piece .entry)) (now (sheet .entry)) (now (symbology .entry)) (now (layout .entry)) r (now (store .exit)) (now (symbology .exit)) (now (layout .exit)) ⌝ }
 {
     let held = state.held;
-    let a = pour(held, store, piece);
+    let a = held::pour(held, store, piece, stage_of(held, store));
     let first = held + a;
-    let b = pour(first, store, &piece[a..]);
+    let b = held::pour(first, store, &piece[a..], stage_of(first, store));
     let second = first + b;
     let answer = judge(second, store, sheet, symbology, layout);
     Fed {
@@ -60,41 +56,33 @@ pub fn feed(
     }
 }
 
-// The verdict on the first `held` bytes of a store, up to the block's own.
-fn stage_of(held: usize, store: &[u8]) -> Stage
+// What the first `held` bytes of a store are, up to the block's own verdict: their kind is the version.
+fn stage_of(held: usize, store: &[u8]) -> Holding
     ensures { λ r. ⌜ r ≡ stageOf held (now (store .entry)) ⌝ }
 {
     let room = store.len();
     if room < held {
-        return refused(refusal::HELD_BEYOND);
+        return held::refused(refusal::HELD_BEYOND);
     }
     if room < METADATA_PRELUDE_LEN {
-        return refused(refusal::STORE_SHORT);
+        return held::refused(refusal::STORE_SHORT);
     }
     match prelude::prelude(&store[..held]) {
-        Stage::Needs(k) => Stage::Needs(k),
-        Stage::Refused(e) => Stage::Refused(e),
+        Stage::Needs(k) => Holding::Needs(k),
+        Stage::Refused(e) => Holding::Refused(e),
         Stage::Whole { version, len } => {
             if room - METADATA_PRELUDE_LEN < len {
-                return refused(refusal::STORE_SHORT);
+                return held::refused(refusal::STORE_SHORT);
             }
-            let end = METADATA_PRELUDE_LEN + len;
-            if end < held {
-                return refused(refusal::HELD_BEYOND);
-            }
-            if held < end {
-                return Stage::Needs(end - held);
-            }
-            Stage::Whole { version, len }
+            held::bounded(
+                refusal::STORE_SHORT,
+                room,
+                held,
+                METADATA_PRELUDE_LEN + len,
+                version,
+            )
         }
     }
-}
-
-// The refusal by 1 or 2, which are about no byte.
-fn refused(number: u32) -> Stage
-    ensures { λ r. ⌜ r ≡ Stage.Refused (refusal number 0) ⌝ }
-{
-    Stage::Refused(Refusal { number, place: 0 })
 }
 
 // The answer on held bytes, with the tables lent.
@@ -108,11 +96,10 @@ fn judge(
     ensures { λ r. ⌜ Judgement held (now (store .entry)) (now (sheet .entry)) (now (symbology .entry)) (now (layout .entry)) r (now (symbology .exit)) (now (layout .exit)) ⌝ }
 {
     match stage_of(held, store) {
-        Stage::Needs(n) => Answer::Needs(n),
-        Stage::Refused(e) => Answer::Refused(e),
-        Stage::Whole { version, len } => {
-            let end = METADATA_PRELUDE_LEN + len;
-            match block::read_block(version, &store[8..end], sheet, symbology, layout) {
+        Holding::Needs(n) => Answer::Needs(n),
+        Holding::Refused(e) => Answer::Refused(e),
+        Holding::Whole { len, kind: version } => {
+            match block::read_block(version, &store[8..len], sheet, symbology, layout) {
                 BlockAnswer::Read(f) => Answer::Done(f),
                 BlockAnswer::Refused(e) => Answer::Refused(e),
                 BlockAnswer::Short {
@@ -124,42 +111,5 @@ fn judge(
                 },
             }
         }
-    }
-}
-
-// Takes into the store what the present stage still needs, at most the piece, and answers how many bytes that is.
-fn pour(held: usize, store: &mut [u8], piece: &[u8]) -> usize
-    ensures { λ r. ⌜ (r ≡ poured held (now (store .entry)) (length (now (piece .entry)))) × (now (store .exit) ≡ paste (now (store .entry)) held (now (piece .entry)) r) ⌝ }
-{
-    let want = need(stage_of(held, store));
-    let there = piece.len();
-    if there < want {
-        copy(store, held, piece, there);
-        return there;
-    }
-    copy(store, held, piece, want);
-    want
-}
-
-// How many bytes a stage still needs.
-fn need(s: Stage) -> usize
-    ensures { λ r. ⌜ r ≡ needOf s ⌝ }
-{
-    match s {
-        Stage::Needs(n) => n,
-        Stage::Refused(_) => 0,
-        Stage::Whole { version: _, len: _ } => 0,
-    }
-}
-
-// Puts the first n bytes of the piece into the store, from place `at` on.
-fn copy(store: &mut [u8], at: usize, piece: &[u8], n: usize)
-    requires { ⌜ (n ≤ length (now store) - at) × (n ≤ length (now piece)) ⌝ }
-    ensures { λ _. ⌜ now (store .exit) ≡ paste (now (store .entry)) at (now (piece .entry)) n ⌝ }
-{
-    let mut j = 0;
-    while j < n {
-        store[at + j] = piece[j];
-        j += 1;
     }
 }

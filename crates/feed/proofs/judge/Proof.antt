@@ -3,22 +3,26 @@
 use borrow.Author.Needs.{needs}
 use native.Mathlib.Omega.{arith}
 use mathlib.Core.Path.{sym, ap, _∙_}
-use Rattle.feed.specs.Feeding.{blockSays, answerAt, symbologyAt, layoutAt}
-use Rattle.feed.specs.StageLaws.{is-whole, judged-whole}
+use Rattle.held.specs.StageLaws.{is-whole}
+use Rattle.feed.specs.Feeding.{start, blockSays, answerAt, symbologyAt, layoutAt}
+use Rattle.feed.specs.StageLaws.{start-law, judged-whole}
 use Rattle.feed.proofs.judge.Statement.{statement}
 use Rattle.feed.proofs.judge.Tie as tie
 
-add-end : tie.Need-add-end
-add-end c =
-    let args = c .before .before .before .before .before .before .before .args in
-    let w = is-whole (args .held) (args .store .now) _ _ (sym (c .before .before .before .stage-of .ensures) ∙ c .before .version .given .1) in
-    omega (arith, w)
+sub-read-block : tie.Need-sub-read-block
+sub-read-block c =
+    let w = is-whole start start-law (c .before .before .before .before .before .before .before .args .held) (c .before .before .before .before .before .before .before .args .store .now) _ _ (sym (c .before .before .before .stage-of .ensures) ∙ c .before .len .given .1) in
+    omega (arith, w .many, w .sum)
+
+part-read-block-start : tie.Need-part-read-block-start
+part-read-block-start c =
+    let w = is-whole start start-law (c .before .before .before .before .before .before .before .args .held) (c .before .before .before .before .before .before .before .args .store .now) _ _ (sym (c .before .before .before .stage-of .ensures) ∙ c .before .len .given .1) in
+    omega (arith, w .many, w .sum)
 
 part-read-block-end : tie.Need-part-read-block-end
 part-read-block-end c =
-    let args = c .before .before .before .before .before .before .before .args in
-    let w = is-whole (args .held) (args .store .now) _ _ (sym (c .before .before .before .stage-of .ensures) ∙ c .before .version .given .1) in
-    omega (arith, w)
+    let w = is-whole start start-law (c .before .before .before .before .before .before .before .args .held) (c .before .before .before .before .before .before .before .args .store .now) _ _ (sym (c .before .before .before .stage-of .ensures) ∙ c .before .len .given .1) in
+    omega (arith, w .room)
 
 returns : tie.Need-returns
 unfolding blockSays answerAt symbologyAt layoutAt
@@ -37,21 +41,21 @@ unfolding blockSays answerAt symbologyAt layoutAt
 returns-3 c =
     let a = c .before .before .before .before .before .before .before .before .before .before .before .before .before .before .before .before .before .before .args in
     judged-whole (a .held) (a .store .now) (a .sheet .now) (a .symbology .now) (a .layout .now) _ _ _ _ _ _
-    (sym (c .before .before .before .before .before .before .before .before .before .before .before .before .before .before .stage-of .ensures) ∙ c .before .before .before .before .before .before .before .before .before .before .before .before .version .given .1) (c .before .before .before .before .before .before .before .read-block .ensures) (sym (ap blockSays (c .before .f .given .1)))
+    (sym (c .before .before .before .before .before .before .before .before .before .before .before .before .before .before .stage-of .ensures) ∙ c .before .before .before .before .before .before .before .before .before .before .before .before .len .given .1) (c .before .before .before .before .before .before .before .read-block .ensures) (sym (ap blockSays (c .before .f .given .1)))
 
 returns-4 : tie.Need-returns-4
 unfolding blockSays answerAt symbologyAt layoutAt
 returns-4 c =
     let a = c .before .before .before .before .before .before .before .before .before .before .before .before .before .before .before .before .before .before .args in
     judged-whole (a .held) (a .store .now) (a .sheet .now) (a .symbology .now) (a .layout .now) _ _ _ _ _ _
-    (sym (c .before .before .before .before .before .before .before .before .before .before .before .before .before .before .stage-of .ensures) ∙ c .before .before .before .before .before .before .before .before .before .before .before .before .version .given .1) (c .before .before .before .before .before .before .before .read-block .ensures) (sym (ap blockSays (c .before .e2 .given .1)))
+    (sym (c .before .before .before .before .before .before .before .before .before .before .before .before .before .before .stage-of .ensures) ∙ c .before .before .before .before .before .before .before .before .before .before .before .before .len .given .1) (c .before .before .before .before .before .before .before .read-block .ensures) (sym (ap blockSays (c .before .e2 .given .1)))
 
 returns-5 : tie.Need-returns-5
 unfolding blockSays answerAt symbologyAt layoutAt
 returns-5 c =
     let a = c .before .before .before .before .before .before .before .before .before .before .before .before .before .before .before .before .before .before .args in
     judged-whole (a .held) (a .store .now) (a .sheet .now) (a .symbology .now) (a .layout .now) _ _ _ _ _ _
-    (sym (c .before .before .before .before .before .before .before .before .before .before .before .before .before .before .stage-of .ensures) ∙ c .before .before .before .before .before .before .before .before .before .before .before .before .version .given .1) (c .before .before .before .before .before .before .before .read-block .ensures) (sym (ap blockSays (c .before .s .given .1)))
+    (sym (c .before .before .before .before .before .before .before .before .before .before .before .before .before .before .stage-of .ensures) ∙ c .before .before .before .before .before .before .before .before .before .before .before .before .len .given .1) (c .before .before .before .before .before .before .before .read-block .ensures) (sym (ap blockSays (c .before .s .given .1)))
 
 pub judge-spec : {M : Type 1} → statement M
 judge-spec =
@@ -61,9 +65,8 @@ judge-spec =
     (λ c. search needs)
     (λ c. search needs)
     (λ c. search needs)
-    add-end
-    (λ c. search needs)
-    (λ c. search needs)
+    sub-read-block
+    part-read-block-start
     part-read-block-end
     (λ c κs. search needs)
     (λ c. search needs)

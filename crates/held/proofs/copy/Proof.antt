@@ -7,8 +7,8 @@ use Prim.Native.Nat.{_+_, _-_, _≤_}
 use mathlib.Core.Path.{_≡_, refl, ap, _∙_}
 use lib.ListN.{length, getD, set, length-set}
 use lib.Seq.{paste, paste-zero, paste-suc}
-use Rattle.feed.proofs.copy.Statement.{statement}
-use Rattle.feed.proofs.copy.Tie as tie
+use Rattle.held.proofs.copy.Statement.{statement}
+use Rattle.held.proofs.copy.Tie as tie
 
 abbrev Inv-loop : tie.InvT-loop
 Inv-loop store₀ at piece n j₀ store j = (j ≤ n) × ((length store ≡ length store₀) × (store ≡ paste store₀ at piece j))

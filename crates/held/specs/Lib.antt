@@ -1,0 +1,10 @@
+pub mod Held
+pub mod StageLaws
+pub mod RefusalLaws
+pub mod NeededLaws
+pub mod BytewiseLaws
+pub mod PieceLaws
+pub mod AloneLaws
+pub mod LeastLaws
+pub mod NeverPastLaws
+pub mod Single
