@@ -9,5 +9,6 @@ pub mod Places
 pub mod NotHollow
 pub mod TableP
 pub mod Demand2
+pub mod StartThenFrames
 pub mod WriterAccepts
 pub mod Witnesses

@@ -162,3 +162,8 @@ pub const SECTION_LARGE: u32 = 94;
 pub const LABELS_NOT_RISING: u32 = 95;
 
 pub const OUTPUT_SHORT: u32 = 96;
+
+// The frames.
+pub const FRAME_LENGTH: u32 = 100;
+
+pub const FRAME_STORE_SHORT: u32 = 101;
