@@ -1,4 +1,5 @@
-/* The start of DBN streams: C functions of the library dbn_c, for C99 and C++11. examples/c has a program that calls them.
+/* The start of DBN streams, and the records after it in versions 1 to 3: C functions of the library dbn_c, for C99 and C++11. examples/c
+ * has a program that calls them.
  *
  * Answers. Every function answers a refusal number, 0 for accepted, unless it says yes or no. dbn_sentence tells a number in words.
  *
@@ -14,13 +15,14 @@
  *
  * What is written. Rows past the last one, output past the written length and the store past the bytes held are untouched. `out` is
  * written only as said here, and what is not named keeps its value. A refusal leaves tables and output as they were; only the
- * store of dbn_feed keeps the bytes it took, and a refusal by 3 tells the rows needed.
+ * store of dbn_feed and of dbn_frame keeps the bytes it took, and a refusal by 3 tells the rows needed.
  *
  * Names. A dataset or symbol comes without the NULs that fill its width, and holds none: after a NUL only NULs may follow. One that is as
  * long as its width has no NUL after it, so go by its length and not to the next NUL. A layout's names hold no NUL, and one follows each.
  *
  * Stack, in bytes that a call needs at the most:
- *     dbn_text, dbn_date, dbn_prelude, dbn_symbology_name, dbn_layout_name     4 KiB
+ *     dbn_text, dbn_date, dbn_prelude, dbn_symbology_name, dbn_layout_name,
+ *     dbn_frame                                                                4 KiB
  *     dbn_block, dbn_feed, dbn_layout, dbn_write_layout                       32 KiB
  *     the same for a layout of more than 4,096 structs, or with a record
  *     or struct whose fields stand far from the order of their offsets       320 KiB
@@ -41,7 +43,7 @@
 
 /* The version of this header, major x 10000 + minor x 100 + patch. */
 #define DBN_START_VERSION_MAJOR 0
-#define DBN_START_VERSION_MINOR 5
+#define DBN_START_VERSION_MINOR 6
 #define DBN_START_VERSION_PATCH 0
 #define DBN_START_VERSION (DBN_START_VERSION_MAJOR * 10000 + DBN_START_VERSION_MINOR * 100 + DBN_START_VERSION_PATCH)
 
@@ -52,7 +54,7 @@ extern "C" {
 /* The refusals: name, number and sentence. The names come out as DBN_REFUSED_MAGIC and so on. Number 70 (names and fields differ in
  * number) is retired: it never came, and it is not used again. */
 #define DBN_REFUSALS(X) \
-    X(HELD_BEYOND, 1, "more bytes are held than the store or the whole block has")                 \
+    X(HELD_BEYOND, 1, "more bytes are held than the store, the whole block or the record has")     \
     X(STORE_SHORT, 2, "the store is too short for the prelude or for the block")                   \
     X(TABLE_SHORT, 3, "a row table is too short")                                                  \
     X(MAGIC, 10, "the stream does not begin with DBN")                                             \
@@ -115,14 +117,16 @@ extern "C" {
     X(NAME_TEXT, 93, "a name holds a NUL or is not UTF-8")                                         \
     X(SECTION_LARGE, 94, "a section is over 65535 bytes, or the layout over 4,294,967,295")        \
     X(LABELS_NOT_RISING, 95, "label codes do not rise")                                            \
-    X(OUTPUT_SHORT, 96, "the output is too short")
+    X(OUTPUT_SHORT, 96, "the output is too short")                                                 \
+    X(FRAME_LENGTH, 100, "a record's length is below 16 bytes")                                    \
+    X(FRAME_STORE_SHORT, 101, "the store is too short for a record's header or for the record")
 
 enum dbn_refusal {
     DBN_ACCEPTED = 0,
 #define DBN_NAMED(name, number, sentence) DBN_REFUSED_##name = number,
     DBN_REFUSALS(DBN_NAMED)
 #undef DBN_NAMED
-    DBN_REFUSED_LAST = DBN_REFUSED_OUTPUT_SHORT
+    DBN_REFUSED_LAST = DBN_REFUSED_FRAME_STORE_SHORT
 };
 
 /* What a number says, in a few words. */
@@ -208,6 +212,11 @@ enum dbn_out {
 enum dbn_prelude_out { DBN_PRELUDE_MISSING = 0, DBN_PRELUDE_VERSION = 1, DBN_PRELUDE_LENGTH = 2, DBN_PRELUDE_PLACE = 3 };
 enum dbn_write_out { DBN_WRITE_LENGTH = 0 };
 enum dbn_name_out { DBN_NAME_START = 0, DBN_NAME_LENGTH = 1 };
+enum dbn_frame_out { DBN_FRAME_TAKEN = 0, DBN_FRAME_HELD = 1, DBN_FRAME_NEEDED = 2, DBN_FRAME_LENGTH = 3, DBN_FRAME_RTYPE = 4 };
+
+/* The bytes of a record's header, which are the fewest that a record has, and the most that one has. A store of DBN_FRAME_MOST bytes is never
+ * refused by 101. */
+enum dbn_frame_size { DBN_FRAME_HEADER = 16, DBN_FRAME_MOST = 1020 };
 
 /* Which fields a block has. What is absent has the value 0. */
 enum dbn_present { DBN_HAS_SCHEMA = 1, DBN_HAS_END = 2, DBN_HAS_LIMIT = 4, DBN_HAS_STYPE_IN = 8 };
@@ -250,6 +259,17 @@ uint32_t dbn_block(uint8_t version, const uint8_t *block, size_t n, const uint16
  * below 8 + block length; a call with a longer store that begins with the same bytes goes on, and so does one with longer tables after 3. */
 uint32_t dbn_feed(uint64_t held, uint8_t *store, size_t storelen, const uint8_t *piece, size_t n, const uint16_t sheet[520],
                   uint32_t *symbology, size_t sn, uint32_t *layout, size_t ln, uint64_t out[20]);
+
+/* Feeds a piece of the records after the start of a stream below version 4, after the first `held` bytes of the store, which are those of a begun
+ * record: 0 at the start and after each record. A record has 4 times as many bytes as its first byte says, its header of 16 among them; its second
+ * byte is its rtype. What is still needed is taken, to 16 below 16 held, then to the record's end, both in one call where the piece has them. Always:
+ * out[DBN_FRAME_TAKEN] is the count taken, out[DBN_FRAME_HELD] the count then held, out[DBN_FRAME_NEEDED] the count still needed, 0 with
+ * a record or a refusal. A record is 0 with nothing needed: the first out[DBN_FRAME_LENGTH] bytes of the store, and out[DBN_FRAME_RTYPE] is
+ * its rtype. Then call again with held 0 and what was not taken. Held bytes that are a whole record, or are refused, take nothing.
+ * Refused in this order: 1 for a held count beyond the store, 101 for a store below 16; with 16 held 100, 101 for a store below the record, 1
+ * for a held count beyond the record. A refusal ends the records, as the next one's start is unknown; after 101 a call with a longer
+ * store that begins with the same bytes goes on. Records of version 4 are left to the caller. */
+uint32_t dbn_frame(uint64_t held, uint8_t *store, size_t storelen, const uint8_t *piece, size_t n, uint64_t out[5]);
 
 /* Reads a layout given with a symbol width, its rows into the table of rn numbers. 0: out[DBN_OUT_LAYOUT_VERSION] is the layout's version,
  * out[DBN_OUT_LAYOUT_ROWS] the rows. 3: out[DBN_OUT_LAYOUT_ROWS] is the rows needed. 50 to 55: out[DBN_OUT_PLACE] is the place in the layout. */

@@ -1,4 +1,4 @@
-/* start [FILE]: shows the start of a DBN stream below version 4, from a file or from standard input.
+/* start [FILE]: shows the start of a DBN stream below version 4 and counts its records, from a file or from standard input.
  *
  * Exit status: 0 accepted, 1 refused or cut short, 2 a file that cannot be opened or read, or no memory.
  * After relay/build-lib this line builds it:
@@ -121,7 +121,7 @@ static void show(const struct start *s) {
     }
 }
 
-/* Tells why a start is refused, and at which byte where the number has a place. */
+/* Tells why a start or a record is refused, and at which byte where the number has a place. */
 static void refused(uint32_t number, uint64_t place) {
     fprintf(stderr, "start: refused by %u", (unsigned)number);
     if (dbn_has_place(number)) {
@@ -131,7 +131,43 @@ static void refused(uint32_t number, uint64_t place) {
     fprintf(stderr, ": %s\n", dbn_sentence(number));
 }
 
-/* Reads what the start needs and no byte more, so that the records stay in the file. */
+/* Tells that the stream has no more bytes, or cannot be read; answers the status. */
+static int ended(FILE *file, uint64_t needed) {
+    if (ferror(file)) {
+        fprintf(stderr, "start: the stream cannot be read\n");
+        return 2;
+    }
+    fprintf(stderr, "start: the stream ends %llu bytes too early\n", (unsigned long long)needed);
+    return 1;
+}
+
+/* Reads the records to the end of the stream and counts them. The store has room for the longest one. */
+static int records(FILE *file) {
+    uint8_t piece[4096], store[DBN_FRAME_MOST];
+    uint64_t out[5] = {0}, held = 0, count = 0, bytes = 0;
+    uint32_t number = DBN_ACCEPTED;
+    size_t n;
+    while (number == DBN_ACCEPTED && (n = fread(piece, 1, sizeof piece, file)) > 0) {
+        for (size_t at = 0; number == DBN_ACCEPTED && at < n; at += (size_t)out[DBN_FRAME_TAKEN]) {
+            number = dbn_frame(held, store, sizeof store, piece + at, n - at, out);
+            held = out[DBN_FRAME_HELD];
+            if (number == DBN_ACCEPTED && out[DBN_FRAME_NEEDED] == 0) {
+                count++; /* the record is the first out[DBN_FRAME_LENGTH] bytes of the store */
+                bytes += out[DBN_FRAME_LENGTH];
+                held = 0;
+            }
+        }
+    }
+    printf("%llu records, %llu bytes\n", (unsigned long long)count, (unsigned long long)bytes);
+    fflush(stdout);
+    if (number != DBN_ACCEPTED) {
+        refused(number, 0);
+        return 1;
+    }
+    return held > 0 || ferror(file) ? ended(file, out[DBN_FRAME_NEEDED]) : 0;
+}
+
+/* Reads what the start needs and no byte more, so that the records stay in the file; then the records. */
 static int run(FILE *file, struct start *s) {
     uint8_t piece[4096];
     uint32_t number = feed_all(s, NULL, 0);
@@ -139,12 +175,7 @@ static int run(FILE *file, struct start *s) {
         uint64_t needed = s->out[DBN_OUT_NEEDED];
         size_t n = fread(piece, 1, needed < sizeof piece ? (size_t)needed : sizeof piece, file);
         if (n == 0) {
-            if (ferror(file)) {
-                fprintf(stderr, "start: the stream cannot be read\n");
-                return 2;
-            }
-            fprintf(stderr, "start: the stream ends %llu bytes too early\n", (unsigned long long)needed);
-            return 1;
+            return ended(file, needed);
         }
         number = feed_all(s, piece, n);
     }
@@ -153,7 +184,7 @@ static int run(FILE *file, struct start *s) {
         return 1;
     }
     show(s);
-    return 0;
+    return records(file);
 }
 
 int main(int argc, char **argv) {

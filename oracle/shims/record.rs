@@ -1,4 +1,4 @@
-// STAND-IN: record.rs is given, but leans on seven missing modules and the macro crate; records are out of scope.
+// STAND-IN: record.rs is given, but leans on seven missing modules and the macro crate. What records hold is out of scope.
 use crate::{v3, Error, Result};
 use std::marker::PhantomData;
 /// record.rs, RecordHeader: the same fields and widths (16 bytes).
@@ -14,6 +14,7 @@ pub trait RecordHeaderKind: Sized + Copy + std::fmt::Debug + 'static {
 impl RecordHeaderKind for RecordHeader {
     type RType = u8;
     const HEADER_LEN: usize = 16;
+    /// A guess of the missing text: record.rs says that the length is in 32-bit words, and fsm.rs that this can refuse.
     fn frame_len(data: &[u8]) -> Result<usize> {
         let n = data[0] as usize * 4;
         if n < 16 { Err(Error::decode("record shorter than its header")) } else { Ok(n) }
@@ -41,7 +42,7 @@ pub struct WithTsOut<T: HasRType> { pub rec: T, pub ts_out: u64 }
 impl<T: HasRType> WithTsOut<T> { pub fn new(rec: T, ts_out: u64) -> Self { Self { rec, ts_out } } }
 impl<T: HasRType> AsRef<[u8]> for WithTsOut<T> { fn as_ref(&self) -> &[u8] { unsafe { as_u8_slice(self) } } }
 pub(crate) unsafe fn as_u8_slice<T: Sized>(t: &T) -> &[u8] { std::slice::from_raw_parts((t as *const T).cast(), size_of::<T>()) }
-/// Stands for every versioned message type; never reached by metadata decoding.
+/// Stands for every versioned message type; never reached by metadata, nor by records that are decoded as stored.
 #[derive(Debug, Clone)]
 #[repr(C)]
 pub struct DummyMsg { pub hd: RecordHeader }

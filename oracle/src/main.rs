@@ -3,6 +3,7 @@ mod after_nul;
 mod aimed;
 mod bench;
 mod compare;
+mod frames;
 mod of_crate;
 mod ours;
 #[cfg(test)]
@@ -26,8 +27,10 @@ fn main() {
         Some("compare") => {
             // The crate's panics are answers here.
             std::panic::set_hook(Box::new(|_| {}));
-            let good = compare::run(number(1, 20_000), number(2, 1)).print();
-            std::process::exit(if good { 0 } else { 1 });
+            let (inputs, seed) = (number(1, 20_000), number(2, 1));
+            let starts = compare::run(inputs, seed).print();
+            let frames = frames::run(inputs, seed).print();
+            std::process::exit(if starts && frames { 0 } else { 1 });
         }
         Some("sample") => {
             std::panic::set_hook(Box::new(|_| {}));

@@ -7,7 +7,7 @@ use crate::{
 };
 
 /// Numbers to tell a write by.
-fn marks<const N: usize>(r: &mut Rng) -> [u64; N] {
+pub fn marks<const N: usize>(r: &mut Rng) -> [u64; N] {
     [0; N].map(|_| r.next() | 1)
 }
 

@@ -1,40 +1,61 @@
-//! tcp ADDRESS: reads the start of a DBN stream from a TCP socket, and leaves the records in it.
+//! tcp ADDRESS: reads the start of a DBN stream below version 4 and its records from a TCP socket, and counts the records.
 //!
 //! `tcp --serve FILE` sends a file instead, in small pieces, to whoever connects first; it prints the address to connect to.
-use dbn_start::{Feed, Limits, Step};
+use dbn_start::{Feed, Frames, Limits, Step};
 use std::{
     error::Error,
-    io::{self, Read, Write},
+    io::{Read, Write},
     net::{TcpListener, TcpStream},
     process::ExitCode,
     time::Duration,
 };
 
-/// Reads a stream's start. No byte past it leaves the socket.
-fn start(socket: &mut TcpStream) -> Result<Feed, Box<dyn Error>> {
-    // A version 4 stream also wants a type sheet: Feed::new(limits).with_sheet(sheet).
-    let mut feed = Feed::new(Limits { bytes: 1 << 20, rows: 1 << 16 });
-    let mut buffer = [0; 4096];
-    while let Step::Needs(needed) = feed.step()? {
-        match socket.read(&mut buffer[..needed.min(4096)])? {
-            0 => return Err(format!("the other side closed {needed} bytes before the end of the start").into()),
-            n => feed.feed(&buffer[..n])?,
-        };
-    }
-    Ok(feed)
+/// Records by their rtype, and how many bytes they have.
+struct Count {
+    by_rtype: [u64; 256],
+    bytes: usize,
 }
 
-/// Reads a start from an address, then counts what follows it.
+/// Reads a stream to its end. Bytes past its start, in the same buffer, are the first ones of its records.
+fn stream(socket: &mut TcpStream) -> Result<(Feed, Frames, Count), Box<dyn Error>> {
+    // A version 4 stream also wants a type sheet: Feed::new(limits).with_sheet(sheet). Its records are not for Frames.
+    let mut feed = Feed::new(Limits { bytes: 1 << 20, rows: 1 << 16 });
+    let (mut frames, mut count) = (Frames::new(), Count { by_rtype: [0; 256], bytes: 0 });
+    let mut buffer = [0; 4096];
+    loop {
+        let length = socket.read(&mut buffer)?;
+        if length == 0 {
+            break;
+        }
+        let taken = feed.feed(&buffer[..length])?.taken;
+        let mut rest = &buffer[taken..length];
+        while let Some(frame) = frames.next(&mut rest)? {
+            count.by_rtype[frame[1] as usize] += 1;
+            count.bytes += frame.len();
+        }
+    }
+    match feed.step()? {
+        Step::Done => Ok((feed, frames, count)),
+        Step::Needs(n) => Err(format!("the other side closed {n} bytes before the end of the start").into()),
+    }
+}
+
+/// Reads a stream from an address, and prints its start and a count of its records.
 fn read(address: &str) -> Result<(), Box<dyn Error>> {
     let mut socket = TcpStream::connect(address)?;
     socket.set_read_timeout(Some(Duration::from_secs(10)))?;
-    let feed = start(&mut socket)?;
+    let (feed, frames, count) = stream(&mut socket)?;
     let block = feed.block().expect("a feed that needs nothing has a block");
     let intervals = block.mappings().flat_map(|mapping| mapping.intervals()).count();
     println!("{}, version {}: {} bytes of start", block.dataset(), block.version(), feed.held().len());
     println!("{} mappings, {intervals} intervals", block.mappings().count());
-    let records = io::copy(&mut socket, &mut io::sink())?;
-    println!("{records} bytes of records");
+    println!("{} records, {} bytes", count.by_rtype.iter().sum::<u64>(), count.bytes);
+    for (rtype, records) in count.by_rtype.iter().enumerate().filter(|(_, &records)| records > 0) {
+        println!("rtype {rtype}: {records}");
+    }
+    if !frames.held().is_empty() {
+        println!("{} bytes of a record that is cut short", frames.held().len());
+    }
     Ok(())
 }
 

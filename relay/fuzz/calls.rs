@@ -101,6 +101,23 @@ pub fn feed(
     }
 }
 
+/// What a call for a record left.
+#[derive(Debug, Clone, PartialEq)]
+pub struct FrameAnswer {
+    pub number: u32,
+    pub out: [u64; 5],
+    pub store: Vec<u8>,
+}
+
+pub fn frame(held: u64, store: &[u8], piece: &[u8], out: &[u64; 5]) -> FrameAnswer {
+    let (bytes, mut kept, mut values) = (Lent::new(piece), Lent::new(store), Lent::new(out));
+    // SAFETY: every pointer is to a buffer of the given length, and no two overlap.
+    let number =
+        unsafe { ffi::dbn_frame(held, kept.at_mut(), store.len(), bytes.at(), piece.len(), values.at_mut().cast()) };
+    bytes.unchanged("the piece", piece);
+    FrameAnswer { number, out: values.content("out").try_into().unwrap(), store: kept.content("the store").to_vec() }
+}
+
 /// A reading of a layout.
 #[derive(Debug, Clone, PartialEq)]
 pub struct LayoutAnswer {

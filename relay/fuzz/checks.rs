@@ -5,18 +5,18 @@ use super::{
     texts, Count,
 };
 
-/// A table or output full of marks, so that a write shows.
-fn marked<T>(r: &mut Rng, length: usize, mark: impl Fn(u64) -> T) -> Vec<T> {
+/// A table, store or output full of marks, so that a write shows.
+pub fn marked<T>(r: &mut Rng, length: usize, mark: impl Fn(u64) -> T) -> Vec<T> {
     (0..length).map(|_| mark(r.next())).collect()
 }
 
-fn marked_out<const N: usize>(r: &mut Rng) -> [u64; N] {
+pub fn marked_out<const N: usize>(r: &mut Rng) -> [u64; N] {
     [0; N].map(|_| r.next() | 1)
 }
 
 /// Counts an answer: 0 with nothing needed, 0 with bytes needed, or a refusal, whose number must be of the table.
-fn tell(count: &mut Count, number: u32, needed: u64) {
-    let table = [0..=3, 10..=13, 20..=45, 50..=55, 60..=64, 71..=83, 90..=96];
+pub fn tell(count: &mut Count, number: u32, needed: u64) {
+    let table = [0..=3, 10..=13, 20..=45, 50..=55, 60..=64, 71..=83, 90..=96, 100..=101];
     assert!(table.iter().any(|numbers| numbers.contains(&number)), "{number} is no number of the table");
     count.calls += 1;
     match (number, needed) {

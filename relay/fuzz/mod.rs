@@ -4,9 +4,10 @@
 //! and output as they were, and `out` too but for what is named; it has a place where its number has one, within what was given; the answer is the
 //! same however a stream is cut; the count needed is the least that ends the stage; a block, its stream and its layout get the
 //! same answer; names lie within the bytes and hold no NUL, and the rest of their width is NULs, or the text is refused; what is read is
-//! written back, and what is written is read back.
+//! written back, and what is written is read back; records stand one after the other, each as long as its first byte says.
 pub mod calls;
 mod checks;
+mod frames;
 pub mod gen;
 mod texts;
 
@@ -48,9 +49,10 @@ pub fn run(first: u64, end: u64, seed: u64) -> Count {
             1 => gen::Sheet::random(&mut r),
             _ => gen::plain_sheet(),
         };
-        match r.below(8) {
+        match r.below(9) {
             0..=3 => checks::stream(&mut r, &sheet, &mut count),
             4..=6 => checks::layout(&mut r, &sheet, &mut count),
+            7 => frames::records(&mut r, &mut count),
             _ => checks::anything(&mut r, &sheet, &mut count),
         }
         count.inputs += 1;

@@ -1,5 +1,6 @@
 //! What the benchmarks measure, and with which clock. The package's own benchmark and the oracle's each use a part.
 #![allow(dead_code)]
+pub mod frames;
 pub mod shapes;
 
 use std::hint::black_box;
@@ -33,6 +34,18 @@ pub fn beside<A, B>(mut one: impl FnMut() -> A, mut two: impl FnMut() -> B) -> (
         times_two.push(sample(&mut two, inner_two));
     }
     (median(times_one), median(times_two))
+}
+
+/// Medians of the time of each of some pieces of work, which take turns.
+pub fn in_turn<const N: usize>(mut works: [&mut dyn FnMut(); N]) -> [f64; N] {
+    let inner = works.each_mut().map(turns);
+    let mut times = [const { Vec::new() }; N];
+    for _ in 0..101 {
+        for ((work, inner), times) in works.iter_mut().zip(inner).zip(&mut times) {
+            times.push(sample(work, inner));
+        }
+    }
+    times.map(median)
 }
 
 /// The median of the time of a piece of work.

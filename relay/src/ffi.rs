@@ -13,6 +13,12 @@ pub const PLACE: usize = 13;
 /// The same in `out` of [`dbn_prelude`].
 pub const PRELUDE_PLACE: usize = 3;
 
+/// The bytes of a record's header, which are the fewest that a record has.
+pub const FRAME_HEADER: usize = 16;
+
+/// The most bytes that a record has. A store of so many is never refused by 101.
+pub const FRAME_MOST: usize = 1020;
+
 extern "C" {
     /// Whether the bytes are UTF-8.
     pub fn dbn_text(s: *const u8, n: usize) -> u32;
@@ -55,6 +61,11 @@ extern "C" {
         ln: usize,
         out: *mut [u64; 20],
     ) -> u32;
+
+    /// Always: `out[0]` taken, `out[1]` held, `out[2]` needed (0 with a record or a refusal).
+    /// 0 with nothing needed: a record, `out[3]` its length and `out[4]` its rtype. 100, 101 and 1: refused.
+    pub fn dbn_frame(held: u64, store: *mut u8, storelen: usize, piece: *const u8, n: usize, out: *mut [u64; 5])
+        -> u32;
 
     /// 0: `out[9]` layout version, `out[11]` rows. 3: `out[11]`. 50 to 55: `out[13]` is the place.
     pub fn dbn_layout(

@@ -1,8 +1,8 @@
-//! The start of a DBN stream: prelude, metadata, symbology and layout, read by proved code.
+//! The start of a DBN stream: prelude, metadata, symbology and layout, and the records after it in versions 1 to 3, read by proved code.
 //!
 //! The reading itself is done by the C functions of the library `dbn_c` ([`ffi`]), whose promises are proved. This package lends
-//! them their buffers and gives back names as parts of the caller's own bytes. [`Feed`] takes a stream in pieces,
-//! [`Block`] and [`Layout`] take what is already whole, and [`Refusal`] tells what was refused, and at which byte.
+//! them their buffers and gives back names as parts of the caller's own bytes. [`Feed`] takes a stream's start in pieces
+//! and [`Frames`] the records after it, [`Block`] and [`Layout`] take what is already whole, and [`Refusal`] tells what was refused, and at which byte.
 //!
 //! Nothing here stands in for what is missing: where the library broke its promise, the call panics and says which promise.
 #![warn(missing_docs)]
@@ -18,6 +18,7 @@ struct Readme;
 mod block;
 mod feed;
 pub mod ffi;
+mod frames;
 mod layout;
 mod refusal;
 mod sheet;
@@ -25,6 +26,7 @@ mod tables;
 
 pub use block::{Block, Fields, Interval, Mapping};
 pub use feed::{Fed, Feed, Step};
+pub use frames::Frames;
 pub use layout::{check_layout_plain, write_layout, Field, Label, LabelDef, Layout, RecordLayout, StructLayout};
 pub use refusal::{Refusal, RefusalKind};
 pub use sheet::{Sheet, SheetIds};

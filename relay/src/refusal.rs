@@ -7,7 +7,7 @@ macro_rules! refusals {
         /// What is refused, by name. [`RefusalKind::number`] is the number of the table of refusals, and
         /// [`RefusalKind::sentence`] says it in a few words. `docs/REFUSALS.md` has a page on all of them.
         ///
-        /// Numbers below 100 are the library's, as `include/dbn_start.h` lists them; 70 is retired. Those from 200 on are this package's own.
+        /// Numbers below 200 are the library's, as `include/dbn_start.h` lists them; 70 is retired. Those from 200 on are this package's own.
         #[derive(Debug, Clone, Copy, PartialEq, Eq, PartialOrd, Ord, Hash)]
         #[non_exhaustive]
         #[repr(u32)]
@@ -33,7 +33,7 @@ macro_rules! refusals {
 }
 
 refusals! {
-    HeldBeyond 1 "more bytes are held than the store or the whole block has"
+    HeldBeyond 1 "more bytes are held than the store, the whole block or the record has"
     StoreShort 2 "the store is too short for the prelude or for the block"
     TableShort 3 "a row table is too short"
     Magic 10 "the stream does not begin with DBN"
@@ -97,6 +97,8 @@ refusals! {
     SectionLarge 94 "a section is over 65535 bytes, or the layout over 4,294,967,295"
     LabelsNotRising 95 "label codes do not rise"
     OutputShort 96 "the output is too short"
+    FrameLength 100 "a record's length is below 16 bytes"
+    FrameStoreShort 101 "the store is too short for a record's header or for the record"
     NoSheet 200 "a version 4 stream, and no type sheet was given to judge its layout by"
     NoMemory 201 "the system has no memory for the bytes or the rows"
 }
@@ -206,7 +208,7 @@ mod tests {
 
     #[test]
     fn every_number_of_the_table_has_one_name_and_one_sentence() {
-        let ranges = [1..=3, 10..=13, 20..=45, 50..=55, 60..=64, 71..=83, 90..=96, 200..=201];
+        let ranges = [1..=3, 10..=13, 20..=45, 50..=55, 60..=64, 71..=83, 90..=96, 100..=101, 200..=201];
         let numbers: Vec<u32> = ranges.into_iter().flatten().collect();
         assert_eq!(RefusalKind::ALL.iter().map(|kind| kind.number()).collect::<Vec<_>>(), numbers);
         assert!(RefusalKind::ALL

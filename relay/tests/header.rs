@@ -22,7 +22,7 @@ fn listed() -> Vec<(String, u32, String)> {
 
 #[test]
 fn the_header_lists_every_refusal_of_the_library() {
-    let own = RefusalKind::ALL.iter().filter(|kind| kind.number() < 100);
+    let own = RefusalKind::ALL.iter().filter(|kind| kind.number() < 200);
     let own: Vec<_> = own.map(|r| (format!("{r:?}"), r.number(), r.sentence().to_string())).collect();
     let listed: Vec<_> = listed().into_iter().map(|(name, number, text)| (as_in_rust(&name), number, text)).collect();
     assert_eq!(listed, own);
@@ -46,6 +46,22 @@ fn places_stand_where_the_header_says() {
     assert!(HEADER.contains("(number >= 10 && number <= 12) || (number >= 20 && number <= 55)"));
     let placed = |number: u32| (10..=12).contains(&number) || (20..=55).contains(&number);
     assert!(RefusalKind::ALL.iter().all(|kind| kind.has_place() == placed(kind.number())));
+}
+
+#[test]
+fn records_are_told_as_the_header_says() {
+    for (name, number) in [("DBN_FRAME_HEADER", ffi::FRAME_HEADER), ("DBN_FRAME_MOST", ffi::FRAME_MOST)] {
+        assert!(HEADER.contains(&format!("{name} = {number}")), "{name}");
+    }
+    for (place, name) in ["TAKEN", "HELD", "NEEDED", "LENGTH", "RTYPE"].into_iter().enumerate() {
+        assert!(HEADER.contains(&format!("DBN_FRAME_{name} = {place}")), "{name}");
+    }
+}
+
+#[test]
+fn the_last_refusal_of_the_header_is_the_last_of_the_library() {
+    let (name, ..) = listed().pop().expect("a refusal");
+    assert!(HEADER.contains(&format!("DBN_REFUSED_LAST = DBN_REFUSED_{name}\n")), "{name}");
 }
 
 #[test]

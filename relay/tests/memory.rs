@@ -1,5 +1,5 @@
-//! What a feed takes of the machine: it grows with what arrives, stays below the stated bound, and is told where there is none.
-use dbn_start::{Feed, Limits, Refusal, RefusalKind, Step};
+//! What a feed takes of the machine: it grows with what arrives, stays below the stated bound, and is told where there is none. Records take nothing.
+use dbn_start::{Feed, Frames, Limits, Refusal, RefusalKind, Step};
 use std::{
     alloc::{GlobalAlloc, Layout, System},
     cell::Cell,
@@ -139,4 +139,19 @@ fn a_feed_that_begins_anew_takes_no_more() {
         }
     });
     assert_eq!(took, 0);
+}
+
+#[test]
+fn records_take_no_memory() {
+    let record = [255; 1_020];
+    let (frames, took) = most(|| {
+        let (mut frames, mut count) = (Frames::new(), 0);
+        for mut piece in std::iter::repeat_n(&record, 1_000).flat_map(|record| record.chunks(700)) {
+            while frames.next(&mut piece).expect("a record").is_some() {
+                count += 1;
+            }
+        }
+        count
+    });
+    assert_eq!((frames, took), (1_000, 0));
 }

@@ -29,6 +29,9 @@ fn every_function_takes_null_at_length_0() {
         let (number, store) = (ffi::dbn_feed, null_mut());
         assert_eq!(number(0, store, 0, null(), 0, sheet, null_mut(), 0, null_mut(), 0, &mut fed), 2);
         assert_eq!(fed[16..19], [0, 0, 0]);
+        let mut told = [7; 5];
+        assert_eq!((ffi::dbn_frame(0, null_mut(), 0, null(), 0, &mut told), told), (101, [0, 0, 0, 7, 7]));
+        assert_eq!((ffi::dbn_frame(9, null_mut(), 0, null(), 0, &mut told), told), (1, [0, 9, 0, 7, 7]));
     }
 }
 
@@ -57,4 +60,16 @@ fn null_tables_are_enough_where_there_are_no_rows() {
         assert_eq!((number, &fed[16..19]), (0, &[0, held, 0][..]));
     }
     assert_eq!(store, stream);
+}
+
+#[test]
+fn a_null_piece_is_enough_where_a_record_is_held() {
+    let (mut store, mut out) = ([5; 20], [7; 5]);
+    // SAFETY: the store is a buffer of the given length, and the piece has length 0.
+    unsafe {
+        assert_eq!((ffi::dbn_frame(0, store.as_mut_ptr(), 20, null(), 0, &mut out), out), (0, [0, 0, 16, 7, 7]));
+        assert_eq!((ffi::dbn_frame(16, store.as_mut_ptr(), 20, null(), 0, &mut out), out), (0, [0, 16, 4, 7, 7]));
+        assert_eq!((ffi::dbn_frame(20, store.as_mut_ptr(), 20, null(), 0, &mut out), out), (0, [0, 20, 0, 20, 5]));
+    }
+    assert_eq!(store, [5; 20]);
 }

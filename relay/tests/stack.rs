@@ -5,7 +5,7 @@ mod common;
 #[path = "../measure/shapes.rs"]
 mod shapes;
 
-use dbn_start::{check_layout_plain, ffi, is_date, is_text, prelude, write_layout, Layout, Sheet, Tables};
+use dbn_start::{check_layout_plain, ffi, is_date, is_text, prelude, write_layout, Frames, Layout, Sheet, Tables};
 use shapes::{sheet, tiled, Order};
 use std::ffi::c_void;
 
@@ -131,6 +131,15 @@ fn names(layout: &[u8], block: &[u8]) {
     assert_eq!((numbers, one, two), ([0, 0], [0, 2], [108, 4]));
 }
 
+/// A record of the most bytes, in two pieces. The store is no part of the stack that is measured.
+fn record() -> impl FnMut() {
+    let (mut frames, record) = (Box::new(Frames::new()), vec![255; ffi::FRAME_MOST]);
+    move || {
+        assert_eq!(frames.next(&mut &record[..500]), Ok(None));
+        assert!(frames.next(&mut &record[500..]).is_ok_and(|frame| frame == Some(&record)));
+    }
+}
+
 /// A layout, what it is called, and what a call on it may need.
 type Measured = (&'static str, Vec<u8>, usize);
 
@@ -144,6 +153,7 @@ fn calls<'a>(sheet: &'a Sheet, layouts: &'a [Measured], symbols: &'a [u8]) -> Ve
         ("dbn_text".into(), SMALL, Box::new(|| assert!(is_text("Съешь ещё этих мягких булок".as_bytes())))),
         ("dbn_prelude".into(), SMALL, Box::new(|| assert!(prelude(b"DBN\x03\x64\0\0\0").is_ok()))),
         ("the names".into(), SMALL, Box::new(|| names(&layouts[0].1, symbols))),
+        ("dbn_frame".into(), SMALL, Box::new(record())),
         ("dbn_feed, version 3".into(), ORDINARY, Box::new(feed(3, symbols))),
     ];
     for (what, layout, most) in layouts {

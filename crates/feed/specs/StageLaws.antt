@@ -1,7 +1,7 @@
 -- The prelude is a head, and what that tells of a feed. Assumes nothing.
 use Prim.Native.Nat.{ℕ, _+_}
 use native.Mathlib.Omega.{arith}
-use mathlib.Core.Path.{_≡_, refl, sym, ap, subst₂, _∙_}
+use mathlib.Core.Path.{_≡_, sym, ap, subst₂, _∙_}
 use mathlib.Core.List.{List}
 use Rattle.prelude.specs.Prelude.{preludeOf}
 use Rattle.prelude.specs.PreludeLaws.{prelude-few, prelude-first, prelude-never}

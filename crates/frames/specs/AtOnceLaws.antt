@@ -5,16 +5,14 @@ use mathlib.Core.Bool.{Bool, true, false, cond}
 use mathlib.Core.Path.{_≡_, refl, sym, ap, _∙_}
 use mathlib.Core.List.{List}
 use borrow.Author.Tests.{le-leb, lt-leb, leb-true}
-use lib.ListN.{length, take, getD}
+use lib.ListN.{length, getD}
 use lib.Dec.{leb}
-use lib.Seq.{paste}
 use Rattle.held.specs.Held.{putOf}
 use Rattle.held.specs.StageLaws.{put-all}
 use Rattle.held.specs.AloneLaws.{Alone, alone-whole}
 use Rattle.held.specs.declared.Holding.the-variants.{Needs, Whole}
-use Rattle.frames.specs.Frames.{frame, answerOf, Framing}
+use Rattle.frames.specs.Frames.{frame}
 use Rattle.frames.specs.HeaderLaws.{frame-law, frame-is, header-first}
-use Rattle.frames.specs.declared.Answer.the-variants.{Frame}
 
 -- the tests in their order: the header is there, the length is one, the frame is there, the store has room
 abbrev tried : Bool → Bool → Bool → Bool → ℕ → ℕ

@@ -1,13 +1,13 @@
 -- Examples, checked by hand: each answer in its order, and short streams.
 -- Assumes nothing.
-use Prim.Native.Nat.{ℕ, suc}
+use Prim.Native.Nat.{ℕ}
 use mathlib.Core.Path.{_≡_, refl}
 use mathlib.Core.List.{List, [], _∷_, _++_}
 use lib.ListN.{replicate}
 use Rattle.codec.specs.Codec.{refusal, _then_, named, checked, num, raw}
 use Rattle.held.specs.Held.{bounded, heldOf}
 use Rattle.held.specs.declared.Holding.the-variants.{Needs, Refused, Whole}
-use Rattle.frames.specs.Frames.{header, headerOf, frame, firstOf, Frames, framesIn, framesOf}
+use Rattle.frames.specs.Frames.{header, headerOf, frame, firstOf, framesIn, framesOf}
 
 -- n bytes, the first two of which are a length in words and an rtype
 abbrev from : ℕ → ℕ → ℕ → List ℕ

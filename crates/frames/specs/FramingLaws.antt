@@ -11,7 +11,6 @@ use Rattle.refusal.specs.declared.Refusal.{Refusal}
 use Rattle.held.specs.Held.{heldOf, needOf, heldAfter, storeAfter}
 use Rattle.held.specs.StageLaws.{Pours}
 use Rattle.held.specs.PieceLaws.{taken-none}
-use Rattle.held.specs.AloneLaws.{Alone}
 use Rattle.held.specs.LeastLaws as held
 use Rattle.held.specs.NeverPastLaws as never
 use Rattle.held.specs.NeverPastLaws.{Inside}

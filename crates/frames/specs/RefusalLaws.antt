@@ -1,22 +1,22 @@
 -- Which numbers refuse a frame: they are about no byte. Assumes nothing.
-use Prim.Native.Nat.{ℕ, _*_, _<_}
+use Prim.Native.Nat.{ℕ, _*_, _≤_}
 use native.Mathlib.Omega.{arith}
 use mathlib.Core.Bool.{Bool, true, false}
 use mathlib.Core.Logic.{_⊎_, inl, inr}
-use mathlib.Core.Path.{_≡_, refl, sym, ap, subst, _∙_}
+use mathlib.Core.Path.{_≡_, refl, sym, subst, _∙_}
 use mathlib.Core.List.{List}
 use lib.ListN.{length, take, getD}
 use Rattle.refusal.specs.declared.Refusal.{Refusal}
-use Rattle.codec.specs.Codec.{refusal}
+use Rattle.codec.specs.Codec.{refusal, Bytes}
 use Rattle.codec.specs.CaseLaws.{by-le}
 use Rattle.codec.specs.Refusals.{In}
-use Rattle.held.specs.Held.{heldOf}
+use Rattle.held.specs.Held.{bounded, heldOf}
 use Rattle.held.specs.RefusalLaws as why
-use Rattle.held.specs.StageLaws.{refused-needs}
+use Rattle.held.specs.StageLaws.{refused-needs, refused-whole, by-bound, bounded-beyond, bounded-rest, bounded-whole, stage-beyond, stage-head}
 use Rattle.held.specs.declared.Holding.{Holding}
 use Rattle.held.specs.declared.Holding.the-variants as Holding'
 use Rattle.frames.specs.Frames.{isLength, headerOf, frame, answerOf, frameNumbers, Framing}
-use Rattle.frames.specs.HeaderLaws.{told, header-few, header-is}
+use Rattle.frames.specs.HeaderLaws.{told, header-few, header-is, frame-law, bad-held, good-held}
 use Rattle.frames.specs.FramingLaws.{refused-of}
 use Rattle.frames.specs.declared.Answer.{Answer}
 use Rattle.frames.specs.declared.Framed.{Framed}
@@ -56,3 +56,25 @@ answer-refused k st {e} q = number-of (frame-why k st (refused-of (heldOf frame 
 -- and so is that of `frame`
 pub frame-refuses : (k : ℕ) (st p : List ℕ) (x : Framed) (st1 : List ℕ) {e : Refusal} → Framing k st p x st1 → x .answer ≡ Answer.Refused e → Refusing e
 frame-refuses k st p x st1 {e} f q = frame-why _ _ (refused-of _ e (sym (f .answer) ∙ q))
+
+-- A STORE OF 1,020 BYTES HAS ROOM FOR EVERY FRAME: it is never refused by 101
+pub never-short : (k : ℕ) (st : List ℕ) {e : Refusal} → Bytes st → 1020 ≤ length st → heldOf frame k st ≡ Holding'.Refused e → (e ≡ refusal 1 0) ⊎ (e ≡ refusal 100 0)
+never-short k st {e} bytes room q =
+    by-le k (length st)
+    (λ inside.
+    by-le 16 k
+    (λ many.
+    by-le 16 (4 * getD st 0 0)
+    (λ long.
+    let w : heldOf frame k st ≡ bounded 101 (length st) k (4 * getD st 0 0) (getD st 1 0) = good-held k st many inside long in
+    by-bound 101 (length st) k (4 * getD st 0 0) (getD st 1 0)
+    (λ a. absurd (omega (arith, bytes 0)))
+    (λ a b. inl (same (sym q ∙ w ∙ bounded-beyond 101 (length st) k (4 * getD st 0 0) (getD st 1 0) a b)))
+    (λ a b. absurd (refused-needs e _ (sym q ∙ w ∙ bounded-rest 101 (length st) k (4 * getD st 0 0) (getD st 1 0) a b)))
+    (λ a b. absurd (refused-whole e _ _ (sym q ∙ w ∙ bounded-whole 101 (length st) k (4 * getD st 0 0) (getD st 1 0) a b))))
+    (λ short. inr (same (sym q ∙ bad-held k st many inside short))))
+    (λ few. absurd (refused-needs e _ (sym q ∙ stage-head frame frame-law k st few (omega arith)))))
+    (λ beyond. inl (same (sym q ∙ stage-beyond frame k st beyond)))
+  where
+    same : {j : Refusal} → Holding'.Refused e ≡ Holding'.Refused j → e ≡ j
+    same i = cc

@@ -1,15 +1,12 @@
 -- The frames of a stream, one at a time: what stands first, then the frames of the rest. And one call that is given all of a stream finds
 -- what stands first. Assumes nothing.
-use Prim.Native.Nat.{ℕ, zero, suc, _+_, _-_, _*_, _≤_, _<_}
+use Prim.Native.Nat.{ℕ, zero, suc, _-_, _≤_, _<_}
 use native.Mathlib.Omega.{arith}
-use mathlib.Core.Bool.{Bool, true, false, cond}
-use mathlib.Core.Path.{_≡_, refl, sym, ap, ap₂, subst, _∙_}
-use mathlib.Core.List.{List, [], _∷_}
+use mathlib.Core.Path.{_≡_, refl, sym, ap, ap₂, _∙_}
+use mathlib.Core.List.{List, []}
 use borrow.Author.Tests.{lt-ltb, le-ltb}
 use lib.ListN.{length, take, drop, length-drop}
-use lib.Seq.{take-all, length-take-le}
-use lib.Dec.{ltb}
-use Rattle.refusal.specs.declared.Refusal.{Refusal}
+use lib.Seq.{take-all}
 use Rattle.codec.specs.Codec.{refusal}
 use Rattle.codec.specs.CaseLaws.{by-le}
 use Rattle.held.specs.Held.{heldOf, takenOf, heldAfter, storeAfter}
@@ -18,7 +15,7 @@ use Rattle.held.specs.StageLaws.{refused-whole, whole-needs, after-length}
 use Rattle.held.specs.declared.Holding.{Holding}
 use Rattle.held.specs.declared.Holding.the-variants.{Needs, Refused, Whole}
 use Rattle.frames.specs.Frames.{headerOf, frame, fits, firstOf, Frames, _before_, refusedAt, goesOn, framesIn, framesOf}
-use Rattle.frames.specs.HeaderLaws.{frame-law, header-few, header-first, header-never, IsFrame, is-frame}
+use Rattle.frames.specs.HeaderLaws.{frame-law, header-few, header-first, header-never, is-frame}
 
 -- ---- what stands first
 

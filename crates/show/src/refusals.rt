@@ -1,4 +1,4 @@
-// A sentence for each refusal number that a reader gives; 90 to 96 are the writer's.
+// A sentence for each refusal number that reading a start gives; 90 to 96 are the writer's, 100 and 101 those of frames.
 use crate::lines;
 use crate::place;
 use crate::print;

@@ -1,20 +1,21 @@
 //! bench: the speed of the C functions. Each figure is a median of the thread's own CPU time, all in one run.
 //!
-//! First texts beside the standard library, then what a relay meets every day, then what a hostile sender would make, at
+//! First texts beside the standard library, then records beside a plain loop, what a relay meets every day, and what a hostile sender would make, at
 //! three sizes each: a cost that grows with the bytes doubles from one size to the next. `relay/bench` prints the same days
 //! beside the crate dbn.
 #[path = "../../measure/mod.rs"]
 mod bench;
 
 use bench::{
-    alone, beside,
+    alone, beside, frames, in_turn,
     shapes::{self, Order},
 };
-use dbn_start::{ffi, Feed, Limits, Step};
+use dbn_start::{ffi, Feed, Frames, Limits, Step};
 use std::hint::black_box;
 
 fn main() {
     texts();
+    records();
     daily();
     hostile();
 }
@@ -35,6 +36,34 @@ fn texts() {
             beside(|| dbn_start::is_text(black_box(&symbol)), || std::str::from_utf8(black_box(&symbol)).is_ok());
         println!("  {width} bytes, {letters:?} and NULs: {here:.1} ns, std {std:.1} ns, {:.2} of std", here / std);
     }
+}
+
+fn records() {
+    let stream = frames::stream();
+    println!("records: {} bytes, records of 56 bytes in pieces of 64 KiB, each into a store", stream.len());
+    let here = || {
+        let (mut frames, mut sum) = (Frames::new(), 0);
+        for mut piece in frames::pieces(&stream) {
+            while let Some(record) = frames.next(&mut piece).expect("a record") {
+                sum = frames::fold(sum, record);
+            }
+        }
+        sum
+    };
+    let (plain, at_once) = (|| frames::plain(&stream), || frames::plain_at_once(&stream));
+    let copied = || frames::copied(&stream);
+    assert_eq!([here(), plain(), at_once()], [copied(); 3], "the same records");
+    let [here, plain, at_once, copied] = in_turn([
+        &mut || _ = black_box(here()),
+        &mut || _ = black_box(plain()),
+        &mut || _ = black_box(at_once()),
+        &mut || _ = black_box(copied()),
+    ]);
+    let tell = |what: &str, time: f64| println!("  {what} {:.2} ms; Frames is {:.2} of that", time / 1e6, here / time);
+    println!("  Frames {:.2} ms", here / 1e6);
+    tell("a plain loop", plain);
+    tell("a plain loop that takes a record at once where the piece has it", at_once);
+    tell("the bare copy", copied);
 }
 
 /// The time of `dbn_block` with tables that are long enough.

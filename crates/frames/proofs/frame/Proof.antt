@@ -2,10 +2,9 @@
 -- Assumes nothing.
 use borrow.Author.Needs.{needs}
 use native.Mathlib.Omega.{arith}
-use Prim.Native.Nat.{_<_}
-use mathlib.Core.Path.{_≡_, sym, subst, _∙_}
+use mathlib.Core.Path.{sym, subst, _∙_}
 use lib.ListN.{length}
-use Rattle.frames.specs.AtOnceLaws.{wholeIn, AtOnce, at-once, put-at-once}
+use Rattle.frames.specs.AtOnceLaws.{AtOnce, at-once, put-at-once}
 use Rattle.frames.specs.FramingLaws.{framed-at-once}
 use Rattle.frames.proofs.frame.Statement.{statement}
 use Rattle.frames.proofs.frame.Tie as tie

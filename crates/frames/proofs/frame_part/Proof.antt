@@ -2,7 +2,7 @@
 -- Assumes nothing.
 use borrow.Author.Needs.{needs}
 use native.Mathlib.Omega.{arith}
-use mathlib.Core.Path.{refl, sym}
+use mathlib.Core.Path.{sym}
 use lib.Seq.{take-all, length-take-le}
 use Rattle.frames.proofs.frame_part.Statement.{statement}
 use Rattle.frames.proofs.frame_part.Tie as tie

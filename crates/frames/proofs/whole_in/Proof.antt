@@ -2,7 +2,7 @@
 -- Assumes nothing.
 use borrow.Author.Needs.{needs}
 use native.Mathlib.Omega.{arith}
-use mathlib.Core.Path.{sym, _∙_}
+use mathlib.Core.Path.{sym}
 use Rattle.frames.specs.AtOnceLaws.{none-header, none-length, none-frame, none-room, some-frame}
 use Rattle.frames.proofs.whole_in.Statement.{statement}
 use Rattle.frames.proofs.whole_in.Tie as tie
