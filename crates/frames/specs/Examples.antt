@@ -1,12 +1,16 @@
--- Examples, checked by hand: each answer in its order, and short streams.
+-- Examples, checked by hand: each answer in its order, short streams, and a reading in pieces.
 -- Assumes nothing.
 use Prim.Native.Nat.{ℕ}
 use mathlib.Core.Path.{_≡_, refl}
 use mathlib.Core.List.{List, [], _∷_, _++_}
 use lib.ListN.{replicate}
 use Rattle.codec.specs.Codec.{refusal, _then_, named, checked, num, raw}
-use Rattle.held.specs.Held.{bounded, heldOf}
+use Rattle.held.specs.Held.{bounded, heldOf, poured, takenOf}
 use Rattle.held.specs.declared.Holding.the-variants.{Needs, Refused, Whole}
+use Rattle.frames.specs.CutLaws.{Reading, over, more, whole}
+use Rattle.frames.specs.declared.Answer.{Answer}
+use Rattle.frames.specs.declared.Answer.the-variants as Answer'
+use Rattle.frames.specs.FramingLaws.{outcome}
 use Rattle.frames.specs.Frames.{header, headerOf, frame, firstOf, framesIn, framesOf}
 
 -- n bytes, the first two of which are a length in words and an rtype
@@ -69,3 +73,16 @@ frame-and-refusal = refl
 pub no-store : framesOf 15 (from 4 160 14) ≡ record { whole = []; left = []; ends = Refused (refusal 101 0) }
 unfolding framesOf framesIn firstOf headerOf header _then_ named checked num raw
 no-store = refl
+
+abbrev store : List ℕ
+store = replicate 16 9
+
+-- a frame that comes in two pieces of 7 and 9 bytes, and then the end of the stream
+pub cut-in-two : Reading 0 store (from 4 160 14) (record { whole = from 4 160 14 ∷ []; left = []; ends = Needs 16 }) 16
+unfolding takenOf poured heldOf headerOf header bounded _then_ named checked num raw
+cut-in-two =
+    more {st = store} {p = from 4 160 5} {x = outcome 7 7 (Answer'.Needs 9)} {st1 = from 4 160 5 ++ replicate 9 9} (replicate 9 0)
+    (record { taken = refl; store = refl; held = refl; answer = refl }) refl
+    (whole {p = replicate 9 0} {x = outcome 9 16 (Answer'.Frame 16 160)} {st1 = from 4 160 14} []
+    (record { taken = refl; store = refl; held = refl; answer = refl }) refl
+    (over {x = outcome 0 0 (Answer'.Needs 16)} {st1 = from 4 160 14} (record { taken = refl; store = refl; held = refl; answer = refl }) refl))

@@ -49,7 +49,7 @@ headerOf s = cond (ltb (length s) 16) (Needs (16 - length s)) (said (header .cod
 abbrev pub frame : Head
 frame = record { size = 16; short = 101; says = headerOf }
 
--- what held bytes are is the answer
+-- what held bytes are, as the answer
 abbrev pub answerOf : Holding → Answer
 answerOf (Needs n) = Answer.Needs n
 answerOf (Refused e) = Answer.Refused e
@@ -59,7 +59,8 @@ answerOf (Whole n t) = Frame n t
 abbrev pub frameNumbers : List ℕ
 frameNumbers = 1 ∷ 100 ∷ 101 ∷ []
 
--- A PIECE p after k held bytes of a store: the count taken; those bytes right after the held ones, the rest of the store as it was; the new count; what is then held
+-- A PIECE p after k held bytes of a store: the count taken; those bytes right after the held ones, the rest of the store as it was; the new
+-- count; what is then held
 pub record Framing (k : ℕ) (st p : List ℕ) (r : Framed) (st′ : List ℕ) : Type 0 where
   pub taken : r .taken ≡ takenOf frame k st p
   pub store : st′ ≡ storeAfter frame k st p
@@ -74,13 +75,13 @@ answerNumber (Answer.Refused e) = e .number
 
 -- ---- the frames of a stream
 
--- how a stream goes on, with a store of n bytes: 101 below 16; what is missing of a header; 100; 101 below the frame; what is missing of the
--- frame; or the frame
+-- an announced frame, with a store of n bytes and m bytes of the stream left: 101 below the frame; what is missing of it; or the frame
 abbrev pub fits : ℕ → ℕ → Holding → Holding
 fits n m (Needs j) = Needs j
 fits n m (Refused e) = Refused e
 fits n m (Whole w t) = cond (ltb n w) (Refused (refusal 101 0)) (cond (ltb m w) (Needs (w - m)) (Whole w t))
 
+-- what stands first in a stream, with a store of n bytes: 101 below 16, then what the header says
 unfoldable pub firstOf : ℕ → List ℕ → Holding
 firstOf n s = cond (ltb n 16) (Refused (refusal 101 0)) (fits n (length s) (headerOf s))
 

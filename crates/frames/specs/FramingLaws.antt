@@ -23,7 +23,8 @@ use Rattle.frames.specs.declared.Answer.{Answer}
 use Rattle.frames.specs.declared.Answer.the-variants.{Needs, Frame, Refused}
 use Rattle.frames.specs.declared.Framed.{Framed}
 
-abbrev outcome : ℕ → ℕ → Answer → Framed
+-- so many bytes taken, so many then held, and the answer
+abbrev pub outcome : ℕ → ℕ → Answer → Framed
 outcome n h r = record { taken = n; state = record { held = h }; answer = r }
 
 -- two pours, and the verdict

@@ -4,12 +4,9 @@ use Prim.Native.Nat.{ℕ}
 use mathlib.Core.Path.{_≡_, sym, ap, ap₂, _∙_}
 use mathlib.Core.List.{List}
 use lib.ListN.{take}
+use Rattle.frames.specs.FramingLaws.{outcome}
 use Rattle.frames.specs.Frames.{Framing}
-use Rattle.frames.specs.declared.Answer.{Answer}
 use Rattle.frames.specs.declared.Framed.{Framed}
-
-abbrev outcome : ℕ → ℕ → Answer → Framed
-outcome n h r = record { taken = n; state = record { held = h }; answer = r }
 
 -- of `frame`: what it returns, and the store
 pub one-frame : (k : ℕ) (st p : List ℕ) (x y : Framed) (st1 st2 : List ℕ) → Framing k st p x st1 → Framing k st p y st2 → (x ≡ y) × (st1 ≡ st2)

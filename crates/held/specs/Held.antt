@@ -28,7 +28,7 @@ bounded short n k w b =
     (cond (ltb k w) (Needs (w - k))
     (Whole w b)))
 
--- a head that is whole announces one
+-- the same of what a head says: below its size it needs the rest, or it is refused, or it announces a whole
 abbrev pub within : ℕ → ℕ → ℕ → Holding → Holding
 within short n k (Needs m) = Needs m
 within short n k (Refused e) = Refused e

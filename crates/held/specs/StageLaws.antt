@@ -3,16 +3,17 @@
 use Prim.Native.Nat.{ℕ, _+_, _-_, _≤_, _<_}
 use native.Mathlib.Nat.{add-assoc, add-zero, zero-add}
 use native.Mathlib.Omega.{arith}
-use mathlib.Core.Bool.{Bool, true, false, cond}
+use mathlib.Core.Bool.{cond}
 use mathlib.Core.Logic.{_⊎_, inl, inr, ⊎-elim}
 use mathlib.Core.Path.{_≡_, refl, sym, ap, ap₂, _∙_}
 use mathlib.Core.List.{List, _++_, append-assoc}
-use borrow.Author.Tests.{lt-ltb, le-ltb, ltb-true, ltb-false}
+use borrow.Author.Tests.{lt-ltb, le-ltb}
 use lib.ListN.{length, take, drop, length-drop}
 use lib.Seq.{take-all, take-take, length-take-le, take-add, drop-drop, paste, paste-zero, length-paste, take-paste, drop-paste}
 use lib.Dec.{ltb}
 use Rattle.refusal.specs.declared.Refusal.{Refusal}
 use Rattle.codec.specs.Codec.{refusal}
+use Rattle.codec.specs.CaseLaws.{by-le}
 use Rattle.held.specs.Held.{Head, bounded, within, heldOf, needOf, poured, takenOf, heldAfter, storeAfter, putOf}
 use Rattle.held.specs.declared.Holding.{Holding}
 use Rattle.held.specs.declared.Holding.the-variants.{Needs, Refused, Whole}
@@ -26,11 +27,7 @@ pub record HeadLaw (H : Head) : Type 0 where
 
 -- one number is below another, or it is not
 pub below-or : (a b : ℕ) → (a < b) ⊎ (b ≤ a)
-below-or a b = go (ltb a b) refl
-  where
-    go : (x : Bool) → ltb a b ≡ x → (a < b) ⊎ (b ≤ a)
-    go true q = inl (ltb-true a b q)
-    go false q = inr (ltb-false a b q)
+below-or a b = by-le b a (λ h. inr h) (λ h. inl h)
 
 -- what is refused, or whole, needs nothing, and the one is not the other
 pub refused-needs : (e : Refusal) (n : ℕ) → Refused e ≡ Needs n → ⊥

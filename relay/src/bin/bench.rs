@@ -38,18 +38,21 @@ fn texts() {
     }
 }
 
+/// Every record of a stream in pieces, by `Frames`.
+fn read_records<'a>(pieces: impl Iterator<Item = &'a [u8]>) -> u64 {
+    let (mut frames, mut sum) = (Frames::new(), 0);
+    for mut piece in pieces {
+        while let Some(record) = frames.next(&mut piece).expect("a record") {
+            sum = frames::fold(sum, record);
+        }
+    }
+    sum
+}
+
 fn records() {
     let stream = frames::stream();
     println!("records: {} bytes, records of 56 bytes in pieces of 64 KiB, each into a store", stream.len());
-    let here = || {
-        let (mut frames, mut sum) = (Frames::new(), 0);
-        for mut piece in frames::pieces(&stream) {
-            while let Some(record) = frames.next(&mut piece).expect("a record") {
-                sum = frames::fold(sum, record);
-            }
-        }
-        sum
-    };
+    let here = || read_records(frames::pieces(&stream));
     let (plain, at_once) = (|| frames::plain(&stream), || frames::plain_at_once(&stream));
     let copied = || frames::copied(&stream);
     assert_eq!([here(), plain(), at_once()], [copied(); 3], "the same records");
@@ -202,6 +205,17 @@ fn hostile() {
             let bytes = shape(n);
             let time = block(3, &bytes);
             (bytes.len(), time)
+        });
+    }
+    hostile_records();
+}
+
+/// Records of one length, in pieces of one byte and of 64 KiB.
+fn hostile_records() {
+    for (words, n, piece) in [(4, 65_536, 1), (4, 65_536, 64 << 10), (255, 1_024, 1)] {
+        rising(&format!("Frames, records of {} bytes in pieces of {piece}", 4 * words as usize), n, |n| {
+            let stream = [words].repeat(4 * words as usize * n);
+            (stream.len(), alone(|| read_records(black_box(&stream[..]).chunks(piece))))
         });
     }
 }
