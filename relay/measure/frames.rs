@@ -37,9 +37,24 @@ impl Plain {
         Self { store: [0; 1_020], held: 0, refused: false }
     }
 
+    /// The next record, by one copy where that is wanted, nothing is held and the piece has all of it, else by stages.
+    #[inline]
+    fn next<'a, const AT_ONCE: bool>(&'a mut self, piece: &mut &[u8]) -> Result<Option<&'a [u8]>, u32> {
+        if AT_ONCE && self.held == 0 && !self.refused && piece.len() >= 16 {
+            let whole = 4 * piece[0] as usize;
+            if whole >= 16 && whole <= piece.len() {
+                let (record, later) = piece.split_at(whole);
+                self.store[..whole].copy_from_slice(record);
+                *piece = later;
+                return Ok(Some(&self.store[..whole]));
+            }
+        }
+        self.by_stages(piece)
+    }
+
     /// Takes what the next record still needs. 100 for one that is too short, and ever after.
     #[inline]
-    fn next<'a>(&'a mut self, piece: &mut &[u8]) -> Result<Option<&'a [u8]>, u32> {
+    fn by_stages<'a>(&'a mut self, piece: &mut &[u8]) -> Result<Option<&'a [u8]>, u32> {
         if self.refused {
             return Err(100);
         }
@@ -62,21 +77,6 @@ impl Plain {
         Ok(Some(&self.store[..whole]))
     }
 
-    /// The same, by one copy where nothing is held and the piece has all of the record.
-    #[inline]
-    fn next_at_once<'a>(&'a mut self, piece: &mut &[u8]) -> Result<Option<&'a [u8]>, u32> {
-        if self.held == 0 && !self.refused && piece.len() >= 16 {
-            let whole = 4 * piece[0] as usize;
-            if whole >= 16 && whole <= piece.len() {
-                let (record, later) = piece.split_at(whole);
-                self.store[..whole].copy_from_slice(record);
-                *piece = later;
-                return Ok(Some(&self.store[..whole]));
-            }
-        }
-        self.next(piece)
-    }
-
     /// Holds bytes of the piece, up to so many in all.
     #[inline]
     fn take(&mut self, piece: &mut &[u8], end: usize) {
@@ -87,22 +87,11 @@ impl Plain {
     }
 }
 
-/// Every record by the plain loop.
-pub fn plain(stream: &[u8]) -> u64 {
+/// Every record by the plain loop; `AT_ONCE`, by one copy where the piece has all of a record.
+pub fn plain<const AT_ONCE: bool>(stream: &[u8]) -> u64 {
     let (mut plain, mut sum) = (Plain::new(), 0);
     for mut piece in pieces(stream) {
-        while let Some(record) = plain.next(&mut piece).expect("a record") {
-            sum = fold(sum, record);
-        }
-    }
-    sum
-}
-
-/// Every record by a plain loop that takes a record in one copy where the piece has all of it.
-pub fn plain_at_once(stream: &[u8]) -> u64 {
-    let (mut plain, mut sum) = (Plain::new(), 0);
-    for mut piece in pieces(stream) {
-        while let Some(record) = plain.next_at_once(&mut piece).expect("a record") {
+        while let Some(record) = plain.next::<AT_ONCE>(&mut piece).expect("a record") {
             sum = fold(sum, record);
         }
     }

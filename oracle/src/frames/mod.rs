@@ -6,7 +6,10 @@ mod ours;
 mod paper;
 mod tally;
 
-use crate::gen::{self, Rng};
+use crate::{
+    calls,
+    gen::{self, Rng},
+};
 use of_crate::Way;
 use paper::{Framed, HEADER, LONGEST};
 use std::panic::{catch_unwind, AssertUnwindSafe};
@@ -278,8 +281,8 @@ fn some_call(r: &mut Rng) -> Call {
 fn single(r: &mut Rng, tally: &mut Tally) {
     let (held, store, piece) = some_call(r);
     let out = [0; 5].map(|_| r.next());
-    let got = quiet(|| Ok::<_, String>(ours::call(held, &store, &piece, &out)));
-    let mut wanted = ours::Answer { number: 0, out, store: store.clone() };
+    let got = quiet(|| Ok::<_, String>(calls::frame(held, &store, &piece, &out)));
+    let mut wanted = calls::FrameAnswer { number: 0, out, store: store.clone() };
     let (taken, framed) = paper::frame(held, &mut wanted.store, &piece);
     wanted.out[..3].copy_from_slice(&[taken as u64, held.wrapping_add(taken as u64), 0]);
     match framed {

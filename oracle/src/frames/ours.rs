@@ -4,37 +4,15 @@ use super::{
     Made, Piece, Told,
 };
 use crate::{
-    calls::{self, lent::Lent},
+    calls,
     gen::Rng,
     ours::{marks, table},
 };
-use dbn_start::ffi;
-
-/// What a call of `dbn_frame` left.
-#[derive(Debug, Clone, PartialEq)]
-pub struct Answer {
-    pub number: u32,
-    pub out: [u64; 5],
-    pub store: Vec<u8>,
-}
-
-/// A call with guarded buffers.
-pub fn call(held: u64, store: &[u8], piece: &[u8], out: &[u64; 5]) -> Answer {
-    let (bytes, mut kept, mut values) = (Lent::new(piece), Lent::new(store), Lent::new(out));
-    // SAFETY: every pointer is to a buffer of the given length, and no two overlap.
-    let number = unsafe {
-        let values = &mut *values.at_mut().cast::<[u64; 5]>();
-        ffi::dbn_frame(held, kept.at_mut(), store.len(), bytes.at(), piece.len(), values)
-    };
-    bytes.unchanged("the piece", piece);
-    let out = values.content("out").try_into().unwrap();
-    Answer { number, out, store: kept.content("the store").to_vec() }
-}
 
 /// A call by a caller whose held count is not beyond the store. Gives the count taken and what it came to; the store gets the bytes.
 fn step(r: &mut Rng, held: u64, store: &mut Vec<u8>, piece: &[u8]) -> Result<(usize, Framed), &'static str> {
     let out = marks(r);
-    let a = call(held, store, piece, &out);
+    let a = calls::frame(held, store, piece, &out);
     let need = |true_: bool, text| if true_ { Ok(()) } else { Err(text) };
     need(a.out[0] <= piece.len() as u64 && a.out[1] == held + a.out[0], "taken or held count")?;
     let (taken, from, now) = (a.out[0] as usize, held as usize, a.out[1] as usize);

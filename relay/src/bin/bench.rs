@@ -53,7 +53,7 @@ fn records() {
     let stream = frames::stream();
     println!("records: {} bytes, records of 56 bytes in pieces of 64 KiB, each into a store", stream.len());
     let here = || read_records(frames::pieces(&stream));
-    let (plain, at_once) = (|| frames::plain(&stream), || frames::plain_at_once(&stream));
+    let (plain, at_once) = (|| frames::plain::<false>(&stream), || frames::plain::<true>(&stream));
     let copied = || frames::copied(&stream);
     assert_eq!([here(), plain(), at_once()], [copied(); 3], "the same records");
     let [here, plain, at_once, copied] = in_turn([
