@@ -270,17 +270,17 @@ module _ (H : Head) (L : HeadLaw H) (k : ℕ) (st p : List ℕ) (a b : ℕ) (st1
   room : a ≤ length st - k
   room = omega (arith, ea, poured-fits H L k st (length p))
 
-  both-taken : a + b ≡ takenOf H k st p
+  pours-taken : a + b ≡ takenOf H k st p
   unfolding takenOf
-  both-taken =
+  pours-taken =
       let b′ : b ≡ poured H (k + a) (paste st k p a) (length p - a) = eb ∙ rw (rest, length-drop a p, e1) in
       ap (λ x. a + x) b′ ∙ rw ea
 
   poured-twice : Pours H k st p a b st2
   poured-twice = record {
-    taken = both-taken;
-    held = add-assoc k a b ∙ ap (λ x. k + x) both-taken;
-    store = e2 ∙ rw (rest, e1) (paste-paste st k p a b room most) ∙ ap (paste st k p) both-taken;
+    taken = pours-taken;
+    held = add-assoc k a b ∙ ap (λ x. k + x) pours-taken;
+    store = e2 ∙ rw (rest, e1) (paste-paste st k p a b room most) ∙ ap (paste st k p) pours-taken;
     fits =
         let n : length st1 ≡ length st = ap length e1 ∙ paste-length st k p a room most in
         omega (arith, eb, room, most, poured-fits H L (k + a) st1 (length (take (length p - a) (drop a p))));
