@@ -1,3 +1,5 @@
 pub mod Date
+pub mod Day
+pub mod DayLaws
 pub mod Hand
 pub mod Single

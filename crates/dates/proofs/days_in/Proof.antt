@@ -3,7 +3,8 @@
 use mathlib.Core.Path.{_≡_, _∙_, sym}
 use native.Mathlib.Omega.{arith}
 use Rattle.dates.specs.Date.{daysIn}
-use Rattle.dates.proofs.Days.{other, past}
+use Rattle.dates.specs.DayLaws.{past}
+use Rattle.dates.proofs.Days.{other}
 use borrow.Author.Needs.{needs}
 use Rattle.dates.proofs.days_in.Statement.{statement}
 use Rattle.dates.proofs.days_in.Tie as tie
