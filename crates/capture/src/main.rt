@@ -229,8 +229,9 @@ fn cell(rows: &[u32], i: usize, j: usize) -> u32
     0
 }
 
+// The date of day n as yyyy-mm-dd.
 fn date(n: u32) {
-    let s = iso::date_text(n);
+    let s = iso::day_text(n);
     text(&s);
 }
 

@@ -1,6 +1,6 @@
 -- The number of a day, and the date of a number: 1 January of year 0 is 0, and each day counts those before it.
 -- Assumes nothing.
-use mathlib.Core.Bool.{Bool, true, false, cond}
+use mathlib.Core.Bool.{Bool, cond}
 use Prim.Native.Nat.{ℕ, zero, suc, _+_, _-_, _*_, _/_, _%_}
 use lib.Dec.{leb, ltb}
 use Rattle.dates.specs.Date.{daysIn, isDate}
@@ -16,9 +16,13 @@ daysBefore days (suc n) = daysBefore days n + days n
 unfoldable pub daysOfYear : ℕ → ℕ
 daysOfYear y = daysBefore (daysIn y) 13
 
--- the days before day d of month m of the year y
+-- the days before month m of the year y
+unfoldable pub daysTo : ℕ → ℕ → ℕ
+daysTo y m = daysBefore daysOfYear y + daysBefore (daysIn y) m
+
+-- the days before day d of that month
 unfoldable pub dayNumber : ℕ → ℕ → ℕ → ℕ
-dayNumber y m d = daysBefore daysOfYear y + daysBefore (daysIn y) m + (d - 1)
+dayNumber y m d = daysTo y m + (d - 1)
 
 -- the number of the day that is written year x 10000 + month x 100 + day
 unfoldable pub dayOf : ℕ → ℕ

@@ -1,9 +1,8 @@
 -- What the calendar's rule says of day numbers: how many days are before a year and a month, that a later date has a larger
 -- number, that the date of a number is the one that has it, and that the day after is one more.
 -- Assumes nothing.
-use mathlib.Core.Path.{_≡_, refl, sym, ap, ap₂, subst, _∙_}
+use mathlib.Core.Path.{_≡_, refl, sym, ap, subst, _∙_}
 use mathlib.Core.Bool.{Bool, true, false, cond}
-use mathlib.Core.List.{List, [], _∷_}
 use Prim.Native.Nat.{ℕ, zero, suc, _+_, _-_, _*_, _/_, _%_, _≤_, _<_}
 use native.Mathlib.Omega.{arith}
 use native.Mathlib.Nat.{not-suc-le-zero, add-div-right, div-eq-of-lt, div-add-mod, mul-add-div, mod-lt}
@@ -13,7 +12,7 @@ use lib.ListN.{getD, List·getD-eq-default}
 use Rattle.codec.specs.CaseLaws.{by-le, by-order, by-eqb, by-bool, no-true}
 use Rattle.codec.specs.Every.{both, both-left, both-right}
 use Rattle.dates.specs.Date.{isLeap, months, daysIn, isDay, isDate}
-use Rattle.dates.specs.Day.{daysBefore, daysOfYear, dayNumber, dayOf, isDayNumber, lastBy, yearOf, monthOf, inYear, dateOfDay, dateAfter}
+use Rattle.dates.specs.Day.{daysBefore, daysOfYear, daysTo, dayNumber, dayOf, lastBy, yearOf, monthOf, inYear, dateOfDay, dateAfter}
 
 -- ---- years or months that follow each other, each of so many days
 
@@ -74,7 +73,7 @@ leapDay y = cond (isLeap y) 1 0
 
 -- the days of the months, in a leap year or not
 abbrev lengths : Bool → ℕ → ℕ
-lengths leap m = getD (0 ∷ 31 ∷ cond leap 29 28 ∷ 31 ∷ 30 ∷ 31 ∷ 30 ∷ 31 ∷ 31 ∷ 30 ∷ 31 ∷ 30 ∷ 31 ∷ []) m 0
+lengths leap m = getD (months leap) m 0
 
 -- the days before month m, in one line for January and February and one for the months after them
 abbrev pub monthDays : ℕ → ℕ → ℕ
@@ -102,7 +101,7 @@ month-before y m h = lengths-before (isLeap y) m h
 
 pub past : (y m : ℕ) → 12 < m → 0 ≡ daysIn y m
 unfolding daysIn
-past y m h = sym (List·getD-eq-default (months y) 0 h)
+past y m h = sym (List·getD-eq-default (months (isLeap y)) 0 h)
 
 pub year-days : (y : ℕ) → 365 + leapDay y ≡ daysOfYear y
 unfolding daysOfYear
@@ -114,6 +113,15 @@ month-past y (suc m) h =
     by-le m 12
     (λ le. let e : m ≡ 12 = omega arith in rw e (month-before y 13 (omega arith)))
     (λ lt. omega (arith, month-past y m lt, before-next (daysIn y) m, past y m lt))
+
+pub leap-most : (y : ℕ) → leapDay y ≤ 1
+unfolding leapDay
+leap-most y = by-bool (isLeap y) (λ e. rw e (omega arith)) (λ e. rw e (omega arith))
+
+-- no month has more days before it than a year has
+pub month-below : (y m : ℕ) → daysBefore (daysIn y) m ≤ 366
+month-below y m =
+    by-le 13 m (λ le. omega (arith, month-past y m le, leap-most y)) (λ lt. omega (arith, before-from (daysIn y) m 13 (omega arith), month-past y 13 (omega arith), leap-most y))
 
 -- ---- the years
 
@@ -171,6 +179,10 @@ year-before (suc y) =
       multiples-next 400 y (omega arith),
       year-before y,
     )
+
+pub year-most : (y : ℕ) → daysBefore daysOfYear y ≤ 366 * y
+unfolding multiples
+year-most y = omega (arith, year-before y)
 
 -- the years 0 to 9999 have so many days
 pub all-days : daysBefore daysOfYear 10000 ≡ 3652425
@@ -235,7 +247,7 @@ module _ {y m d : ℕ} (h : Dated y m d) where
   in-a-year = omega (arith, in-month, before-from (daysIn y) (suc m) 13 (omega (arith, h .month)))
 
   number-in-year : dayNumber y m d < daysBefore daysOfYear (suc y)
-  unfolding dayNumber
+  unfolding dayNumber daysTo
   number-in-year = omega (arith, in-a-year, before-next daysOfYear y)
 
   -- a date's number is a day's
@@ -244,7 +256,7 @@ module _ {y m d : ℕ} (h : Dated y m d) where
 
   -- the date of its number
   pub date-of-number : dateOfDay (dayNumber y m d) ≡ y * 10000 + m * 100 + d
-  unfolding dateOfDay yearOf inYear monthOf dayNumber
+  unfolding dateOfDay yearOf inYear monthOf dayNumber daysTo
   date-of-number =
       let k = daysBefore daysOfYear y + daysBefore (daysIn y) m + (d - 1) in
       let rest : k - daysBefore daysOfYear y ≡ daysBefore (daysIn y) m + (d - 1) = omega arith in
@@ -265,6 +277,11 @@ pub date-is : (n : ℕ) → isDate n ≡ true → Dated (n / 10000) (n / 100 % 1
 unfolding isDate
 date-is n e = dated (n / 10000) (n / 100 % 100) (n % 100) e
 
+-- 1 January of the year 0 is the first
+pub first-date : isDate 101 ≡ true
+unfolding isDate isDay daysIn isLeap
+first-date = refl
+
 -- a date's number is at most 3,652,424
 pub date-below : (n : ℕ) → isDate n ≡ true → dayOf n ≤ 3652424
 unfolding dayOf
@@ -277,7 +294,7 @@ date-back n e = date-of-number (date-is n e) ∙ omega arith
 
 -- a later date has a larger number
 number-rises : {y m d y′ m′ d′ : ℕ} → Dated y m d → Dated y′ m′ d′ → y * 10000 + m * 100 + d < y′ * 10000 + m′ * 100 + d′ → dayNumber y m d < dayNumber y′ m′ d′
-unfolding dayNumber
+unfolding dayNumber daysTo
 number-rises {y} {m} {d} {y′} {m′} {d′} h h′ lt =
     by-order y y′
     (λ less. omega (arith, in-a-year h, before-later daysOfYear y y′ less))
@@ -333,7 +350,7 @@ module _ (k : ℕ) (h : k ≤ 3652424) where
 
   -- and that is its number
   pub day-back : dayOf (dateOfDay k) ≡ k
-  unfolding dayNumber
+  unfolding dayNumber daysTo
   day-back =
       ap dayOf written-so
       ∙ sym (number-of-date dated-day)
@@ -355,19 +372,19 @@ module _ (n : ℕ) (e : isDate n ≡ true) where
   number-is = refl
 
   after-in-month : d < daysIn y m → dayOf (dateAfter n) ≡ dayOf n + 1
-  unfolding dateAfter dayNumber
+  unfolding dateAfter dayNumber daysTo
   after-in-month lt =
       rw (lt-ltb d (daysIn y m) lt, number-is)
       (ap dayOf (omega arith) ∙ written-day y m (d + 1) (omega arith) (omega (arith, month-most y m)) ∙ omega (arith, date-is n e .first))
 
   after-in-year : daysIn y m ≤ d → m < 12 → dayOf (dateAfter n) ≡ dayOf n + 1
-  unfolding dateAfter dayNumber
+  unfolding dateAfter dayNumber daysTo
   after-in-year ge lt =
       rw (le-ltb d (daysIn y m) ge, lt-ltb m 12 lt, number-is)
       (ap dayOf (omega arith) ∙ written-day y (suc m) 1 (omega arith) (omega arith) ∙ omega (arith, date-is n e .first, date-is n e .last, before-next (daysIn y) m))
 
   after-year : daysIn y m ≤ d → 12 ≤ m → dayOf (dateAfter n) ≡ dayOf n + 1
-  unfolding dateAfter dayNumber daysOfYear
+  unfolding dateAfter dayNumber daysTo daysOfYear
   after-year ge le =
       let months : daysOfYear y ≡ daysBefore (daysIn y) 13 = refl in
       let days = ap (daysIn y) december in

@@ -4,7 +4,7 @@ use Prim.Native.Nat.{ℕ}
 use mathlib.Core.Path.{_≡_, refl, sym, ap, _∙_}
 use mathlib.Core.Bool.{true, false}
 use Rattle.dates.specs.Date.{isLeap, daysIn, isDay, isDate}
-use Rattle.dates.specs.Day.{daysBefore, daysOfYear, dayNumber, dayOf, isDayNumber, dateOfDay, dateAfter}
+use Rattle.dates.specs.Day.{daysBefore, daysOfYear, daysTo, dayNumber, dayOf, isDayNumber, dateOfDay, dateAfter}
 use Rattle.dates.specs.DayLaws.{date-back}
 
 -- 29 February of 2024 and of 2000; not of 1900, and no month 13
@@ -21,12 +21,12 @@ ends = (refl, refl, refl, refl)
 -- 1 January of the years 0 and 1; 29 February and 1 March of the year 0; 1 January of 1970 and a day of 2024
 pub days :
     (dayOf 101 ≡ 0) × (dayOf 10101 ≡ 366) × (dayOf 229 ≡ 59) × (dayOf 301 ≡ 60) × (dayOf 19700101 ≡ 719528) × (dayOf 20240229 ≡ 739310)
-unfolding dayOf dayNumber daysBefore daysOfYear daysIn isLeap
+unfolding dayOf dayNumber daysTo daysBefore daysOfYear daysIn isLeap
 days = (refl, refl, refl, refl, refl, refl)
 
 -- the last of all
 pub last : (dayOf 99991231 ≡ 3652424) × (isDayNumber 3652424 ≡ true) × (isDayNumber 3652425 ≡ false)
-unfolding dayOf dayNumber daysBefore daysOfYear daysIn isLeap isDayNumber
+unfolding dayOf dayNumber daysTo daysBefore daysOfYear daysIn isLeap isDayNumber
 last = (refl, refl, refl)
 
 -- back, by the law, since the definition looks through all years

@@ -1,9 +1,10 @@
 // Dates, written year x 10000 + month x 100 + day, and the numbers of their days: 1 January of year 0 is 0.
 ghost use mathlib.Core.Path.{_≡_};
-ghost use Prim.Native.Nat.{_≤_, _<_};
-ghost use Rattle.dates.specs.Date.{isLeap, daysIn, isDate};
-ghost use Rattle.dates.specs.Day.{daysBefore, daysOfYear, dayOf, dayOn, dateOn, yearOf, monthOf, inYear};
+ghost use Prim.Native.Nat.{_/_, _≤_, _<_};
+ghost use Rattle.dates.specs.Date.{isLeap, daysIn};
+ghost use Rattle.dates.specs.Day.{daysBefore, daysOfYear, dayOn, dateOn, yearOf, monthOf, inYear};
 ghost use Rattle.dates.specs.DayLaws.{In, leapDay};
+ghost use Rattle.dates.specs.Months.{daysOf, monthWord, wordIn, monthsAfter, isDateIn, dayIn};
 
 // What the calendar of the years 0 to 9999 says of a date or of a day's number: the other of the two, where it has such a day.
 pub enum Calendar {
@@ -15,10 +16,15 @@ pub enum Calendar {
 pub fn day_of(date: u32) -> Calendar
     ensures { λ r. ⌜ r ≡ dayOn date ⌝ }
 {
-    if is_date(date) {
-        return Calendar::Has(day_number(date));
+    let word = month_word(date / 100);
+    let d = date % 100;
+    if d < 1 {
+        return Calendar::Lacks;
     }
-    Calendar::Lacks
+    if word / 268435456 < d as u64 {
+        return Calendar::Lacks;
+    }
+    Calendar::Has((word % 268435456) as u32 + d - 1)
 }
 
 // The date of the day of this number.
@@ -32,31 +38,66 @@ pub fn date_of_day(day: u32) -> Calendar
     Calendar::Has(y * 10000 + in_year(y, day - days_before_year(y)))
 }
 
-// Whether n is a date of the Gregorian calendar, of the years 0 to 9999.
-pub fn is_date(n: u32) -> bool
-    ensures { λ r. ⌜ r ≡ isDate n ⌝ }
+// Whether n is a date, by the months that are kept: zeros at first, and then what these functions made of them.
+pub fn is_date_in(months: &mut [u64; 64], n: u32) -> bool
+    ensures { λ r. ⌜ (r ≡ isDateIn (now (months .entry)) n) × (now (months .exit) ≡ monthsAfter (now (months .entry)) (n / 100)) ⌝ }
 {
+    let word = word_in(months, n / 100);
     let d = n % 100;
-    if 99999999 < n {
-        return false;
-    }
     if d < 1 {
         return false;
     }
-    d <= days_in(n / 10000, n / 100 % 100)
+    d as u64 <= word / 268435456
 }
 
-// The number of the day of the date n. Of any other number, the days of the years and months before it, and of its month.
-pub fn day_number(n: u32) -> u32
-    ensures { λ r. ⌜ r ≡ dayOf n ⌝ }
+// The number of the day of the date n, by the months that are kept. Of any other number, the days of the years and months before it, and
+// of its month.
+pub fn day_number_in(months: &mut [u64; 64], n: u32) -> u32
+    ensures { λ r. ⌜ (r ≡ dayIn (now (months .entry)) n) × (now (months .exit) ≡ monthsAfter (now (months .entry)) (n / 100)) ⌝ }
 {
-    let y = n / 10000;
+    let word = word_in(months, n / 100);
     let d = n % 100;
-    let first = days_before_year(y) + days_before_month(y, n / 100 % 100);
+    let first = (word % 268435456) as u32;
     if d < 1 {
         return first;
     }
     first + d - 1
+}
+
+// What is known of a month, written year x 100 + month, by the months that are kept, where it is kept after that.
+fn word_in(months: &mut [u64; 64], month: u32) -> u64
+    requires { ⌜ month ≤ 42949672 ⌝ }
+    ensures { λ r. ⌜ (r ≡ wordIn (now (months .entry)) month) × (now (months .exit) ≡ monthsAfter (now (months .entry)) month) × (r < 8589934592) ⌝ }
+{
+    let i = (month % 64) as usize;
+    let entry = months[i];
+    if entry / 8589934592 == month as u64 {
+        return entry % 8589934592;
+    }
+    let word = month_word(month);
+    months[i] = month as u64 * 8589934592 + word;
+    word
+}
+
+// What is known of a month, written year x 100 + month: its days, none past the year 9999, x 2^28 + the days before it.
+fn month_word(month: u32) -> u64
+    requires { ⌜ month ≤ 42949672 ⌝ }
+    ensures { λ r. ⌜ r ≡ monthWord month ⌝ }
+{
+    let y = month / 100;
+    let m = month % 100;
+    let first = days_before_year(y) + days_before_month(y, m);
+    days_of(y, m) as u64 * 268435456 + first as u64
+}
+
+// The days of month m of the year y, none past the year 9999.
+fn days_of(y: u32, m: u32) -> u32
+    ensures { λ r. ⌜ r ≡ daysOf y m ⌝ }
+{
+    if 9999 < y {
+        return 0;
+    }
+    days_in(y, m)
 }
 
 // Whether y is a leap year.

@@ -10,6 +10,7 @@ use lib.Seq.{take-take}
 use lib.Dec.{eqb}
 use Rattle.codec.specs.Codec.{Codec, raw, num, named, checked, placed, asks, limited, timesLocate, timesEach, _then_}
 use Rattle.text.specs.Trim.{trimmedLen}
+use Rattle.dates.specs.Day.{dayOf}
 use Rattle.text.specs.TrimLaws.{trimmed-le}
 use Rattle.table.specs.Table.{flat}
 use Rattle.layout.specs.TextLaws.{rowText}
@@ -54,7 +55,7 @@ module _ (utf8 nulPadded : List ℕ → Bool) (isDate : ℕ → Bool) (width : �
 
   interval-shift : (p q : ℕ) (i : Interval) → Shift f p q → intervalRow (interval utf8 nulPadded isDate width .codec .locate q i) ≡ moveRow f (intervalRow (interval utf8 nulPadded isDate width .codec .locate p i))
   unfolding interval named _then_ date checked num
-  interval-shift p q i h = symbol-shift 37 40 43 4 refl (i .from) (i .to) (p + 4 + 4) (q + 4 + 4) (i .symbol) (shift-on f (p + 4) (q + 4) 4 (shift-on f p q 4 h))
+  interval-shift p q i h = symbol-shift 37 40 43 4 refl (dayOf (i .from)) (dayOf (i .to)) (p + 4 + 4) (q + 4 + 4) (i .symbol) (shift-on f (p + 4) (q + 4) 4 (shift-on f p q 4 h))
 
   mapping-shift : (p q : ℕ) (m : Mapping) → Shift f p q → mappingRows (mapping utf8 nulPadded isDate width .codec .locate q m) ≡ map (moveRow f) (mappingRows (mapping utf8 nulPadded isDate width .codec .locate p m))
   unfolding mapping named asks _then_ limited
@@ -134,7 +135,7 @@ module _ (utf8 nulPadded : List ℕ → Bool) (isDate : ℕ → Bool) (width : �
   unfolding mapping named asks _then_ limited interval symbol placed checked raw date num
   mapping-text m e =
       ap₂ _∷_ (symbol-text 3 refl (length (m .intervals)) 0 (m .rawSymbol) (e .0))
-      (each-map (interval utf8 nulPadded isDate width .codec) intervalRow intervalText (λ i h. symbol-text 4 refl (i .from) (i .to) (i .symbol) (h .1 .1)) (m .intervals) (e .1))
+      (each-map (interval utf8 nulPadded isDate width .codec) intervalRow intervalText (λ i h. symbol-text 4 refl (dayOf (i .from)) (dayOf (i .to)) (i .symbol) (h .1 .1)) (m .intervals) (e .1))
 
   -- what a row names in the bytes is its symbol without the NULs at its end
   pub symbology-texts : (t : Symbology) → symbology utf8 nulPadded isDate width .codec .each (Stands b) t → map (rowText b) (symbologyRows t) ≡ symbologyTexts t

@@ -16,6 +16,7 @@ use Rattle.codec.specs.Format.{raw-edits, num-edits, fixed-edits}
 use Rattle.codec.specs.EditLaws.{edits-kept, edits-still, edits-skip, edits-padded, edits-then, edits-on, edits-named, edits-checked, edits-judged, edits-asks, edits-placed, edits-sized, edits-times, edits-distinct, edits-apart, edits-boxed}
 use Rattle.text.specs.Utf8.{utf8}
 use Rattle.dates.specs.Date.{isDate, isDay, daysIn, isLeap}
+use Rattle.dates.specs.Day.{dayOf, dayNumber, daysTo, daysBefore, daysOfYear}
 use Rattle.wire.specs.Formats.{section, text, textOf, name}
 use Rattle.symbology.specs.Symbology.{symbol, date, list, interval, mapping, symbology}
 use Rattle.symbology.specs.SymbologyRows.{symbologyRows}
@@ -119,7 +120,7 @@ abbrev pub fivesWith : ℕ → List (List ℕ)
 fivesWith n =
     (0 ∷ (168 + 2 * D + 4 * n) ∷ 1 ∷ 0 ∷ 0 ∷ [])
     ∷ (3 ∷ (183 + 2 * D + 4 * n) ∷ 1 ∷ 1 ∷ 0 ∷ [])
-    ∷ (4 ∷ (198 + 2 * D + 4 * n) ∷ 1 ∷ 20240229 ∷ 20240301 ∷ [])
+    ∷ (4 ∷ (198 + 2 * D + 4 * n) ∷ 1 ∷ 739310 ∷ 739311 ∷ [])
     ∷ []
 
 -- its layout rows
@@ -150,7 +151,7 @@ reads = (refl, refl)
 
 -- what is read gives these fields and rows
 gives : (x n : ℕ) (r : List ℕ) (k : ℕ) → gist (lengths 4) (ok (treeWith x n, r) k) ≡ ok (itsFields, (fivesWith n, ninesWith n)) k
-unfolding lengths fieldsOf fieldsWith symbologyRows rows
+unfolding lengths fieldsOf fieldsWith symbologyRows rows dayOf dayNumber daysTo daysBefore daysOfYear daysIn isLeap
 gives x n r k = refl
 
 -- the block is accepted, with a record, a struct, a label def, a symbol and a mapping

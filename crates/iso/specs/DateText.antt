@@ -1,7 +1,11 @@
--- A date as people write it, in ASCII. Assumes nothing.
+-- A day as people write it, in ASCII. Assumes nothing.
 use Prim.Native.Nat.{ℕ, _+_, _/_, _%_}
 use mathlib.Core.Path.{_≡_, sym, _∙_}
 use mathlib.Core.List.{List, [], _∷_}
+use lib.ListN.{replicate}
+use Rattle.dates.specs.Day.{dateOn}
+use Rattle.dates.specs.declared.Calendar.{Calendar}
+use Rattle.dates.specs.declared.Calendar.the-variants.{Has, Lacks}
 
 -- the digit of n that counts w
 abbrev pub digitOf : ℕ → ℕ → ℕ
@@ -14,6 +18,11 @@ dateText n =
     ∷ 45 ∷ digitOf n 1000 ∷ digitOf n 100
     ∷ 45 ∷ digitOf n 10 ∷ digitOf n 1 ∷ []
 
+-- a day by its date, where it has one
+abbrev pub dayText : Calendar → List ℕ
+dayText (Has n) = dateText n
+dayText Lacks = replicate 10 63
+
 -- ONE ANSWER: two that meet the promise are equal
-pub one-text : (n : ℕ) (x y : List ℕ) → x ≡ dateText n → y ≡ dateText n → x ≡ y
-one-text n x y f g = f ∙ sym g
+pub one-text : (k : ℕ) (x y : List ℕ) → x ≡ dayText (dateOn k) → y ≡ dayText (dateOn k) → x ≡ y
+one-text k x y f g = f ∙ sym g

@@ -24,9 +24,9 @@ pub(crate) fn name(s: &[u8]) {
     end();
 }
 
-// A date as yyyy-mm-dd.
+// The date of day n as yyyy-mm-dd.
 pub(crate) fn date(n: u32) {
-    let s = iso::date_text(n);
+    let s = iso::day_text(n);
     text(&s);
 }
 

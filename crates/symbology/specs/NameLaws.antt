@@ -7,6 +7,7 @@ use lib.ListN.{length, getD, take, drop}
 use lib.Seq.{take-take}
 use Rattle.codec.specs.Codec.{Codec, raw, num, named, checked, placed, asks, limited, timesEach, timesLegal, _then_}
 use Rattle.text.specs.Trim.{trimmedLen}
+use Rattle.dates.specs.Day.{dayOf}
 use Rattle.text.specs.TrimLaws.{trimmed-le}
 use Rattle.text.specs.Padded.{nulPadded, beforeNul}
 use Rattle.text.specs.PaddedLaws.{Name, padded-name}
@@ -56,7 +57,7 @@ module _ (utf8 : List ℕ → Bool) (isDate : ℕ → Bool) (width : ℕ) (b : L
   unfolding mapping named asks _then_ limited interval symbol placed checked raw date num
   mapping-named m l e = (
     symbol-named 35 36 42 3 (length (m .intervals)) 0 (m .rawSymbol) (l .0) (e .0),
-    stand-map (interval utf8 nulPadded isDate width .codec) b Good intervalRow (λ i l e. symbol-named 37 40 43 4 (i .from) (i .to) (i .symbol) (l .1 .1) (e .1 .1)) (m .intervals) (l .1 .1) (e .1),
+    stand-map (interval utf8 nulPadded isDate width .codec) b Good intervalRow (λ i l e. symbol-named 37 40 43 4 (dayOf (i .from)) (dayOf (i .to)) (i .symbol) (l .1 .1) (e .1 .1)) (m .intervals) (l .1 .1) (e .1),
   )
 
   -- of every row

@@ -8,6 +8,7 @@ use lib.ListN.{length}
 use lib.Dec.{leb}
 use Rattle.codec.specs.Codec.{raw, num, named, checked, placed, asks, limited, _then_}
 use Rattle.text.specs.TrimLaws.{trimmed-le}
+use Rattle.dates.specs.Day.{dayOf}
 use Rattle.table.specs.Table.{allRows}
 use Rattle.table.specs.EachLaws.{Each, each-append, each-map, each-all, RowInside, PartInside}
 use Rattle.symbology.specs.Symbology.{Symbol, Mapping, Symbology, symbol, date, list, interval, mapping, symbology}
@@ -29,7 +30,7 @@ module _ (utf8 nulPadded : List ℕ → Bool) (isDate : ℕ → Bool) (width m :
   unfolding mapping named asks _then_ limited interval symbol placed checked raw date num
   mapping-lies x e = (
     symbol-lies 3 refl (length (x .intervals)) 0 (x .rawSymbol) (e .0),
-    each-map (interval utf8 nulPadded isDate width .codec) (PartInside m) Good intervalRow (λ i h. symbol-lies 4 refl (i .from) (i .to) (i .symbol) (h .1 .1)) (x .intervals) (e .1),
+    each-map (interval utf8 nulPadded isDate width .codec) (PartInside m) Good intervalRow (λ i h. symbol-lies 4 refl (dayOf (i .from)) (dayOf (i .to)) (i .symbol) (h .1 .1)) (x .intervals) (e .1),
   )
 
   -- every row is of kind 0 to 4, and its text lies within the m bytes

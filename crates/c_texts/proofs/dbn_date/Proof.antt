@@ -1,16 +1,13 @@
--- `dbn_date` says what the check below it says.
+-- What the calendar says.
 -- Assumes nothing.
-use mathlib.Core.Path.{sym, ap, _∙_}
-use Rattle.c_texts.specs.Numbers.{bit}
+use mathlib.Core.Path.{ap, _∙_}
+use Rattle.c_texts.specs.Numbers.{calendarNumber, calendarOut}
 use borrow.Author.Needs.{needs}
 use Rattle.c_texts.proofs.dbn_date.Statement.{statement}
 use Rattle.c_texts.proofs.dbn_date.Tie as tie
 
 returns : tie.Need-returns
-returns c = sym (ap bit (sym (c .before .is-date .ensures) ∙ c .if1 .taken))
-
-returns-2 : tie.Need-returns-2
-returns-2 c = sym (ap bit (sym (c .before .is-date .ensures) ∙ c .if1 .left))
+returns c = (c .put-answer .ensures .0 ∙ ap calendarNumber (c .before .before .day-of .ensures), c .put-answer .ensures .1 ∙ ap (λ a. calendarOut a (c .before .before .before .args .out .now)) (c .before .before .day-of .ensures))
 
 pub dbn-date-spec : {M : Type 1} → statement M
-dbn-date-spec = tie.close (tie.spec (λ c κs. search needs) returns returns-2)
+dbn-date-spec = tie.close (tie.spec (λ c κs. search needs) (λ c κs. search needs) returns)

@@ -1,12 +1,10 @@
 -- The year of the day, and the day in that year.
 -- Assumes nothing.
-use mathlib.Core.Path.{ap, sym, _∙_}
-use Prim.Native.Nat.{ℕ, _+_, _*_, _-_}
+use mathlib.Core.Path.{sym}
 use native.Mathlib.Omega.{arith}
 use borrow.Author.Tests.{lt-ltb, le-ltb}
 use Rattle.dates.specs.Day.{daysBefore, daysOfYear, isDayNumber, dateOn, dateOfDay}
 use Rattle.dates.specs.DayLaws.{all-days}
-use Rattle.dates.specs.declared.Calendar.the-variants.{Has}
 use borrow.Author.Needs.{needs}
 use Rattle.dates.proofs.date_of_day.Statement.{statement}
 use Rattle.dates.proofs.date_of_day.Tie as tie

@@ -3,8 +3,8 @@
 use mathlib.Core.Path.{ap, _∙_}
 use Prim.Native.Nat.{ℕ, _+_, _*_, _-_, _/_}
 use native.Mathlib.Omega.{arith}
-use Rattle.dates.specs.DayLaws.{month-past}
-use Rattle.dates.proofs.Days.{early, late, leap-most}
+use Rattle.dates.specs.DayLaws.{month-past, leap-most}
+use Rattle.dates.proofs.Days.{early, late}
 use borrow.Author.Needs.{needs}
 use Rattle.dates.proofs.days_before_month.Statement.{statement}
 use Rattle.dates.proofs.days_before_month.Tie as tie

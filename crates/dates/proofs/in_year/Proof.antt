@@ -1,10 +1,8 @@
 -- The month of the day, and the days before it in that month.
 -- Assumes nothing.
-use mathlib.Core.Path.{subst, sym}
-use Prim.Native.Nat.{ℕ, _+_, _*_, _-_}
+use mathlib.Core.Path.{sym}
 use native.Mathlib.Omega.{arith}
-use Rattle.dates.specs.Date.{daysIn}
-use Rattle.dates.specs.Day.{daysBefore, monthOf, inYear}
+use Rattle.dates.specs.Day.{inYear}
 use Rattle.dates.specs.DayLaws.{month-most}
 use borrow.Author.Needs.{needs}
 use Rattle.dates.proofs.in_year.Statement.{statement}

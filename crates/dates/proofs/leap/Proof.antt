@@ -2,7 +2,6 @@
 -- Assumes nothing.
 use borrow.Author.Tests.{eq-eqb, ne-eqb}
 use Rattle.dates.specs.Date.{isLeap}
-use borrow.Author.Needs.{needs}
 use Rattle.dates.proofs.leap.Statement.{statement}
 use Rattle.dates.proofs.leap.Tie as tie
 

@@ -1,6 +1,6 @@
 -- The month guessed from 32 days to the month, or the one after it.
 -- Assumes nothing.
-use Prim.Native.Nat.{ℕ, _+_, _/_, _≤_, _<_}
+use Prim.Native.Nat.{ℕ, _≤_, _<_}
 use mathlib.Core.Path.{subst}
 use Rattle.dates.proofs.Days.{month-right, month-one-more}
 use borrow.Author.Needs.{needs}

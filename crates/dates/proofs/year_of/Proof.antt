@@ -1,8 +1,7 @@
 -- The year guessed from 146,097 days in 400 years, or the one before or after it.
 -- Assumes nothing.
-use Prim.Native.Nat.{ℕ, _+_, _≤_, _<_}
+use Prim.Native.Nat.{ℕ, _≤_, _<_}
 use mathlib.Core.Path.{subst}
-use native.Mathlib.Omega.{arith}
 use Rattle.dates.proofs.Days.{year-right, year-one-less, year-one-more}
 use borrow.Author.Needs.{needs}
 use Rattle.dates.proofs.year_of.Statement.{statement}

@@ -1,0 +1,34 @@
+-- A row of an interval has the numbers of its days. Assumes nothing.
+use native.Mathlib.Omega.{arith}
+use mathlib.Core.Path.{sym, _∙_, ap₂, subst}
+use Prim.Native.Nat.{_/_}
+use borrow.Author.Needs.{needs}
+use Rattle.dates.specs.Months.{Right, monthsAfter}
+use Rattle.dates.specs.MonthLaws.{day-right, right-after}
+use Rattle.table.specs.ReadingLaws.{put-as, put-not}
+use Rattle.text.specs.Trim.{trimmedLen}
+use Rattle.symbology.specs.SymbologyRows.{row5}
+use Rattle.symbology.proofs.mappings.put_interval.Statement.{statement}
+use Rattle.symbology.proofs.mappings.put_interval.Tie as tie
+
+returns : tie.Need-returns
+returns c =
+    let first : Right (monthsAfter (c .before .before .before .before .before .before .before .before .before .before .before .args .months .now) (c .before .before .before .before .before .before .before .before .before .before .before .args .from / 100)) = right-after _ (c .before .before .before .before .before .before .before .before .before .before .before .pre .1) _ (omega arith) in
+    let after = subst Right (sym (c .before .before .before .before .before .before .day-number-in .ensures .1)) first in (
+      put-as (ap₂ (row5 4 (c .before .before .before .before .before .before .before .before .before .before .before .args .start) (trimmedLen (c .before .before .before .before .before .before .before .before .before .before .before .args .symbol .now))) (c .before .before .before .before .before .before .day-number-in .ensures .0 ∙ day-right _ (c .before .before .before .before .before .before .before .before .before .before .before .pre .1) _ (omega arith)) (c .before .before .before .before .day-number-in2 .ensures .0 ∙ day-right _ after _ (omega arith))) (c .before .before .put-symbol .ensures),
+      subst Right (sym (c .before .before .before .before .day-number-in2 .ensures .1)) (right-after _ after _ (omega arith)),
+    )
+
+returns-2 : tie.Need-returns-2
+returns-2 c = (record { is = put-not _ _ _ _ (c .if1 .left) }, c .before .before .before .pre .1)
+
+pub put-interval-spec : {M : Type 1} → statement M
+put-interval-spec =
+    tie.close
+    (tie.spec
+    (λ c κs. search needs)
+    (λ c κs. search needs)
+    (λ c κs. search needs)
+    (λ c. search needs)
+    returns
+    returns-2)
