@@ -20,9 +20,13 @@
  * Names. A dataset or symbol comes without the NULs that fill its width, and holds none: after a NUL only NULs may follow. One that is as
  * long as its width has no NUL after it, so go by its length and not to the next NUL. A layout's names hold no NUL, and one follows each.
  *
+ * Days. The dates of an interval come as day numbers: 1 January of year 0 is 0, and each day after it has the next number, by the Gregorian
+ * rule in every year. Year 0 is a leap year, so 1 January of year 1 is 366, and 31 December of year 9999 is 3,652,424, the largest. A later day
+ * has a larger number, and the days from one to another are the difference. dbn_day gives the date of a number, dbn_date the number of a date.
+ *
  * Stack, in bytes that a call needs at the most:
- *     dbn_text, dbn_date, dbn_prelude, dbn_symbology_name, dbn_layout_name,
- *     dbn_frame                                                                4 KiB
+ *     dbn_text, dbn_date, dbn_day, dbn_prelude, dbn_symbology_name,
+ *     dbn_layout_name, dbn_frame                                               4 KiB
  *     dbn_block, dbn_feed, dbn_layout, dbn_write_layout                       32 KiB
  *     the same for a layout of more than 4,096 structs, or with a record
  *     or struct whose fields stand far from the order of their offsets       320 KiB
@@ -43,7 +47,7 @@
 
 /* The version of this header, major x 10000 + minor x 100 + patch. */
 #define DBN_START_VERSION_MAJOR 0
-#define DBN_START_VERSION_MINOR 6
+#define DBN_START_VERSION_MINOR 7
 #define DBN_START_VERSION_PATCH 0
 #define DBN_START_VERSION (DBN_START_VERSION_MAJOR * 10000 + DBN_START_VERSION_MINOR * 100 + DBN_START_VERSION_PATCH)
 
@@ -175,7 +179,7 @@ enum dbn_symbology_kind {
     DBN_KIND_PARTIAL = 1,   /* start, length */
     DBN_KIND_NOT_FOUND = 2, /* start, length */
     DBN_KIND_MAPPING = 3,   /* start, length, count of the intervals that follow */
-    DBN_KIND_INTERVAL = 4   /* start, length, start date, end date */
+    DBN_KIND_INTERVAL = 4   /* start, length, start day, end day, as day numbers */
 };
 
 enum dbn_layout_kind {
@@ -209,6 +213,8 @@ enum dbn_out {
 };
 
 /* The places of `out` of the other functions. */
+enum dbn_date_out { DBN_DATE_DAY = 0 };
+enum dbn_day_out { DBN_DAY_DATE = 0 };
 enum dbn_prelude_out { DBN_PRELUDE_MISSING = 0, DBN_PRELUDE_VERSION = 1, DBN_PRELUDE_LENGTH = 2, DBN_PRELUDE_PLACE = 3 };
 enum dbn_write_out { DBN_WRITE_LENGTH = 0 };
 enum dbn_name_out { DBN_NAME_START = 0, DBN_NAME_LENGTH = 1 };
@@ -217,6 +223,9 @@ enum dbn_frame_out { DBN_FRAME_TAKEN = 0, DBN_FRAME_HELD = 1, DBN_FRAME_NEEDED =
 /* The bytes of a record's header, which are the fewest that a record has, and the most that one has. A store of DBN_FRAME_MOST bytes is never
  * refused by 101. */
 enum dbn_frame_size { DBN_FRAME_HEADER = 16, DBN_FRAME_MOST = 1020 };
+
+/* The largest day number, that of 31 December of year 9999. */
+enum dbn_day_number { DBN_DAY_LAST = 3652424 };
 
 /* Which fields a block has. What is absent has the value 0. */
 enum dbn_present { DBN_HAS_SCHEMA = 1, DBN_HAS_END = 2, DBN_HAS_LIMIT = 4, DBN_HAS_STYPE_IN = 8 };
@@ -239,8 +248,13 @@ static inline enum dbn_step dbn_step_of(uint32_t number, const uint64_t out[20])
 /* 1 where the n bytes are UTF-8, else 0. */
 uint32_t dbn_text(const uint8_t *s, size_t n);
 
-/* 1 where the number is a date, year x 10000 + month x 100 + day, else 0. */
-uint32_t dbn_date(uint32_t yyyymmdd);
+/* 1 where the number is a date, year x 10000 + month x 100 + day, of the years 0 to 9999; then out[DBN_DATE_DAY] is its day number. Else 0, and out
+ * keeps its value. */
+uint32_t dbn_date(uint32_t yyyymmdd, uint64_t out[1]);
+
+/* 1 where the number is a day number, 0 to DBN_DAY_LAST; then out[DBN_DAY_DATE] is its date, year x 10000 + month x 100 + day. Else 0, and out
+ * keeps its value. */
+uint32_t dbn_day(uint32_t day, uint64_t out[1]);
 
 /* The verdict on a prelude. Fewer than 8 bytes: 0 and out = {8 - n, 0, 0, 0}. Else 10, 11 or 12 and out[DBN_PRELUDE_PLACE] is the place, or 0
  * and out = {0, version, block length, 0}. Bytes past the eighth are not looked at. */

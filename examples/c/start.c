@@ -99,6 +99,15 @@ static void text(const uint8_t *bytes, size_t n) {
     putchar('"');
 }
 
+/* The date of an interval's day number, year x 10000 + month x 100 + day. */
+static unsigned date(uint32_t day) {
+    uint64_t out[1];
+    if (dbn_day(day, out) != 1) {
+        abort(); /* every day of an accepted block has a date */
+    }
+    return (unsigned)out[DBN_DAY_DATE];
+}
+
 static void show(const struct start *s) {
     const uint8_t *block = s->store + 8;
     size_t n = (size_t)s->held - 8;
@@ -114,7 +123,7 @@ static void show(const struct start *s) {
         }
         printf("%s", kinds[row[0]]);
         if (row[0] == DBN_KIND_INTERVAL) {
-            printf("%u to %u: ", (unsigned)row[3], (unsigned)row[4]);
+            printf("%u to %u: ", date(row[3]), date(row[4]));
         }
         text(block + name[DBN_NAME_START], (size_t)name[DBN_NAME_LENGTH]);
         putchar('\n');

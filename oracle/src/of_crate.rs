@@ -144,7 +144,6 @@ macro_rules! build {
                 assert_eq!((m.end.map(|x| x.get()), m.limit.map(|x| x.get())), (v.end, v.limit));
                 assert_eq!((m.stype_in.map(|s| s as u8), m.stype_out as u8), (v.stype_in, v.stype_out));
                 assert_eq!((m.ts_out, m.symbol_cstr_len), (v.ts_out, v.width));
-                let date = |d: time::Date| d.year() as u32 * 10000 + d.month() as u32 * 100 + d.day() as u32;
                 let mut wanted: Vec<(u32, &[u8], u32, u32)> = Vec::new();
                 for (kind, list) in [&m.symbols, &m.partial, &m.not_found].into_iter().enumerate() {
                     wanted.extend(list.iter().map(|symbol| (kind as u32, symbol.as_bytes(), 0, 0)));
@@ -152,7 +151,8 @@ macro_rules! build {
                 for mapping in &m.mappings {
                     wanted.push((3, mapping.raw_symbol.as_bytes(), mapping.intervals.len() as u32, 0));
                     for i in &mapping.intervals {
-                        wanted.push((4, i.symbol.as_bytes(), date(i.start_date), date(i.end_date)));
+                        let [start, end] = [i.start_date, i.end_date].map(day_number);
+                        wanted.push((4, i.symbol.as_bytes(), start, end));
                     }
                 }
                 let name = |r: &[u32; 5]| &block[r[1] as usize..(r[1] + r[2]) as usize];
@@ -220,6 +220,18 @@ build!(dbn2_align);
 /// with document 01's alignment.
 pub const BUILDS: [[Build; 3]; 2] =
     [[dbn::BUILD, dbn_size::BUILD, dbn_align::BUILD], [dbn2::BUILD, dbn2_size::BUILD, dbn2_align::BUILD]];
+
+/// The day number of a date of the crate's: its Julian day number, by the formula of Fliegel and van Flandern, less that of 1 January of
+/// year 0.
+fn day_number(date: time::Date) -> u32 {
+    let (year, month, day) = (date.year(), date.month() as i32, date.day() as i32);
+    // -1 in January and February, else 0.
+    let before_march = (month - 14) / 12;
+    let years = 1461 * (year + 4800 + before_march) / 4;
+    let months = 367 * (month - 2 - 12 * before_march) / 12;
+    let centuries = 3 * ((year + 4900 + before_march) / 100) / 4;
+    (years + months - centuries + day - 32_075 - 1_721_060) as u32
+}
 
 /// The layout part of an accepted block.
 pub fn layout_of(block: &[u8]) -> &[u8] {
@@ -338,4 +350,25 @@ fn layout_number(text: &str) -> Option<u32> {
         ("extension gap", 83),
     ];
     parts.iter().find(|(part, _)| tail.contains(part)).map(|(_, number)| *number)
+}
+
+#[cfg(test)]
+mod tests {
+    use super::*;
+    use crate::paper;
+
+    #[test]
+    fn the_crate_s_dates_have_the_plain_program_s_numbers() {
+        for year in 0..=9999 {
+            for (month, day) in [(1, 1), (2, 28), (2, 29), (3, 1), (12, 31)] {
+                let stored = year * 10000 + month * 100 + day;
+                let month = time::Month::try_from(month as u8).expect("a month");
+                let date = time::Date::from_calendar_date(year as i32, month, day as u8);
+                assert_eq!(date.is_ok(), paper::is_date(stored), "{stored}");
+                if let Ok(date) = date {
+                    assert_eq!(day_number(date), paper::day_number(stored), "{stored}");
+                }
+            }
+        }
+    }
 }

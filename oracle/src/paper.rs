@@ -74,17 +74,38 @@ pub fn is_text(b: &[u8]) -> bool {
     true
 }
 
-/// Years 0 to 9999, Gregorian rule.
-pub fn is_date(date: u32) -> bool {
-    let (year, month, day) = (date / 10000, date / 100 % 100, date % 100);
-    let leap = year % 4 == 0 && (year % 100 != 0 || year % 400 == 0);
-    let days = match month {
+/// Whether a year has a leap day, by the Gregorian rule.
+fn is_leap(year: u32) -> bool {
+    year.is_multiple_of(4) && (!year.is_multiple_of(100) || year.is_multiple_of(400))
+}
+
+/// The days of a month, 0 where there is no such month.
+fn days_in(year: u32, month: u32) -> u32 {
+    match month {
         4 | 6 | 9 | 11 => 30,
-        2 => 28 + leap as u32,
+        2 => 28 + is_leap(year) as u32,
         1..=12 => 31,
         _ => 0,
-    };
-    year <= 9999 && day >= 1 && day <= days
+    }
+}
+
+/// Year, month and day of a stored date.
+fn parts_of(date: u32) -> [u32; 3] {
+    [date / 10000, date / 100 % 100, date % 100]
+}
+
+/// Years 0 to 9999, Gregorian rule.
+pub fn is_date(date: u32) -> bool {
+    let [year, month, day] = parts_of(date);
+    year <= 9999 && day >= 1 && day <= days_in(year, month)
+}
+
+/// The number of a date: the days of the years before it, of the months before it, and of its month before it.
+pub fn day_number(date: u32) -> u32 {
+    let [year, month, day] = parts_of(date);
+    let years: u32 = (0..year).map(|year| 365 + is_leap(year) as u32).sum();
+    let months: u32 = (1..month).map(|month| days_in(year, month)).sum();
+    years + months + day - 1
 }
 
 #[derive(Clone, Copy)]
@@ -663,10 +684,24 @@ fn well_formed(row: &[u32], text: &[u8]) -> bool {
 
 #[cfg(test)]
 mod tests {
-    //! Places counted by hand.
+    //! Days and places counted by hand.
     use super::*;
 
     const SHEET: Sheet = [0; 520];
+
+    #[test]
+    fn days_are_counted_from_the_first_of_year_0() {
+        // The last of January, the first of February, the leap day, and the end of year 0; then the first and last of year 1.
+        let first =
+            [(101, 0), (102, 1), (131, 30), (201, 31), (229, 59), (301, 60), (1231, 365), (10101, 366), (11231, 730)];
+        // 400 years have 146,097 days, 97 of them leap days. 1900 has none.
+        let round =
+            [(4000101, 146_097), (16000101, 584_388), (20000101, 730_485), (19000228, 694_019), (19000301, 694_020)];
+        for (date, number) in first.into_iter().chain(round).chain([(20230317, 738_961), (99991231, 3_652_424)]) {
+            assert!(is_date(date), "{date}");
+            assert_eq!(day_number(date), number, "{date}");
+        }
+    }
 
     fn bytes(parts: &[&[u8]]) -> Vec<u8> {
         parts.concat()

@@ -1,5 +1,6 @@
 //! The rows and fields of accepted bytes, by a plain walk that checks nothing. It is held to the crate's own values
 //! (`of_crate.rs`), which carry no places in the bytes.
+use crate::paper::day_number;
 
 /// The length of an entry of a layout.
 pub const ENTRY: usize = 16;
@@ -176,7 +177,8 @@ fn symbology(b: &[u8], mut p: usize, width: usize) -> Vec<[u32; 5]> {
         p += width + 4;
         for _ in 0..intervals {
             let [start, length] = span(p + 8);
-            rows.push([4, start, length, u32_at(b, p), u32_at(b, p + 4)]);
+            let [first, end] = [p, p + 4].map(|p| day_number(u32_at(b, p)));
+            rows.push([4, start, length, first, end]);
             p += 8 + width;
         }
     }

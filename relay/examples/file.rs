@@ -1,5 +1,5 @@
 //! file FILE: shows the start of a DBN file below version 4, and tells why where it is refused.
-use dbn_start::{Feed, Limits, Step};
+use dbn_start::{Day, Feed, Limits, Step};
 use std::{error::Error, fs::File, io::Read, process::ExitCode};
 
 /// Reads the start of a file, and nothing past it.
@@ -30,7 +30,8 @@ fn show(feed: &Feed) {
     for mapping in block.mappings() {
         println!("{:?}", mapping.raw_symbol);
         for interval in mapping.intervals() {
-            println!("  {} to {}: {:?}", interval.start_date, interval.end_date, interval.symbol);
+            let [start, end] = [interval.start_date, interval.end_date].map(Day::yyyymmdd);
+            println!("  {start} to {end}: {:?}", interval.symbol);
         }
     }
 }

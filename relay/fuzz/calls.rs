@@ -214,6 +214,23 @@ pub fn name(bytes: &[u8], rows: &[u32], width: usize, index: u64) -> (u32, [u64;
     (number, values.content("out").try_into().unwrap())
 }
 
+/// The answer and `out` for the day number of a date.
+pub fn date(yyyymmdd: u32, out: &[u64; 1]) -> (u32, [u64; 1]) {
+    told(ffi::dbn_date, yyyymmdd, out)
+}
+
+/// The answer and `out` for the date of a day number.
+pub fn day(day: u32, out: &[u64; 1]) -> (u32, [u64; 1]) {
+    told(ffi::dbn_day, day, out)
+}
+
+fn told(call: unsafe extern "C" fn(u32, *mut [u64; 1]) -> u32, number: u32, out: &[u64; 1]) -> (u32, [u64; 1]) {
+    let mut values = Lent::new(out);
+    // SAFETY: the pointer is to a buffer of the given length.
+    let answer = unsafe { call(number, values.at_mut().cast()) };
+    (answer, values.content("out").try_into().unwrap())
+}
+
 /// The number and `out` of a prelude.
 pub fn prelude(bytes: &[u8], out: &[u64; 4]) -> (u32, [u64; 4]) {
     let lent = Lent::new(bytes);

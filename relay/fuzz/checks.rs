@@ -1,6 +1,7 @@
 //! What must hold of every answer.
 use super::{
     calls::{self, FeedAnswer},
+    days,
     gen::{self, Rng, Sheet},
     texts, Count,
 };
@@ -303,6 +304,7 @@ fn block(
     }
     texts::accepted(r, version, block, sheet, &a);
     let (sn, ln) = (a.out[10] as usize * 5, a.out[11] as usize * 9);
+    days::accepted(block, &a.symbology[..sn]);
     names(r, block, &a.symbology[..sn], 5);
     if version < 4 {
         assert_eq!((a.out[9], ln), (0, 0), "no layout below version 4");
@@ -524,6 +526,7 @@ pub fn anything(r: &mut Rng, sheet: &Sheet, count: &mut Count) {
     let length = r.pick(&[0, 9, 18, 27, 26]);
     let rows = marked(r, length, |x| (x >> 40) as u32 % [3, 16, 300][x as usize % 3]);
     write_any(r, sheet, &rows, &store, version as u16, piece.len() as u16, count);
+    days::any(r);
 }
 
 /// Any bytes as a block of any version: a refusal leaves what was lent, and has its place.

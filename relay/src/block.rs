@@ -1,7 +1,7 @@
 use crate::{
     ffi, named, part, promise,
     tables::{rows, LAYOUT_ROW, SYMBOLOGY_ROW},
-    text, Layout, Refusal, RefusalKind, Sheet, Tables,
+    text, Day, Layout, Refusal, RefusalKind, Sheet, Tables,
 };
 use std::fmt;
 
@@ -223,13 +223,13 @@ pub struct Mapping<'a> {
     count: usize,
 }
 
-/// One interval of a mapping. Dates are year x 10000 + month x 100 + day.
+/// One interval of a mapping. `end_date - start_date` is how many days it has; a stream may also have one that ends before it starts.
 #[derive(Debug, Clone, Copy, PartialEq, Eq)]
 pub struct Interval<'a> {
     /// The first day.
-    pub start_date: u32,
+    pub start_date: Day,
     /// The day after the last.
-    pub end_date: u32,
+    pub end_date: Day,
     /// What the symbol stood for.
     pub symbol: &'a str,
 }
@@ -240,8 +240,8 @@ impl<'a> Mapping<'a> {
         let block = self.block;
         let own = &block.symbology[self.first * SYMBOLOGY_ROW..][..self.count * SYMBOLOGY_ROW];
         (self.first..).zip(rows::<SYMBOLOGY_ROW>(own)).map(move |(at, row)| Interval {
-            start_date: row[3],
-            end_date: row[4],
+            start_date: Day::promised(row[3]),
+            end_date: Day::promised(row[4]),
             symbol: named(block.name(at)),
         })
     }

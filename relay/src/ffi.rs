@@ -1,6 +1,6 @@
 //! The C functions of the library `dbn_c`, as `include/dbn_start.h` declares them.
 //!
-//! Each answers a refusal number (0: accepted), but [`dbn_text`] and [`dbn_date`], which answer 1 for yes and 0 for no.
+//! Each answers a refusal number (0: accepted), but [`dbn_text`], [`dbn_date`] and [`dbn_day`], which answer 1 for yes and 0 for no.
 //! A slice is a pointer and a length; the pointer may be null where the length is 0. What `out` does not name keeps its value. A buffer
 //! that is lent for writing overlaps no other. The header says what a call needs of the stack.
 
@@ -13,6 +13,9 @@ pub const PLACE: usize = 13;
 /// The same in `out` of [`dbn_prelude`].
 pub const PRELUDE_PLACE: usize = 3;
 
+/// The largest day number, that of 31 December of year 9999. 1 January of year 0 has the number 0.
+pub const DAY_LAST: u32 = 3_652_424;
+
 /// The bytes of a record's header, which are the fewest that a record has.
 pub const FRAME_HEADER: usize = 16;
 
@@ -23,8 +26,12 @@ extern "C" {
     /// Whether the bytes are UTF-8.
     pub fn dbn_text(s: *const u8, n: usize) -> u32;
 
-    /// Whether the number is a date, year x 10000 + month x 100 + day.
-    pub fn dbn_date(yyyymmdd: u32) -> u32;
+    /// Whether the number is a date, year x 10000 + month x 100 + day. 1: `out[0]` is its day number. 0: `out` keeps its value.
+    pub fn dbn_date(yyyymmdd: u32, out: *mut [u64; 1]) -> u32;
+
+    /// Whether the number is a day number, at most [`DAY_LAST`]. 1: `out[0]` is its date, year x 10000 + month x 100 + day.
+    /// 0: `out` keeps its value.
+    pub fn dbn_day(day: u32, out: *mut [u64; 1]) -> u32;
 
     /// Below 8 bytes: 0, `out` = {8 - n, 0, 0, 0}. Else 10, 11, 12 with `out[3]` the place, or 0 with `out` = {0, version,
     /// block length, 0}.

@@ -3,6 +3,7 @@
 //! The reading itself is done by the C functions of the library `dbn_c` ([`ffi`]), whose promises are proved. This package lends
 //! them their buffers and gives back names as parts of the caller's own bytes. [`Feed`] takes a stream's start in pieces
 //! and [`Frames`] the records after it, [`Block`] and [`Layout`] take what is already whole, and [`Refusal`] tells what was refused, and at which byte.
+//! The dates of an interval are [`Day`]s, which can be subtracted.
 //!
 //! Nothing here stands in for what is missing: where the library broke its promise, the call panics and says which promise.
 #![warn(missing_docs)]
@@ -16,6 +17,7 @@ compile_error!("the library dbn_c is for machines whose size_t has 64 bits");
 struct Readme;
 
 mod block;
+mod day;
 mod feed;
 pub mod ffi;
 mod frames;
@@ -25,6 +27,7 @@ mod sheet;
 mod tables;
 
 pub use block::{Block, Fields, Interval, Mapping};
+pub use day::Day;
 pub use feed::{Fed, Feed, Step};
 pub use frames::Frames;
 pub use layout::{check_layout_plain, write_layout, Field, Label, LabelDef, Layout, RecordLayout, StructLayout};
@@ -67,10 +70,9 @@ pub fn is_text(bytes: &[u8]) -> bool {
     unsafe { ffi::dbn_text(bytes.as_ptr(), bytes.len()) == 1 }
 }
 
-/// Whether the number is a date: year x 10000 + month x 100 + day, years 0 to 9999, Gregorian rule.
+/// Whether the number is a date: year x 10000 + month x 100 + day, years 0 to 9999, Gregorian rule. [`Day::from_yyyymmdd`] gives its day.
 pub fn is_date(yyyymmdd: u32) -> bool {
-    // SAFETY: a call on a number.
-    unsafe { ffi::dbn_date(yyyymmdd) == 1 }
+    Day::from_yyyymmdd(yyyymmdd).is_some()
 }
 
 /// A number of the library's as the type that it is promised to fit.

@@ -1,7 +1,7 @@
 //! Document 01's table P, checked by hand, and the examples beside it.
 mod common;
 use common::{hex, p10, plain, stream_of};
-use dbn_start::{is_date, is_text, prelude, Block, Feed, Layout, Limits, Prelude, Refusal, Step, Tables};
+use dbn_start::{ffi, is_date, is_text, prelude, Block, Feed, Layout, Limits, Prelude, Refusal, Step, Tables};
 
 /// What a whole stream start comes to when it is fed at once.
 fn fed(bytes: &[u8]) -> Result<Step, Refusal> {
@@ -151,27 +151,57 @@ fn a_symbology_length_that_is_missing_is_27_and_one_past_the_end_is_45() {
     assert_eq!(answer, (28, Some(132)), "one byte that the contents do not reach");
 }
 
+/// The number of a date, or the date of a day number. What is neither leaves `out` as it was.
+fn told(call: unsafe extern "C" fn(u32, *mut [u64; 1]) -> u32, number: u32) -> Option<u64> {
+    let mut out = [u64::MAX - 7];
+    // SAFETY: `out` is ours.
+    match (unsafe { call(number, &mut out) }, out) {
+        (1, [told]) => Some(told),
+        (0, [left]) => {
+            assert_eq!(left, u64::MAX - 7, "out after {number}");
+            None
+        }
+        (answer, _) => panic!("{answer} is no answer to {number}"),
+    }
+}
+
+/// The last day of a month, 0 where there is no such month.
+fn last_day(year: u32, month: u32) -> u32 {
+    let leap = (year % 4 == 0 && year % 100 != 0) || year % 400 == 0;
+    match month {
+        2 if leap => 29,
+        1..=12 => [31, 28, 31, 30, 31, 30, 31, 31, 30, 31, 30, 31][month as usize - 1],
+        _ => 0,
+    }
+}
+
 #[test]
-fn every_date_is_as_the_calendar_says() {
-    let days = [31, 28, 31, 30, 31, 30, 31, 31, 30, 31, 30, 31];
-    let mut dates = 0;
-    for year in 0..=9999u32 {
-        let leap = (year % 4 == 0 && year % 100 != 0) || year % 400 == 0;
-        for month in 0..=13u32 {
-            let last = match month {
-                0 | 13 => 0,
-                2 if leap => 29,
-                _ => days[month as usize - 1],
-            };
-            for day in 0..=32 {
-                let wanted = day >= 1 && day <= last;
-                assert_eq!(is_date(year * 10000 + month * 100 + day), wanted, "{year} {month} {day}");
-                dates += wanted as u32;
+fn every_date_has_the_next_number_and_nothing_else_is_a_date() {
+    let mut day = 0;
+    for first in (0..100_000_000).step_by(100) {
+        let last = last_day(first / 10000, first / 100 % 100);
+        for date in first..first + 100 {
+            if (1..=last).contains(&(date % 100)) {
+                assert_eq!(told(ffi::dbn_date, date), Some(day), "{date}");
+                assert_eq!(told(ffi::dbn_day, day as u32), Some(date as u64), "day {day}");
+                day += 1;
+            } else {
+                assert_eq!(told(ffi::dbn_date, date), None, "{date}");
             }
         }
     }
-    assert_eq!(dates, 3_652_425);
-    assert!(!is_date(100_000_101) && !is_date(u32::MAX));
+    assert_eq!(day, 3_652_425);
+}
+
+#[test]
+fn no_date_after_year_9999_and_no_day_after_its_last() {
+    for date in (100_000_000..=100_001_231).chain([1_000_000_101, 4_294_951_231, u32::MAX]) {
+        assert_eq!(told(ffi::dbn_date, date), None, "{date}");
+    }
+    assert_eq!(told(ffi::dbn_day, 3_652_424), Some(99_991_231));
+    for day in (3_652_425..4_000_000).chain((0..32).map(|bit| u32::MAX << bit)).filter(|&day| day > 3_652_424) {
+        assert_eq!(told(ffi::dbn_day, day), None, "day {day}");
+    }
 }
 
 #[test]

@@ -17,8 +17,10 @@ fn one_contract(feed: &Feed) {
     let mappings: Vec<_> = block.mappings().collect();
     assert_eq!(mappings.len(), 1);
     assert_eq!(mappings[0].raw_symbol, "ES.c.0");
-    let intervals: Vec<_> = mappings[0].intervals().map(|i| (i.start_date, i.end_date, i.symbol)).collect();
-    assert_eq!(intervals, INTERVALS);
+    let dated = mappings[0].intervals().map(|i| (i.start_date.yyyymmdd(), i.end_date.yyyymmdd(), i.symbol));
+    assert_eq!(dated.collect::<Vec<_>>(), INTERVALS);
+    let days = mappings[0].intervals().map(|i| i.end_date - i.start_date);
+    assert_eq!(days.collect::<Vec<_>>(), [75, 91, 91, 91]);
 }
 
 /// Feeds the pieces between the cuts. Every count needed is what is left of the stage.

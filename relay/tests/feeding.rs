@@ -5,7 +5,7 @@ mod common;
 mod gen;
 
 use common::{capture, p10, plain, stream_of};
-use dbn_start::{ffi, Block, Fed, Feed, Limits, Refusal, RefusalKind, Sheet, Step, Tables};
+use dbn_start::{ffi, Block, Day, Fed, Feed, Limits, Refusal, RefusalKind, Sheet, Step, Tables};
 use gen::Rng;
 
 /// The library's answer to a piece, with a store and tables that are long enough: the number, and taken, held, needed and the place.
@@ -157,7 +157,7 @@ fn what_is_listed_outlives_the_list() {
     let mut tables = Tables::default();
     let block = Block::read(2, &bytes[8..], None, &mut tables).unwrap();
     let days: Vec<_> = block.mappings().flat_map(|mapping| mapping.intervals()).map(|one| one.start_date).collect();
-    assert_eq!(days, [20230101, 20230317, 20230616, 20230915]);
+    assert_eq!(days, [20230101, 20230317, 20230616, 20230915].map(|date| Day::from_yyyymmdd(date).expect("a date")));
     let symbols = { Block::clone(&block).symbols() };
     assert_eq!(symbols.collect::<Vec<_>>(), ["ES.c.0"]);
 }

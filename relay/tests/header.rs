@@ -59,6 +59,31 @@ fn records_are_told_as_the_header_says() {
 }
 
 #[test]
+fn days_are_told_as_the_header_says() {
+    assert!(HEADER.contains(&format!("DBN_DAY_LAST = {}", ffi::DAY_LAST)));
+    for name in ["DBN_DATE_DAY", "DBN_DAY_DATE"] {
+        assert!(HEADER.contains(&format!("{name} = 0")), "{name}");
+    }
+}
+
+/// The functions that a text declares after these words, each with how many parameters it has.
+fn declared(text: &str, words: &str) -> Vec<(String, usize)> {
+    let one = |part: &str| {
+        let (name, rest) = part.split_once('(').expect("parameters");
+        let parameters = rest[..rest.find(')').expect("a closing bracket")].split(',');
+        (name.to_string(), parameters.filter(|part| !part.trim().is_empty()).count())
+    };
+    text.split(&format!("\n{words}dbn_")).skip(1).map(one).collect()
+}
+
+#[test]
+fn the_header_declares_the_functions_of_this_package() {
+    let own = declared(include_str!("../src/ffi.rs"), "    pub fn ");
+    assert_eq!(declared(HEADER, "uint32_t "), own);
+    assert!(own.contains(&("day".to_string(), 2)), "{own:?}");
+}
+
+#[test]
 fn the_last_refusal_of_the_header_is_the_last_of_the_library() {
     let (name, ..) = listed().pop().expect("a refusal");
     assert!(HEADER.contains(&format!("DBN_REFUSED_LAST = DBN_REFUSED_{name}\n")), "{name}");

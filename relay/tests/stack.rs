@@ -5,7 +5,7 @@ mod common;
 #[path = "../measure/shapes.rs"]
 mod shapes;
 
-use dbn_start::{check_layout_plain, ffi, is_date, is_text, prelude, write_layout, Frames, Layout, Sheet, Tables};
+use dbn_start::{check_layout_plain, ffi, is_date, is_text, prelude, write_layout, Day, Frames, Layout, Sheet, Tables};
 use shapes::{sheet, tiled, Order};
 use std::ffi::c_void;
 
@@ -150,6 +150,7 @@ type Call<'a> = (String, usize, Box<dyn FnMut() + Send + 'a>);
 fn calls<'a>(sheet: &'a Sheet, layouts: &'a [Measured], symbols: &'a [u8]) -> Vec<Call<'a>> {
     let mut calls: Vec<Call> = vec![
         ("dbn_date".into(), SMALL, Box::new(|| assert!(is_date(20240229)))),
+        ("dbn_day".into(), SMALL, Box::new(|| assert_eq!(Day::LAST.yyyymmdd(), 99991231))),
         ("dbn_text".into(), SMALL, Box::new(|| assert!(is_text("Съешь ещё этих мягких булок".as_bytes())))),
         ("dbn_prelude".into(), SMALL, Box::new(|| assert!(prelude(b"DBN\x03\x64\0\0\0").is_ok()))),
         ("the names".into(), SMALL, Box::new(|| names(&layouts[0].1, symbols))),

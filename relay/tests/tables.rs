@@ -82,7 +82,7 @@ fn rows_past_the_last_are_untouched() {
     assert_eq!((number, out[10], out[11]), (0, 6, 0));
     assert_eq!(symbology[..5], [0, 108, 6, 0, 0]);
     assert_eq!(symbology[5..10], [3, 191, 6, 4, 0]);
-    assert_eq!(symbology[10..15], [4, 274, 4, 20230101, 20230317]);
+    assert_eq!(symbology[10..15], [4, 274, 4, 738_886, 738_961], "1 January and 17 March 2023 as day numbers");
     assert!(symbology[30..].iter().chain(&layout).all(|&x| x == MARK));
 }
 
