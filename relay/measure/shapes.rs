@@ -99,6 +99,18 @@ pub fn symbology(width: usize, symbols: usize, mappings: usize, intervals: usize
     out
 }
 
+/// One mapping with intervals of symbols of no bytes, whose dates are spread over the first so many months of the calendar.
+pub fn intervals(intervals: usize, months: usize) -> Vec<u8> {
+    let mut out = vec![0; 12];
+    out.extend(1u32.to_le_bytes());
+    out.extend((intervals as u32).to_le_bytes());
+    for i in 0..2 * intervals {
+        let month = i * 7919 % months;
+        out.extend(((month / 12 * 10000 + (month % 12 + 1) * 100 + 1) as u32).to_le_bytes());
+    }
+    out
+}
+
 /// Symbols of two-byte letters to their full width (an even one).
 pub fn foreign(width: usize, symbols: usize) -> Vec<u8> {
     let mut out = (symbols as u32).to_le_bytes().to_vec();

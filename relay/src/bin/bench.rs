@@ -194,11 +194,15 @@ fn hostile() {
             });
         }
     }
-    let blocks: [(&str, usize, Shape); 4] = [
+    let blocks: [(&str, usize, Shape); 6] = [
         ("symbols of 22 bytes", 200_000, |n| shapes::block(3, 22, &shapes::symbology(22, n, 0, 0))),
         ("symbols of one byte", 1_000_000, |n| shapes::block(3, 1, &shapes::symbology(1, n, 0, 0))),
         ("mappings of no intervals, width 0", 500_000, |n| shapes::block(3, 0, &shapes::symbology(0, 0, n, 0))),
         ("symbols of 70 bytes of two-byte letters", 50_000, |n| shapes::block(3, 70, &shapes::foreign(70, n))),
+        ("intervals with dates of a year, width 0", 200_000, |n| shapes::block(3, 0, &shapes::intervals(n, 12))),
+        ("intervals with dates of all years, width 0", 200_000, |n| {
+            shapes::block(3, 0, &shapes::intervals(n, 120_000))
+        }),
     ];
     for (what, n, shape) in blocks {
         rising(&format!("dbn_block, {what}"), n, |n| {
