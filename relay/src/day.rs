@@ -92,7 +92,8 @@ impl Sub for Day {
 /// The date as `2023-03-17`.
 impl fmt::Display for Day {
     fn fmt(&self, f: &mut fmt::Formatter<'_>) -> fmt::Result {
-        write!(f, "{:04}-{:02}-{:02}", self.year(), self.month(), self.day())
+        let date = self.yyyymmdd();
+        write!(f, "{:04}-{:02}-{:02}", date / 10000, date / 100 % 100, date % 100)
     }
 }
 

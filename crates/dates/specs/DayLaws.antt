@@ -118,6 +118,10 @@ pub leap-most : (y : ℕ) → leapDay y ≤ 1
 unfolding leapDay
 leap-most y = by-bool (isLeap y) (λ e. rw e (omega arith)) (λ e. rw e (omega arith))
 
+pub february-days : (y : ℕ) → 28 + leapDay y ≡ daysIn y 2
+unfolding leapDay daysIn
+february-days y = by-bool (isLeap y) (λ e. rw e refl) (λ e. rw e refl)
+
 -- no month has more days before it than a year has
 pub month-below : (y m : ℕ) → daysBefore (daysIn y) m ≤ 366
 month-below y m =

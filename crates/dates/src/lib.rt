@@ -6,6 +6,11 @@ ghost use Rattle.dates.specs.Day.{daysBefore, daysOfYear, dayOn, dateOn,
 ghost use Rattle.dates.specs.DayLaws.{In, leapDay};
 ghost use Rattle.dates.specs.Months.{daysOf, monthWord, wordIn, monthsAfter, isDateIn, dayIn};
 
+// What a month's own days count in the number for a month, and what the month counts in that number where it is kept: 2^28 and 2^33.
+const DAYS: u64 = 268435456;
+
+const MONTH: u64 = 8589934592;
+
 // What the calendar of the years 0 to 9999 says of a date or of a day's number: the other of the two, where it has such a day.
 pub enum Calendar {
     Has(u32),
@@ -21,10 +26,10 @@ pub fn day_of(date: u32) -> Calendar
     if d < 1 {
         return Calendar::Lacks;
     }
-    if word / 268435456 < d as u64 {
+    if word / DAYS < d as u64 {
         return Calendar::Lacks;
     }
-    Calendar::Has((word % 268435456) as u32 + d - 1)
+    Calendar::Has((word % DAYS) as u32 + d - 1)
 }
 
 // The date of the day of this number.
@@ -47,7 +52,7 @@ pub fn is_date_in(months: &mut [u64; 64], n: u32) -> bool
     if d < 1 {
         return false;
     }
-    d as u64 <= word / 268435456
+    d as u64 <= word / DAYS
 }
 
 // The number of the day of the date n, by the months that are kept. Of any other number, the days of the years and months before it, and
@@ -57,7 +62,7 @@ pub fn day_number_in(months: &mut [u64; 64], n: u32) -> u32
 {
     let word = word_in(months, n / 100);
     let d = n % 100;
-    let first = (word % 268435456) as u32;
+    let first = (word % DAYS) as u32;
     if d < 1 {
         return first;
     }
@@ -71,11 +76,11 @@ fn word_in(months: &mut [u64; 64], month: u32) -> u64
 {
     let i = (month % 64) as usize;
     let entry = months[i];
-    if entry / 8589934592 == month as u64 {
-        return entry % 8589934592;
+    if entry / MONTH == month as u64 {
+        return entry % MONTH;
     }
     let word = month_word(month);
-    months[i] = month as u64 * 8589934592 + word;
+    months[i] = month as u64 * MONTH + word;
     word
 }
 
@@ -87,7 +92,7 @@ fn month_word(month: u32) -> u64
     let y = month / 100;
     let m = month % 100;
     let first = days_before_year(y) + days_before_month(y, m);
-    days_of(y, m) as u64 * 268435456 + first as u64
+    days_of(y, m) as u64 * DAYS + first as u64
 }
 
 // The days of month m of the year y, none past the year 9999.
@@ -115,10 +120,7 @@ fn days_in(y: u32, m: u32) -> u32
     ensures { λ r. ⌜ r ≡ daysIn y m ⌝ }
 {
     if m == 2 {
-        if leap(y) {
-            return 29;
-        }
-        return 28;
+        return 28 + leap_day(y);
     }
     if m < 1 {
         return 0;
