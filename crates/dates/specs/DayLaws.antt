@@ -122,6 +122,10 @@ pub february-days : (y : ℕ) → 28 + leapDay y ≡ daysIn y 2
 unfolding leapDay daysIn
 february-days y = by-bool (isLeap y) (λ e. rw e refl) (λ e. rw e refl)
 
+december-days : (y : ℕ) → daysIn y 12 ≡ 31
+unfolding daysIn
+december-days y = refl
+
 -- no month has more days before it than a year has
 pub month-below : (y m : ℕ) → daysBefore (daysIn y) m ≤ 366
 month-below y m =
@@ -206,6 +210,15 @@ lengths-most : (leap : Bool) (m : ℕ) → m < 13 → lengths leap m ≤ 31
 lengths-most true m h = leb→le _ _ (below-at (λ m. leb (lengths true m) 31) 13 tt m h)
 lengths-most false m h = leb→le _ _ (below-at (λ m. leb (lengths false m) 31) 13 tt m h)
 
+lengths-least : (leap : Bool) (m : ℕ) → m < 12 → 1 ≤ lengths leap (suc m)
+lengths-least true m h = leb→le _ _ (below-at (λ m. leb 1 (lengths true (suc m))) 12 tt m h)
+lengths-least false m h = leb→le _ _ (below-at (λ m. leb 1 (lengths false (suc m))) 12 tt m h)
+
+-- a month has a first day
+pub month-least : (y m : ℕ) → m < 12 → 1 ≤ daysIn y (suc m)
+unfolding daysIn
+month-least y m h = lengths-least (isLeap y) m h
+
 -- a month has at most 31 days
 pub month-most : (y m : ℕ) → daysIn y m ≤ 31
 unfolding daysIn
@@ -270,7 +283,7 @@ module _ {y m d : ℕ} (h : Dated y m d) where
         last-is (daysIn y) 12 m (daysBefore (daysIn y) m + (d - 1)) (h .month) (omega arith) in-month,
       ) (omega (arith, h .first))
 
-  -- and of no other number
+  -- its number is that of the written date
   pub number-of-date : dayNumber y m d ≡ dayOf (y * 10000 + m * 100 + d)
   number-of-date = sym (written-day y m d (omega (arith, h .month)) (omega (arith, h .last, month-most y m)))
 
@@ -360,7 +373,7 @@ module _ (k : ℕ) (h : k ≤ 3652424) where
       ∙ sym (number-of-date dated-day)
       ∙ omega (arith, in-one-year .begun, in-one-month .begun)
 
--- the day after a date is one more
+-- the date after a date is a date, but after the last, and its day is one more
 module _ (n : ℕ) (e : isDate n ≡ true) where
   abbrev y : ℕ
   y = n / 10000
@@ -371,33 +384,69 @@ module _ (n : ℕ) (e : isDate n ≡ true) where
   abbrev d : ℕ
   d = n % 100
 
-  number-is : dayOf n ≡ dayNumber y m d
-  unfolding dayOf
-  number-is = refl
+  -- it is written so
+  record After : Type 0 where
+    year : ℕ
+    month : ℕ
+    day : ℕ
+    written-so : dateAfter n ≡ year * 10000 + month * 100 + day
+    small : (month < 100) × (day < 100)
+    more : dayNumber year month day ≡ dayNumber y m d + 1
+    dated : n < 99991231 → Dated year month day
 
-  after-in-month : d < daysIn y m → dayOf (dateAfter n) ≡ dayOf n + 1
+  after-in-month : d < daysIn y m → After
   unfolding dateAfter dayNumber daysTo
-  after-in-month lt =
-      rw (lt-ltb d (daysIn y m) lt, number-is)
-      (ap dayOf (omega arith) ∙ written-day y m (d + 1) (omega arith) (omega (arith, month-most y m)) ∙ omega (arith, date-is n e .first))
+  after-in-month lt = record {
+    year = y;
+    month = m;
+    day = d + 1;
+    written-so = rw (lt-ltb d (daysIn y m) lt) (omega arith);
+    small = (omega arith, omega (arith, month-most y m));
+    more = omega (arith, date-is n e .first);
+    dated = λ _. record { year = date-is n e .year; month = date-is n e .month; first = omega arith; last = omega arith };
+  }
 
-  after-in-year : daysIn y m ≤ d → m < 12 → dayOf (dateAfter n) ≡ dayOf n + 1
+  after-in-year : daysIn y m ≤ d → m < 12 → After
   unfolding dateAfter dayNumber daysTo
-  after-in-year ge lt =
-      rw (le-ltb d (daysIn y m) ge, lt-ltb m 12 lt, number-is)
-      (ap dayOf (omega arith) ∙ written-day y (suc m) 1 (omega arith) (omega arith) ∙ omega (arith, date-is n e .first, date-is n e .last, before-next (daysIn y) m))
+  after-in-year ge lt = record {
+    year = y;
+    month = suc m;
+    day = 1;
+    written-so = rw (le-ltb d (daysIn y m) ge, lt-ltb m 12 lt) (omega arith);
+    small = (omega arith, omega arith);
+    more = omega (arith, date-is n e .first, date-is n e .last, before-next (daysIn y) m);
+    dated = λ _. record { year = date-is n e .year; month = lt; first = omega arith; last = month-least y m lt };
+  }
 
-  after-year : daysIn y m ≤ d → 12 ≤ m → dayOf (dateAfter n) ≡ dayOf n + 1
+  after-year : daysIn y m ≤ d → 12 ≤ m → After
   unfolding dateAfter dayNumber daysTo daysOfYear
-  after-year ge le =
-      let months : daysOfYear y ≡ daysBefore (daysIn y) 13 = refl in
-      let days = ap (daysIn y) december in
-      rw (le-ltb d (daysIn y m) ge, le-ltb m 12 le, number-is)
-      (ap dayOf (omega arith) ∙ written-day (suc y) 1 1 (omega arith) (omega arith) ∙ rw december
-      (omega (arith, date-is n e .first, date-is n e .last, before-next daysOfYear y, before-next (daysIn y) 12, month-before (suc y) 1 (omega arith))))
+  after-year ge le = record {
+    year = suc y;
+    month = 1;
+    day = 1;
+    written-so = rw (le-ltb d (daysIn y m) ge, le-ltb m 12 le) (omega arith);
+    small = (omega arith, omega arith);
+    more = rw december (omega (arith, date-is n e .first, last, before-next daysOfYear y, months, before-next (daysIn y) 12, month-before (suc y) 1 (omega arith)));
+    dated = λ h. record { year = omega (arith, last, december-days y); month = omega arith; first = omega arith; last = month-least (suc y) 0 (omega arith) };
+  }
     where
       december : m ≡ 12
       december = omega (arith, date-is n e .month)
 
+      last : d ≡ daysIn y 12
+      last = omega (arith, ap (daysIn y) december, date-is n e .last)
+
+      months : daysOfYear y ≡ daysBefore (daysIn y) 13
+      months = refl
+
+  after : After
+  after = by-le (daysIn y m) d (λ ge. by-le 12 m (λ le. after-year ge le) (λ lt. after-in-year ge lt)) (λ lt. after-in-month lt)
+
   pub day-after : dayOf (dateAfter n) ≡ dayOf n + 1
-  day-after = by-le (daysIn y m) d (λ ge. by-le 12 m (λ le. after-year ge le) (λ lt. after-in-year ge lt)) (λ lt. after-in-month lt)
+  unfolding dayOf
+  day-after = ap dayOf (after .written-so) ∙ written-day (after .year) (after .month) (after .day) (after .small .0) (after .small .1) ∙ after .more
+
+  pub after-dated : n < 99991231 → isDate (dateAfter n) ≡ true
+  after-dated h =
+      ap isDate (after .written-so) ∙ written (after .year) (after .month) (after .day) (after .small .0) (after .small .1)
+      ∙ is-dated (after .year) (after .month) (after .day) (after .dated h)
