@@ -21,7 +21,7 @@ use Rattle.symbology.specs.declared.SectionAnswer.{SectionAnswer}
 use Rattle.symbology.specs.declared.SectionAnswer.the-variants as SectionAnswer'
 use Rattle.block.specs.Block.{Header, Block, lengths, header, widthOf, layoutPart, symbologyPart, toBlock, block, blockOf}
 use Rattle.block.specs.Fields.{fieldsWith, fieldsOf}
-use Rattle.block.specs.Read.{fives, nines, roomy, over, blockAnswer, blockSymbology, blockLayout, Promise, answerOf, symbologyAfter, layoutAfter}
+use Rattle.block.specs.Read.{sixes, nines, roomy, over, blockAnswer, blockSymbology, blockLayout, Promise, answerOf, symbologyAfter, layoutAfter}
 use Rattle.block.specs.Parts.{Fixed, OfHeader, refusalOf, Headed, layoutTable, LayoutRead, LayoutReads, lays, lays-no, SymbologyReads, Does}
 use Rattle.block.specs.declared.MetadataLengths.{MetadataLengths}
 use Rattle.block.specs.declared.Fields.{Fields}
@@ -53,12 +53,12 @@ module _ (v : MetadataLengths) {z : Res (Block × List ℕ)} (s l : List ℕ) wh
   does-no e = record { answer = rw e; symbology = rw e; layout = rw e }
 
   module _ {x : Block × List ℕ} {i : ℕ} (e : z ≡ ok x i) where
-    does-short : roomy (x .0) (length s) (length l) ≡ false → Does v z s l (Short (length (fives (x .0))) (length (nines (x .0)))) s l
+    does-short : roomy (x .0) (length s) (length l) ≡ false → Does v z s l (Short (length (sixes (x .0))) (length (nines (x .0)))) s l
     unfolding answerOf symbologyAfter layoutAfter
     does-short q = record { answer = rw (e, q); symbology = rw (e, q); layout = rw (e, q) }
 
     does-read : {s′ l′ : List ℕ} {f : Fields} → roomy (x .0) (length s) (length l) ≡ true → leb (length (nines (x .0))) (length l / 9) ≡ true
-        → s′ ≡ over (fives (x .0)) 5 s → l′ ≡ leave l (ok (x .0 .layout) 0) → f ≡ fieldsOf v (x .0) → Does v z s l (Read f) s′ l′
+        → s′ ≡ over (sixes (x .0)) 6 s → l′ ≡ leave l (ok (x .0 .layout) 0) → f ≡ fieldsOf v (x .0) → Does v z s l (Read f) s′ l′
     unfolding answerOf symbologyAfter layoutAfter
     does-read q q9 es el ef = record { answer = rw (e, q, ef); symbology = es ∙ rw (e, q); layout = el ∙ leave-ok l (x .0 .layout) 0 ∙ rw (e, q, q9) }
 
@@ -95,7 +95,7 @@ module _ (sheet : List ℕ) (v : MetadataLengths) (b : List ℕ) (w : ℕ) (s l 
       {write : Bool} {s′ : List ℕ} {r : SectionAnswer} (S : SymbologyReads (v .«has_layout») write w b at s s′ r) where
     pub body-bad : {k : Refusal} → r ≡ SectionAnswer'.Refused k → Does v (whole (block sheet v .codec) 0 b) s l (Refused k) s′ l
     body-bad {k} q =
-        let (e, es) = rows-refused (S .fives) q in
+        let (e, es) = rows-refused (S .sixes) q in
         rw es (does-no v s l (whole-bad sheet v b H w eh (hd .width-is H 100 eh) (L .is) (S .is ∙ rw e)))
 
     -- the layout table was asked first
@@ -111,7 +111,7 @@ module _ (sheet : List ℕ) (v : MetadataLengths) (b : List ℕ) (w : ℕ) (s l 
         room9 = rw (L .many) er
 
         room : roomy read (length s) (length l) ≡ written
-        room = swap (leb (length (symbologyRows (W .tree))) (length s / 5)) _ ∙ rw (← room9) (W .room)
+        room = swap (leb (length (symbologyRows (W .tree))) (length s / 6)) _ ∙ rw (← room9) (W .room)
           where
             swap : (x y : Bool) → (x && y) ≡ (y && x)
             swap true true = refl
@@ -125,13 +125,13 @@ module _ (sheet : List ℕ) (v : MetadataLengths) (b : List ℕ) (w : ℕ) (s l 
 
       pub body-short : {n5 : ℕ} → r ≡ SectionAnswer'.Counted n5 → Does v (whole (block sheet v .codec) 0 b) s l (Short n5 n9) s′ l
       body-short {n5} q =
-          let W = rows-counted (S .fives) q in
+          let W = rows-counted (S .sixes) q in
           rw (W .leaves, ← W .many, ← L .many) (does-short v s l (is W) (room W))
 
       pub body-read : {n5 j : ℕ} {l′ : List ℕ} {F : Fields} → r ≡ SectionAnswer'.Read n5 j → l′ ≡ layoutTable (v .«has_layout») (take (at - 104) (drop 104 b)) l
           → OfHeader v b (λ h. F ≡ fieldsWith v h ver n5 n9) → Does v (whole (block sheet v .codec) 0 b) s l (Read F) s′ l′
       body-read q el ef =
-          let W = rows-read (S .fives) q in
+          let W = rows-read (S .sixes) q in
           does-read v s l (is W) (room W) (sym (room9 W) ∙ first write _ (W .room)) (W .leaves) (el ∙ L .leaves l ∙ leave-anywhere l _ _ 0) (fields-is W ef)
         where
           first : (x y : Bool) → (x && y) ≡ true → x ≡ true

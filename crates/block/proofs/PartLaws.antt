@@ -303,7 +303,7 @@ module _ (sheet : List ℕ) (width : ℕ) (b : List ℕ) where
 module _ (width : ℕ) (b : List ℕ) (at : ℕ) where
   pub symbology-cut : (has : Bool) {write : Bool} {t : List ℕ} {k : Refusal} → sectionAt has b at ≡ Span'.Refused k → SymbologyReads has write width b at t t (SectionAnswer'.Refused k)
   unfolding symbologyPart full
-  symbology-cut true {k = k} e = record { part = refuse k; end = λ j. j; is = rw (boxed-cut 27 27 45 0 zero-le (λ p. p) (symbology utf8 nulPadded isDate width .codec .each) (symbology utf8 nulPadded isDate width .codec) b at e); fives = refused-promise }
+  symbology-cut true {k = k} e = record { part = refuse k; end = λ j. j; is = rw (boxed-cut 27 27 45 0 zero-le (λ p. p) (symbology utf8 nulPadded isDate width .codec .each) (symbology utf8 nulPadded isDate width .codec) b at e); sixes = refused-promise }
   symbology-cut false e = absurd (let z : _≡_ {A = ℕ} 0 1 = cc in omega arith)
 
   module _ (small : length b ≤ 4294967295) where
@@ -344,5 +344,5 @@ module _ (width : ℕ) (b : List ℕ) (at : ℕ) where
 
       pub symbology-reads : {write : Bool} {t t′ : List ℕ} {r r′ : SectionAnswer} → SectionPromise write (sectionOf has width p (take (p + n - p) (drop p b))) t t′ r → r ≡ r′ → SymbologyReads has write width b at t t′ (movedIn p r′)
       symbology-reads {write} {t} {t′} f q = subst (λ (x : SectionAnswer). SymbologyReads has write width b at t t′ (movedIn p x)) q (by-bool has
-          (λ y. record { part = shifted p (sectionOf has width p (take (p + n - p) (drop p b))); end = λ _. p + n; is = section-is y; fives = promise-moved p f })
-          (λ y. record { part = shifted p (sectionOf has width p (take (p + n - p) (drop p b))); end = λ j. at + j; is = rest-is y; fives = promise-moved p f }))
+          (λ y. record { part = shifted p (sectionOf has width p (take (p + n - p) (drop p b))); end = λ _. p + n; is = section-is y; sixes = promise-moved p f })
+          (λ y. record { part = shifted p (sectionOf has width p (take (p + n - p) (drop p b))); end = λ j. at + j; is = rest-is y; sixes = promise-moved p f }))

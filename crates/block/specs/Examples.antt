@@ -37,12 +37,12 @@ zeroFields width n = record {
 }
 
 -- P10: trailing NULs are no part of a symbol
-pub P10 : (sheet : List ℕ) → given 2 sheet (listed (69 ∷ 83 ∷ 0 ∷ [])) ≡ ok (zeroFields 3 1, ((0 ∷ 108 ∷ 2 ∷ 0 ∷ 0 ∷ []) ∷ [], [])) 123
+pub P10 : (sheet : List ℕ) → given 2 sheet (listed (69 ∷ 83 ∷ 0 ∷ [])) ≡ ok (zeroFields 3 1, ((0 ∷ 108 ∷ 2 ∷ 0 ∷ 0 ∷ 0 ∷ []) ∷ [], [])) 123
 unfolding blockOf lengths whole block _on_ header named _then_ checked raw skip num layoutPart sized symbologyPart remainder symbology list limited symbol placed date interval mapping asks symbologyRows rows fieldsOf fieldsWith utf8
 P10 sheet = refl
 
 -- a symbol without a NUL has its whole width
-pub wide : (sheet : List ℕ) → given 2 sheet (listed (69 ∷ 83 ∷ 71 ∷ [])) ≡ ok (zeroFields 3 1, ((0 ∷ 108 ∷ 3 ∷ 0 ∷ 0 ∷ []) ∷ [], [])) 123
+pub wide : (sheet : List ℕ) → given 2 sheet (listed (69 ∷ 83 ∷ 71 ∷ [])) ≡ ok (zeroFields 3 1, ((0 ∷ 108 ∷ 3 ∷ 0 ∷ 0 ∷ 0 ∷ []) ∷ [], [])) 123
 unfolding blockOf lengths whole block _on_ header named _then_ checked raw skip num layoutPart sized symbologyPart remainder symbology list limited symbol placed date interval mapping asks symbologyRows rows fieldsOf fieldsWith utf8
 wide sheet = refl
 

@@ -2,11 +2,11 @@
 use Prim.Native.Nat.{ℕ, _+_}
 use native.Mathlib.Nat.{zero-add}
 use mathlib.Core.Path.{_≡_, sym, subst}
-use mathlib.Core.Bool.{Bool, true, false}
+use mathlib.Core.Bool.{true}
 use mathlib.Core.List.{List, _++_, append-assoc}
 use lib.ListN.{length, take}
 use lib.Seq.{take-append-seam}
-use Rattle.codec.specs.Codec.{ok, Bytes, raw, named, checked, full, boxed, remainder, _then_, _on_}
+use Rattle.codec.specs.Codec.{ok, Bytes, raw, named, checked, _then_, _on_}
 use Rattle.codec.specs.Laws.{whole-back, left-part, part-take}
 use Rattle.text.specs.Utf8.{utf8}
 use Rattle.text.specs.Trim.{trimmedLen}
@@ -14,24 +14,13 @@ use Rattle.text.specs.Padded.{nulPadded}
 use Rattle.text.specs.PaddedLaws.{Name}
 use Rattle.dates.specs.Date.{isDate}
 use Rattle.table.specs.EachLaws.{Each}
-use Rattle.symbology.specs.Symbology.{Symbology, symbology}
 use Rattle.symbology.specs.NameLaws.{NamedIn, Stands, name-stands, symbology-named}
-use Rattle.block.specs.Block.{Block, header, widthOf, symbologyPart, block, lengths, blockOf}
-use Rattle.block.specs.Read.{fives}
-use Rattle.block.specs.SpanLaws.{symbology-each, block-whole}
+use Rattle.block.specs.Block.{Block, header, widthOf, block, lengths, blockOf}
+use Rattle.block.specs.Read.{sixes}
+use Rattle.block.specs.SpanLaws.{symbology-legal, symbology-each, block-whole}
 use Rattle.block.specs.declared.MetadataLengths.{MetadataLengths}
 
--- the symbology of a legal block is legal
-part-legal : (p : Bool) (w : ℕ) (t : Symbology) → symbologyPart p w .codec .legal t → symbology utf8 nulPadded isDate w .codec .legal t
-unfolding symbologyPart full boxed remainder
-part-legal true w t l = l .0
-part-legal false w t l = l
-
-symbology-legal : (sheet : List ℕ) (v : MetadataLengths) (x : Block) → block sheet v .codec .legal x → symbology utf8 nulPadded isDate (widthOf v (x .header)) .codec .legal (x .symbology)
-unfolding block named _on_ _then_
-symbology-legal sheet v x l = part-legal (v .«has_layout») (widthOf v (x .header)) (x .symbology) (l .1 .1)
-
--- its dataset has the version's length and only NULs after a NUL
+-- the dataset of a legal block has the version's length and only NULs after a NUL
 dataset-legal : (sheet : List ℕ) (v : MetadataLengths) (x : Block) → block sheet v .codec .legal x → (length (x .header .dataset) ≡ v .«dataset_cstr_len») × (nulPadded (x .header .dataset) ≡ true)
 unfolding block named _on_ _then_ header checked raw
 dataset-legal sheet v x l = (l .0 .0 .0 .0 .0, l .0 .0 .1)
@@ -54,8 +43,8 @@ module _ (version : ℕ) (sheet b : List ℕ) (z : Block × List ℕ) (k : ℕ) 
       name-stands b (v .«dataset_cstr_len») 0 (z .0 .header .dataset) wide padded (subst (λ a. Stands a 0 (z .0 .header .dataset)) (sym (w .bytes)) (dataset-first sheet v (z .0) (z .1)))
 
   -- so is the name of every symbology row in its symbol
-  pub fives-named : Each (NamedIn b (widthOf v (z .0 .header))) (fives (z .0))
-  fives-named =
+  pub sixes-named : Each (NamedIn b (widthOf v (z .0 .header))) (sixes (z .0))
+  sixes-named =
       let F = block sheet v in
       let w = whole-back (F .codec) (F .law) 0 b z k bs (block-whole version sheet b z k e) in
       let h : F .codec .each (Stands b) (F .codec .locate 0 (z .0)) =

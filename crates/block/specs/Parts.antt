@@ -91,7 +91,7 @@ pub record SymbologyReads (has write : Bool) (width : ℕ) (b : List ℕ) (at : 
   pub part : Res Symbology
   pub end : ℕ → ℕ
   pub is : symbologyPart has width .codec .parse 0 b at ≡ (part >>= λ x j. ok x (end j))
-  pub fives : SectionPromise write part t t′ r
+  pub sixes : SectionPromise write part t t′ r
 
 -- the answer and the tables after reading z
 pub record Does (v : MetadataLengths) (z : Res (Block × List ℕ)) (s l : List ℕ) (r : BlockAnswer) (s′ l′ : List ℕ) : Type 0 where

@@ -18,16 +18,16 @@ use Rattle.block.specs.declared.MetadataLengths.{MetadataLengths}
 use Rattle.block.specs.declared.BlockAnswer.{BlockAnswer}
 use Rattle.block.specs.declared.BlockAnswer.the-variants.{Read, Refused, Short}
 
--- a block's rows: symbology in fives, starts counted from the block; layout in nines, starts counted from the layout
-abbrev pub fives : Block → List (List ℕ)
-fives b = symbologyRows (b .symbology)
+-- a block's rows: symbology in sixes, starts counted from the block; layout in nines, starts counted from the layout
+abbrev pub sixes : Block → List (List ℕ)
+sixes b = symbologyRows (b .symbology)
 
 abbrev pub nines : Block → List (List ℕ)
 nines b = rows (b .layout)
 
 -- both tables, of so many numbers, hold the rows
 abbrev pub roomy : Block → ℕ → ℕ → Bool
-roomy b m n = leb (length (fives b)) (m / 5) && leb (length (nines b)) (n / 9)
+roomy b m n = leb (length (sixes b)) (m / 6) && leb (length (nines b)) (n / 9)
 
 -- what refuses a block: its version, its size, its header, its sections, the symbology's contents, the layout's bytes, the rules
 abbrev pub blockNumbers : List ℕ
@@ -36,7 +36,7 @@ blockNumbers = 11 ∷ 13 ∷ 20 ∷ 21 ∷ 22 ∷ 23 ∷ 24 ∷ 25 ∷ 26 ∷ 27
 -- refused; or all is accepted and the tables are long enough; or 3, with the rows needed of both
 unfoldable pub answerOf : MetadataLengths → Res (Block × List ℕ) → ℕ → ℕ → BlockAnswer
 answerOf v (refuse k) m n = Refused k
-answerOf v (ok z j) m n = cond (roomy (z .0) m n) (Read (fieldsOf v (z .0))) (Short (length (fives (z .0))) (length (nines (z .0))))
+answerOf v (ok z j) m n = cond (roomy (z .0) m n) (Read (fieldsOf v (z .0))) (Short (length (sixes (z .0))) (length (nines (z .0))))
 
 -- rows over the front of a table
 abbrev pub over : List (List ℕ) → ℕ → List ℕ → List ℕ
@@ -44,7 +44,7 @@ over rs w t = flat rs ++ drop (w * length rs) t
 
 unfoldable pub symbologyAfter : Res (Block × List ℕ) → List ℕ → List ℕ → List ℕ
 symbologyAfter (refuse k) s l = s
-symbologyAfter (ok z j) s l = cond (roomy (z .0) (length s) (length l)) (over (fives (z .0)) 5 s) s
+symbologyAfter (ok z j) s l = cond (roomy (z .0) (length s) (length l)) (over (sixes (z .0)) 6 s) s
 
 unfoldable pub layoutAfter : Res (Block × List ℕ) → List ℕ → List ℕ → List ℕ
 layoutAfter (refuse k) s l = l

@@ -19,51 +19,51 @@ use Rattle.block.specs.declared.MetadataLengths.{MetadataLengths}
 use Rattle.block.specs.declared.Fields.{Fields}
 use Rattle.block.specs.declared.BlockAnswer.{BlockAnswer}
 use Rattle.block.specs.declared.BlockAnswer.the-variants.{Read, Refused}
-use Rattle.block.specs.Read.{fives, nines, roomy, answerOf, over, symbologyAfter, layoutAfter, blockAnswer, blockSymbology, blockLayout, Promise}
+use Rattle.block.specs.Read.{sixes, nines, roomy, answerOf, over, symbologyAfter, layoutAfter, blockAnswer, blockSymbology, blockLayout, Promise}
 
 -- ---- tables that are long enough
 
 -- an accepted block whose rows the tables hold: its fields, and the rows over the front of both tables
 pub record Held (v : ℕ) (z : Block) (s l : List ℕ) (r : BlockAnswer) (s′ l′ : List ℕ) : Type 0 where
   pub answer : r ≡ Read (fieldsOf (lengths v) z)
-  pub symbology : s′ ≡ over (fives z) 5 s
+  pub symbology : s′ ≡ over (sixes z) 6 s
   pub layout : l′ ≡ over (nines z) 9 l
 
 pub held : {v : ℕ} {b t s l : List ℕ} {r : BlockAnswer} {s′ l′ : List ℕ} (z : Block × List ℕ) (k : ℕ) → Promise v b t s l r s′ l′ → blockOf v t b ≡ ok z k
-    → length (fives (z .0)) ≤ length s / 5 → length (nines (z .0)) ≤ length l / 9 → Held v (z .0) s l r s′ l′
+    → length (sixes (z .0)) ≤ length s / 6 → length (nines (z .0)) ≤ length l / 9 → Held v (z .0) s l r s′ l′
 unfolding blockAnswer blockSymbology blockLayout answerOf symbologyAfter layoutAfter
 held {s = s} {l = l} z k p e m n =
-    let a = le-leb (length (fives (z .0))) (length s / 5) m in
+    let a = le-leb (length (sixes (z .0))) (length s / 6) m in
     let b = le-leb (length (nines (z .0))) (length l / 9) n in
     record { answer = rw (e, a, b) at (p .answer); symbology = rw (e, a, b) at (p .symbology); layout = rw (e, a, b) at (p .layout) }
 
 -- of what was read: the fields, the symbology rows and the layout rows
 abbrev pub gist : MetadataLengths → Res (Block × List ℕ) → Res (Fields × (List (List ℕ) × List (List ℕ)))
-gist v r = r >>= λ z j. ok (fieldsOf v (z .0), (fives (z .0), nines (z .0))) j
+gist v r = r >>= λ z j. ok (fieldsOf v (z .0), (sixes (z .0), nines (z .0))) j
 
 -- what a block gives, or the refusal
 abbrev pub given : ℕ → List ℕ → List ℕ → Res (Fields × (List (List ℕ) × List (List ℕ)))
 given v t b = gist (lengths v) (blockOf v t b)
 
 -- both tables are long enough: the fields are answered, the rows stand at the front of the tables, the rest of them is as it was
-pub read-given : (v : ℕ) (b t s l : List ℕ) (f : Fields) (five nine : List (List ℕ)) (k : ℕ) → given v t b ≡ ok (f, (five, nine)) k
-    → length five ≤ length s / 5 → length nine ≤ length l / 9 → Promise v b t s l (Read f) (over five 5 s) (over nine 9 l)
-read-given v b t s l f five nine k e hs hl = go (blockOf v t b) refl e
+pub read-given : (v : ℕ) (b t s l : List ℕ) (f : Fields) (six nine : List (List ℕ)) (k : ℕ) → given v t b ≡ ok (f, (six, nine)) k
+    → length six ≤ length s / 6 → length nine ≤ length l / 9 → Promise v b t s l (Read f) (over six 6 s) (over nine 9 l)
+read-given v b t s l f six nine k e hs hl = go (blockOf v t b) refl e
   where
-    go : (r : Res (Block × List ℕ)) → blockOf v t b ≡ r → gist (lengths v) r ≡ ok (f, (five, nine)) k
-        → Promise v b t s l (Read f) (over five 5 s) (over nine 9 l)
+    go : (r : Res (Block × List ℕ)) → blockOf v t b ≡ r → gist (lengths v) r ≡ ok (f, (six, nine)) k
+        → Promise v b t s l (Read f) (over six 6 s) (over nine 9 l)
     go (refuse n) q e = absurd (let y : _≡_ {A = ℕ} 0 1 = cc in omega arith)
     go (ok z j) q e =
-        let x : _≡_ {A = Fields × (List (List ℕ) × List (List ℕ))} (fieldsOf (lengths v) (z .0), (fives (z .0), nines (z .0))) (f, (five, nine)) = cc in
-        let e5 : fives (z .0) ≡ five = ap (λ y. y .1 .0) x in
+        let x : _≡_ {A = Fields × (List (List ℕ) × List (List ℕ))} (fieldsOf (lengths v) (z .0), (sixes (z .0), nines (z .0))) (f, (six, nine)) = cc in
+        let e6 : sixes (z .0) ≡ six = ap (λ y. y .1 .0) x in
         let e9 : nines (z .0) ≡ nine = ap (λ y. y .1 .1) x in
-        let h5 : length (fives (z .0)) ≤ length s / 5 = rw e5 hs in
+        let h6 : length (sixes (z .0)) ≤ length s / 6 = rw e6 hs in
         let h9 : length (nines (z .0)) ≤ length l / 9 = rw e9 hl in
         let p : Promise v b t s l (blockAnswer v b t s l) (blockSymbology v b t s l) (blockLayout v b t s l) = record { answer = refl; symbology = refl; layout = refl } in
-        let h = held z j p q h5 h9 in
+        let h = held z j p q h6 h9 in
         record {
           answer = sym (h .answer ∙ ap (λ y. Read (y .0)) x);
-          symbology = sym (h .symbology ∙ ap (λ (rs : List (List ℕ)). over rs 5 s) e5);
+          symbology = sym (h .symbology ∙ ap (λ (rs : List (List ℕ)). over rs 6 s) e6);
           layout = sym (h .layout ∙ ap (λ (rs : List (List ℕ)). over rs 9 l) e9);
         }
 
@@ -102,13 +102,13 @@ again-of v (ok z j) s l = go (roomy (z .0) (length s) (length l)) refl
         × (layoutAfter (ok z j) (symbologyAfter (ok z j) s l) (layoutAfter (ok z j) s l) ≡ layoutAfter (ok z j) s l)
     go true q =
         let (a, b) = both-true _ _ q in
-        let ha : length (fives (z .0)) ≤ length s / 5 = leb-true _ _ a in
+        let ha : length (sixes (z .0)) ≤ length s / 6 = leb-true _ _ a in
         let hb : length (nines (z .0)) ≤ length l / 9 = leb-true _ _ b in
         let ws = symbology-flat (z .0 .symbology) in
         let wl = rows-flat (z .0 .layout) in
-        let ls : length (over (fives (z .0)) 5 s) ≡ length s = over-length (fives (z .0)) 5 ws s (omega arith) in
+        let ls : length (over (sixes (z .0)) 6 s) ≡ length s = over-length (sixes (z .0)) 6 ws s (omega arith) in
         let ll : length (over (nines (z .0)) 9 l) ≡ length l = over-length (nines (z .0)) 9 wl l (omega arith) in
-        (simp (q, ls, ll), simp (q, ls, ll) (over-again (fives (z .0)) 5 ws s), simp (q, ls, ll) (over-again (nines (z .0)) 9 wl l))
+        (simp (q, ls, ll), simp (q, ls, ll) (over-again (sixes (z .0)) 6 ws s), simp (q, ls, ll) (over-again (nines (z .0)) 9 wl l))
     go false q = (simp q, simp q, simp q)
 
 pub again : (v : ℕ) (b t s l : List ℕ) → Again v b t s l

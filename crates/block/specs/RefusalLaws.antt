@@ -26,7 +26,7 @@ use Rattle.rules.specs.Rules.{ruleNumbers}
 use Rattle.rules.specs.RefusalLaws.{rules-fault}
 use Rattle.block.specs.Block.{Block, lengths, header, layoutPart, symbologyPart, block, blockOf}
 use Rattle.block.specs.Fields.{fieldsOf}
-use Rattle.block.specs.Read.{fives, nines, roomy, blockNumbers, answerOf, blockAnswer, Promise}
+use Rattle.block.specs.Read.{sixes, nines, roomy, blockNumbers, answerOf, blockAnswer, Promise}
 use Rattle.block.specs.declared.MetadataLengths.{MetadataLengths}
 use Rattle.block.specs.declared.BlockAnswer.the-variants.{Read, Refused, Short}
 
@@ -80,7 +80,7 @@ answer-refused : (v : MetadataLengths) (r : Res (Block × List ℕ)) (m n : ℕ)
 unfolding answerOf
 answer-refused v (ok z j) m n {k} e = absurd (go (roomy (z .0) m n) e)
   where
-    go : (b : Bool) → Refused k ≡ cond b (Read (fieldsOf v (z .0))) (Short (length (fives (z .0))) (length (nines (z .0)))) → ⊥
+    go : (b : Bool) → Refused k ≡ cond b (Read (fieldsOf v (z .0))) (Short (length (sixes (z .0))) (length (nines (z .0)))) → ⊥
     go true e = let z : _≡_ {A = ℕ} 0 1 = cc in omega arith
     go false e = let z : _≡_ {A = ℕ} 0 1 = cc in omega arith
 answer-refused v (refuse j) m n {k} e = let q : j ≡ k = cc in ap refuse q

@@ -20,8 +20,18 @@ use Rattle.layout.specs.Layout.{Layout}
 use Rattle.layout.specs.Rows.{rows}
 use Rattle.layout.specs.ReadLaws.{no-rows}
 use Rattle.block.specs.Block.{Block, v1, v2, widthOf, layoutPart, symbologyPart, block, lengths, blockOf}
-use Rattle.block.specs.Read.{fives, nines}
+use Rattle.block.specs.Read.{sixes, nines}
 use Rattle.block.specs.declared.MetadataLengths.{MetadataLengths}
+
+-- the symbology of a legal block is legal
+part-legal : (p : Bool) (w : ℕ) (t : Symbology) → symbologyPart p w .codec .legal t → symbology utf8 nulPadded isDate w .codec .legal t
+unfolding symbologyPart full boxed remainder
+part-legal true w t l = l .0
+part-legal false w t l = l
+
+pub symbology-legal : (sheet : List ℕ) (v : MetadataLengths) (x : Block) → block sheet v .codec .legal x → symbology utf8 nulPadded isDate (widthOf v (x .header)) .codec .legal (x .symbology)
+unfolding block named _on_ _then_
+symbology-legal sheet v x l = part-legal (v .«has_layout») (widthOf v (x .header)) (x .symbology) (l .1 .1)
 
 -- the symbology's section has the places of its contents
 part-each : (p : Bool) (w : ℕ) (P : ℕ → List ℕ → Type 0) (t : Symbology) → symbologyPart p w .codec .each P t → symbology utf8 nulPadded isDate w .codec .each P t
@@ -43,14 +53,14 @@ block-whole version sheet b z k e =
     need-ok (leb (length b) 4294967295) 13 0 _ z k e2 .1
 
 -- every symbology row of an accepted block, of any version, is of kind 0 to 4, and its text lies within the block
-pub fives-lie : (version : ℕ) (sheet b : List ℕ) (z : Block × List ℕ) (k : ℕ) → Bytes b → blockOf version sheet b ≡ ok z k → Each (RowInside 0 4 (length b)) (fives (z .0))
-fives-lie version sheet b z k bs e =
+pub sixes-lie : (version : ℕ) (sheet b : List ℕ) (z : Block × List ℕ) (k : ℕ) → Bytes b → blockOf version sheet b ≡ ok z k → Each (RowInside 0 4 (length b)) (sixes (z .0))
+sixes-lie version sheet b z k bs e =
     let v = lengths version in
     let F = block sheet v in
     let w = whole-back (F .codec) (F .law) 0 b z k bs (block-whole version sheet b z k e) in
     let h : F .codec .each (PartInside (length b)) (F .codec .locate 0 (z .0)) =
     F .law .spotted (PartInside (length b)) 0 (z .0) (λ n u q. subst (λ a. PartInside (length a) (0 + n) u) (sym (w .bytes)) (part-inside (z .1) q)) in
-    symbology-lies utf8 nulPadded isDate (widthOf v (z .0 .header)) (length b) (z .0 .symbology)
+    symbology-lies utf8 nulPadded isDate (widthOf v (z .0 .header)) (length b) (z .0 .symbology) (symbology-legal sheet v (z .0) (w .legal))
     (symbology-each sheet v (PartInside (length b)) (z .0) (subst (F .codec .each (PartInside (length b))) (w .located) h))
 
 -- the layout's part of a version without a layout has no rows

@@ -60,11 +60,11 @@ pub(crate) fn fields_of(
     block: &[u8],
     v: MetadataLengths,
     version: usize,
-    fives: usize,
+    sixes: usize,
     nines: usize,
 ) -> Fields
     requires { ⌜ Fixed v (now block) ⌝ }
-    ensures { λ r. ⌜ OfHeader v (now (block .entry)) (λ h. r ≡ fieldsWith v h version fives nines) ⌝ }
+    ensures { λ r. ⌜ OfHeader v (now (block .entry)) (λ h. r ≡ fieldsWith v h version sixes nines) ⌝ }
 {
     let end = v.dataset_cstr_len;
     let dataset = &block[0..end];
@@ -83,7 +83,7 @@ pub(crate) fn fields_of(
         ts_out: block[at + 2] != 0,
         symbol_cstr_len: symbol_width(block, v) as usize,
         layout_version: version,
-        symbology_rows: fives,
+        symbology_rows: sixes,
         layout_rows: nines,
     }
 }

@@ -126,14 +126,14 @@ fn read_body(
             let write = nines <= layout.len() / 9;
             match parts::symbology_part(block, at, has_layout, width, write, symbology) {
                 symbology::SectionAnswer::Read {
-                    rows: fives,
+                    rows: sixes,
                     next: _,
                 } => {
                     parts::put_layout(block, has_layout, at, layout);
-                    BlockAnswer::Read(header::fields_of(block, v, version, fives, nines))
+                    BlockAnswer::Read(header::fields_of(block, v, version, sixes, nines))
                 }
-                symbology::SectionAnswer::Counted(fives) => BlockAnswer::Short {
-                    symbology: fives,
+                symbology::SectionAnswer::Counted(sixes) => BlockAnswer::Short {
+                    symbology: sixes,
                     layout: nines,
                 },
                 symbology::SectionAnswer::Refused(why) => BlockAnswer::Refused(why),

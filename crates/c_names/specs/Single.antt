@@ -36,7 +36,7 @@ module _ (n : ℕ) (rows : List ℕ) (index : ℕ) {r q : ℕ} {o1 o2 : List ℕ
 module _ (n : ℕ) (rows : List ℕ) (index : ℕ) {r : ℕ} {o : List ℕ} where
   -- either gives 0 or 90
   pub symbology-name-number : SpanC (symbologySpan n rows index) r o → In (0 ∷ 90 ∷ []) r
-  symbology-name-number f = span-number (symbologySpan n rows index) (f .0) (λ k e. span-refuses 5 symbolText n rows index e)
+  symbology-name-number f = span-number (symbologySpan n rows index) (f .0) (λ k e. span-refuses 6 symbolText n rows index e)
 
   pub layout-name-number : SpanC (layoutSpan n rows index) r o → In (0 ∷ 90 ∷ []) r
   layout-name-number f = span-number (layoutSpan n rows index) (f .0) (λ k e. span-refuses 9 itemText n rows index e)

@@ -12,8 +12,8 @@ fn main() {
     let mut input = io::buffer();
     let n = io::read_full(STDIN_FILENO, &mut input);
     let mut store = io::buffer();
-    let mut rows = [0u32; 320];
-    let mut other = [0u32; 320];
+    let mut rows = [0u32; 384];
+    let mut other = [0u32; 384];
     capture(&input[..n], &mut store, &mut rows, &mut other);
 }
 
@@ -155,7 +155,7 @@ fn clear(rows: &mut [u32]) {
 fn first_interval(rows: &[u32]) -> usize
     ensures { λ r. ⌜ r ≤ length (now (rows .entry)) ⌝ }
 {
-    let n = rows.len() / 5;
+    let n = rows.len() / 6;
     let mut i = 0;
     while i < n {
         if cell(rows, i, 0) == 4 {
@@ -221,10 +221,10 @@ fn show_row(block: &[u8], rows: &[u32], i: usize) {
 
 // Number j of row i; 0 past the table.
 fn cell(rows: &[u32], i: usize, j: usize) -> u32
-    requires { ⌜ j < 5 ⌝ }
+    requires { ⌜ j < 6 ⌝ }
 {
-    if i < rows.len() / 5 {
-        return rows[5 * i + j];
+    if i < rows.len() / 6 {
+        return rows[6 * i + j];
     }
     0
 }

@@ -19,10 +19,10 @@ use Rattle.layout.specs.Layout.{parts, toLayout, bareLayout}
 use Rattle.layout.specs.TextLaws.{rowText, texts}
 use Rattle.block.specs.Block.{Header, Block, v4, lengths, header, layoutPart, block, blockOf}
 use Rattle.block.specs.Fields.{fieldsWith, fieldsOf}
-use Rattle.block.specs.Read.{fives, nines, blockAnswer, answerOf}
+use Rattle.block.specs.Read.{sixes, nines, blockAnswer, answerOf}
 use Rattle.demands.specs.LayoutRows.{moveRow}
 use Rattle.demands.specs.SymbologyRows.{symbologyTexts, symbology-located}
-use Rattle.demands.specs.Edited.{header-length, B4, width, section, layoutIn, header-bare, layout-bare, parted, nines-move, fives-move, section-moved, section-stays, nines-texts, fives-texts, rest-bytes, block-back}
+use Rattle.demands.specs.Edited.{header-length, B4, width, section, layoutIn, header-bare, layout-bare, parted, nines-move, sixes-move, section-moved, section-stays, nines-texts, sixes-texts, rest-bytes, block-back}
 
 -- the bytes of an accepted block by what may become of them; the bytes after them are ignored
 abbrev pub marking : List ℕ → Block → Marked
@@ -36,10 +36,10 @@ pub record SameRead (sheet b : List ℕ) (z : Block) (b′ : List ℕ) (before :
   -- the same answer: the fields and the counts of rows, or that a table is short
   pub answer : (s l : List ℕ) → blockAnswer 4 b′ sheet s l ≡ blockAnswer 4 b sheet s l
   -- the same rows, each start moved; a layout's first byte stands at place 104
-  pub symbology : fives value ≡ map (moveRow (λ n. n + before n)) (fives z)
+  pub symbology : sixes value ≡ map (moveRow (λ n. n + before n)) (sixes z)
   pub layout : nines value ≡ map (moveRow (λ n. n + before (104 + n))) (nines z)
   -- each name the same bytes
-  pub names : map (rowText b′) (fives value) ≡ map (rowText b) (fives z)
+  pub names : map (rowText b′) (sixes value) ≡ map (rowText b) (sixes z)
   pub layoutNames : map (rowText (layoutIn sheet b′)) (nines value) ≡ map (rowText (layoutIn sheet b)) (nines z)
 
 module _ (sheet : List ℕ) where
@@ -68,13 +68,13 @@ module _ (sheet : List ℕ) where
   length-map f (x ∷ xs) = ap suc (length-map f xs)
 
   fields-same : (x y : Block) → B4 sheet .bare y ≡ B4 sheet .bare x → B4 sheet .locate 0 x ≡ x
-      → length (fives (B4 sheet .locate 0 y)) ≡ length (fives x) → length (nines (B4 sheet .locate 0 y)) ≡ length (nines x)
+      → length (sixes (B4 sheet .locate 0 y)) ≡ length (sixes x) → length (nines (B4 sheet .locate 0 y)) ≡ length (nines x)
       → fieldsOf v4 (B4 sheet .locate 0 y) ≡ fieldsOf v4 x
   unfolding fieldsOf
   fields-same x y e at f n =
       let z = B4 sheet .locate 0 y in
       let v : z .layout .version ≡ x .layout .version = version-at y ∙ version-bare x y e in
-      let i = length (fives x) in
+      let i = length (sixes x) in
       let j = length (nines x) in
       let h : fieldsWith v4 (z .header) (x .layout .version) i j ≡ fieldsWith v4 (x .header) (x .layout .version) i j =
       ap (λ h. fieldsWith v4 h (x .layout .version) i j) (header-at y)
@@ -93,7 +93,7 @@ module _ (sheet : List ℕ) where
 
   -- tables lent: the answer goes by the counts and the fields alone
   answers-same : (b b′ : List ℕ) (x z : Block) (r r′ : List ℕ) (i j : ℕ) → blockOf 4 sheet b ≡ ok (x, r) i → blockOf 4 sheet b′ ≡ ok (z, r′) j
-      → length (fives z) ≡ length (fives x) → length (nines z) ≡ length (nines x) → fieldsOf v4 z ≡ fieldsOf v4 x
+      → length (sixes z) ≡ length (sixes x) → length (nines z) ≡ length (nines x) → fieldsOf v4 z ≡ fieldsOf v4 x
       → (s l : List ℕ) → blockAnswer 4 b′ sheet s l ≡ blockAnswer 4 b sheet s l
   unfolding blockAnswer answerOf lengths
   answers-same b b′ x z r r′ i j p q f n e s l = rw (p, q, f, n, e)
@@ -111,22 +111,22 @@ module _ (sheet : List ℕ) where
         let d = parted sheet x y legal ly e in
         let low : 100 ≤ length b′ = omega (arith, ap length q, long y r′ ly) in
         let ok′ : blockOf 4 sheet b′ ≡ ok (z, r′) (length b′) = block-of b′ low fits ∙ subst (λ v. whole c 0 v ≡ ok (z, r′) (length v)) (sym q) (whole-reads c (block sheet v4 .law) 0 y r′ ly) in
-        let f5 : fives z ≡ map (moveRow (λ n. n + put e n)) (fives x) = subst (λ v. fives z ≡ map (moveRow (λ n. n + put e n)) (fives v)) at (fives-move sheet x y (put e) legal ly same d) in
+        let f6 : sixes z ≡ map (moveRow (λ n. n + put e n)) (sixes x) = subst (λ v. sixes z ≡ map (moveRow (λ n. n + put e n)) (sixes v)) at (sixes-move sheet x y (put e) legal ly same d) in
         let f9 : nines z ≡ map (moveRow (λ n. n + put e (104 + n))) (nines x) = subst (λ v. nines z ≡ map (moveRow (λ n. n + put e (104 + n))) (nines v)) at (nines-move sheet x y (put e) legal same d) in
-        let n5 = ap length f5 ∙ length-map _ (fives x) in
+        let n6 = ap length f6 ∙ length-map _ (sixes x) in
         let n9 = ap length f9 ∙ length-map _ (nines x) in
         record {
           value = z;
           rest = r′;
           accepted = ok′;
-          answer = answers-same b b′ x z r r′ k (length b′) read ok′ n5 n9 (fields-same x y same at n5 n9);
-          symbology = f5;
+          answer = answers-same b b′ x z r r′ k (length b′) read ok′ n6 n9 (fields-same x y same at n6 n9);
+          symbology = f6;
           layout = f9;
           names =
-              ap (λ v. map (rowText v) (fives z)) q ∙ fives-texts sheet y r′
+              ap (λ v. map (rowText v) (sixes z)) q ∙ sixes-texts sheet y r′
               ∙ ap symbologyTexts (section-moved sheet x y (put e) legal ly same d) ∙ symbology-located utf8 nulPadded isDate (width sheet x) (section sheet y + 4) (x .symbology)
               ∙ sym (symbology-located utf8 nulPadded isDate (width sheet x) (section sheet x + 4) (x .symbology)) ∙ ap symbologyTexts (sym (section-stays sheet x))
-              ∙ sym (fives-texts sheet x r) ∙ ap₂ (λ v u. map (rowText v) (fives u)) (sym bytes) at;
+              ∙ sym (sixes-texts sheet x r) ∙ ap₂ (λ v u. map (rowText v) (sixes u)) (sym bytes) at;
           layoutNames =
               ap (λ v. map (rowText (layoutIn sheet v)) (nines z)) q ∙ nines-texts sheet y r′ ly (rest-bytes sheet y ly)
               ∙ bare-texts x y same

@@ -10,13 +10,13 @@ use lib.ListN.{length, length-map}
 use Rattle.codec.specs.Codec.{ok, Bytes}
 use Rattle.codec.specs.Edits.{Marked, bytesOf, Edit, put}
 use Rattle.layout.specs.ReadLaws.{rows-nine}
-use Rattle.symbology.specs.ReadLaws.{rows-of-five}
+use Rattle.symbology.specs.ReadLaws.{rows-of-six}
 use Rattle.names.specs.declared.Span.the-variants.{Part}
 use Rattle.names.specs.NameLaws.{symbol-no-field, item-no-field}
 use Rattle.names.specs.Names.{symbolText, itemText, symbologySpan, layoutSpan, partIn}
 use Rattle.block.specs.Block.{Block, lengths, blockOf}
 use Rattle.block.specs.Fields.{fieldsOf}
-use Rattle.block.specs.Read.{fives, nines, over, blockAnswer, blockSymbology, blockLayout, Promise}
+use Rattle.block.specs.Read.{sixes, nines, over, blockAnswer, blockSymbology, blockLayout, Promise}
 use Rattle.block.specs.ReadLaws.{held}
 use Rattle.block.specs.declared.BlockAnswer.{BlockAnswer}
 use Rattle.block.specs.declared.BlockAnswer.the-variants.{Read}
@@ -36,7 +36,7 @@ pub record Call : Type 0 where
 -- the call reads the version 4 block b as `read_block` promises, and the tables hold the rows of the block z
 pub record Reads (sheet b : List ℕ) (z : Block) (c : Call) : Type 0 where
   pub promise : Promise 4 b sheet (c .symbology) (c .layout) (c .answer) (c .symbology-after) (c .layout-after)
-  pub symbology-room : length (fives z) ≤ length (c .symbology) / 5
+  pub symbology-room : length (sixes z) ≤ length (c .symbology) / 6
   pub layout-room : length (nines z) ≤ length (c .layout) / 9
 
 -- the call c on the block b, read as z, and the call d on the edited block b′: `before n` bytes were put in before place n of b
@@ -45,21 +45,21 @@ pub record SameCalls (sheet b : List ℕ) (z : Block) (b′ : List ℕ) (before 
   pub answer : c .answer ≡ Read (fieldsOf (lengths 4) z)
   pub same-answer : d .answer ≡ c .answer
   -- both symbology tables begin with the rows, after the second call each start moved; the rest of each is as it was
-  pub symbology : c .symbology-after ≡ over (fives z) 5 (c .symbology)
-  pub symbology-moved : d .symbology-after ≡ over (map (moveRow (λ n. n + before n)) (fives z)) 5 (d .symbology)
+  pub symbology : c .symbology-after ≡ over (sixes z) 6 (c .symbology)
+  pub symbology-moved : d .symbology-after ≡ over (map (moveRow (λ n. n + before n)) (sixes z)) 6 (d .symbology)
   -- so do both layout tables; a layout's first byte stands at place 104
   pub layout : c .layout-after ≡ over (nines z) 9 (c .layout)
   pub layout-moved : d .layout-after ≡ over (map (moveRow (λ n. n + before (104 + n))) (nines z)) 9 (d .layout)
   -- asked for by index, every symbology row gives its start and length, and never 90; the second call's start is moved
-  pub parts : (i : ℕ) → i < length (fives z) → symbologySpan (length b) (c .symbology-after) i ≡ Part (startOf (fives z) i) (lengthOf (fives z) i)
-  pub parts-moved : (i : ℕ) → i < length (fives z) → symbologySpan (length b′) (d .symbology-after) i ≡ Part (startOf (fives z) i + before (startOf (fives z) i)) (lengthOf (fives z) i)
+  pub parts : (i : ℕ) → i < length (sixes z) → symbologySpan (length b) (c .symbology-after) i ≡ Part (startOf (sixes z) i) (lengthOf (sixes z) i)
+  pub parts-moved : (i : ℕ) → i < length (sixes z) → symbologySpan (length b′) (d .symbology-after) i ≡ Part (startOf (sixes z) i + before (startOf (sixes z) i)) (lengthOf (sixes z) i)
   -- so does every layout row whose kind has a text
   pub layout-parts : (i : ℕ) → i < length (nines z) → itemText (kindOf (nines z) i) ≡ true
       → layoutSpan (length (layoutIn sheet b)) (c .layout-after) i ≡ Part (startOf (nines z) i) (lengthOf (nines z) i)
   pub layout-parts-moved : (i : ℕ) → i < length (nines z) → itemText (kindOf (nines z) i) ≡ true
       → layoutSpan (length (layoutIn sheet b′)) (d .layout-after) i ≡ Part (startOf (nines z) i + before (104 + startOf (nines z) i)) (lengthOf (nines z) i)
   -- each name the same bytes
-  pub names : (i : ℕ) → i < length (fives z) → partIn b′ (symbologySpan (length b′) (d .symbology-after) i) ≡ partIn b (symbologySpan (length b) (c .symbology-after) i)
+  pub names : (i : ℕ) → i < length (sixes z) → partIn b′ (symbologySpan (length b′) (d .symbology-after) i) ≡ partIn b (symbologySpan (length b) (c .symbology-after) i)
   pub layout-names : (i : ℕ) → i < length (nines z)
       → partIn (layoutIn sheet b′) (layoutSpan (length (layoutIn sheet b′)) (d .layout-after) i) ≡ partIn (layoutIn sheet b) (layoutSpan (length (layoutIn sheet b)) (c .layout-after) i)
 
@@ -69,14 +69,14 @@ module _ (sheet b : List ℕ) (z : Block) (r : List ℕ) (k : ℕ) (bytes : Byte
       let f : ℕ → ℕ = λ n. n + before n in
       let g : ℕ → ℕ = λ n. n + before (104 + n) in
       let y = e .value in
-      let n5 : length (fives y) ≡ length (fives z) = ap length (e .symbology) ∙ length-map (fives z) (moveRow f) in
+      let n6 : length (sixes y) ≡ length (sixes z) = ap length (e .symbology) ∙ length-map (sixes z) (moveRow f) in
       let n9 : length (nines y) ≡ length (nines z) = ap length (e .layout) ∙ length-map (nines z) (moveRow g) in
       let H = held (z, r) k (p .promise) read (p .symbology-room) (p .layout-room) in
-      let H′ = held (y, e .rest) (length b′) (q .promise) (e .accepted) (subst (λ (n : ℕ). n ≤ length (d .symbology) / 5) (sym n5) (q .symbology-room)) (subst (λ (n : ℕ). n ≤ length (d .layout) / 9) (sym n9) (q .layout-room)) in
+      let H′ = held (y, e .rest) (length b′) (q .promise) (e .accepted) (subst (λ (n : ℕ). n ≤ length (d .symbology) / 6) (sym n6) (q .symbology-room)) (subst (λ (n : ℕ). n ≤ length (d .layout) / 9) (sym n9) (q .layout-room)) in
       let again : Promise 4 b sheet (d .symbology) (d .layout) (blockAnswer 4 b sheet (d .symbology) (d .layout)) (blockSymbology 4 b sheet (d .symbology) (d .layout)) (blockLayout 4 b sheet (d .symbology) (d .layout)) =
       record { answer = refl; symbology = refl; layout = refl } in
       let A = held (z, r) k again read (q .symbology-room) (q .layout-room) in
-      let t5 : d .symbology-after ≡ over (map (moveRow f) (fives z)) 5 (d .symbology) = H′ .symbology ∙ ap (λ (rs : List (List ℕ)). over rs 5 (d .symbology)) (e .symbology) in
+      let t6 : d .symbology-after ≡ over (map (moveRow f) (sixes z)) 6 (d .symbology) = H′ .symbology ∙ ap (λ (rs : List (List ℕ)). over rs 6 (d .symbology)) (e .symbology) in
       let t9 : d .layout-after ≡ over (map (moveRow g) (nines z)) 9 (d .layout) = H′ .layout ∙ ap (λ (rs : List (List ℕ)). over rs 9 (d .layout)) (e .layout) in
       let N = asked sheet b (z, r) k bytes read H in
       let M = asked sheet b′ (y, e .rest) (length b′) bytes′ (e .accepted) H′ in
@@ -85,14 +85,14 @@ module _ (sheet b : List ℕ) (z : Block) (r : List ℕ) (k : ℕ) (bytes : Byte
         answer = H .answer;
         same-answer = q .promise .answer ∙ e .answer (d .symbology) (d .layout) ∙ A .answer ∙ sym (H .answer);
         symbology = H .symbology;
-        symbology-moved = t5;
+        symbology-moved = t6;
         layout = H .layout;
         layout-moved = t9;
         parts = λ i h. N .symbology .part i h (has i h);
-        parts-moved = λ i h. moved-part 5 symbolText f b′ (d .symbology-after) (fives z) (fives y) (omega arith) (rows-of-five (z .symbology)) (M .symbology) (e .symbology) i h (has i h) (symbol-no-field (kindOf (fives z) i) (has i h));
+        parts-moved = λ i h. moved-part 6 symbolText f b′ (d .symbology-after) (sixes z) (sixes y) (omega arith) (rows-of-six (z .symbology)) (M .symbology) (e .symbology) i h (has i h) (symbol-no-field (kindOf (sixes z) i) (has i h));
         layout-parts = N .layout .part;
         layout-parts-moved = λ i h t. moved-part 9 itemText g (layoutIn sheet b′) (d .layout-after) (nines z) (nines y) (omega arith) (rows-nine (z .layout)) (M .layout) (e .layout) i h t (item-no-field (kindOf (nines z) i) t);
-        names = names-same 5 symbolText b b′ (c .symbology-after) (d .symbology-after) (fives z) (fives y) (N .symbology) (M .symbology) n5 (e .names);
+        names = names-same 6 symbolText b b′ (c .symbology-after) (d .symbology-after) (sixes z) (sixes y) (N .symbology) (M .symbology) n6 (e .names);
         layout-names = names-same 9 itemText (layoutIn sheet b) (layoutIn sheet b′) (c .layout-after) (d .layout-after) (nines z) (nines y) (N .layout) (M .layout) n9 (e .layoutNames);
       }
 

@@ -27,7 +27,7 @@ use Rattle.table.specs.EachLaws.{Each, RowInside}
 use Rattle.layout.specs.SpanLaws.{read-lies}
 use Rattle.block.specs.SpanLaws.{block-whole}
 use Rattle.block.specs.Block.{Header, Block, v4, lengths, header, widthOf, layoutPart, symbologyPart, block, blockOf}
-use Rattle.block.specs.Read.{fives, nines}
+use Rattle.block.specs.Read.{sixes, nines}
 use Rattle.demands.specs.LayoutRows.{moveRow, rows-move}
 use Rattle.demands.specs.SymbologyRows.{Shift, symbology-shift, symbologyTexts, symbology-texts}
 
@@ -173,9 +173,9 @@ module _ (sheet : List ℕ) where
   pub section-stays : (x : Block) → B4 .locate 0 x .symbology ≡ symbology utf8 nulPadded isDate (width x) .codec .locate (section x + 4) (x .symbology)
   section-stays x = symbology-at x ∙ contents-at (width x) (section x) (x .symbology)
 
-  pub fives-move : (x y : Block) (before : ℕ → ℕ) → B4 .legal x → B4 .legal y → B4 .bare y ≡ B4 .bare x → Parted x y before
-      → fives (B4 .locate 0 y) ≡ map (moveRow (λ n. n + before n)) (fives (B4 .locate 0 x))
-  fives-move x y before lx ly same e =
+  pub sixes-move : (x y : Block) (before : ℕ → ℕ) → B4 .legal x → B4 .legal y → B4 .bare y ≡ B4 .bare x → Parted x y before
+      → sixes (B4 .locate 0 y) ≡ map (moveRow (λ n. n + before n)) (sixes (B4 .locate 0 x))
+  sixes-move x y before lx ly same e =
       let f : ℕ → ℕ = λ n. n + before n in
       let s : Shift f (section x + 4) (section y + 4) = λ n.
       let z : section x + 4 + n ≡ section x + (4 + n) = omega arith in
@@ -216,13 +216,13 @@ module _ (sheet : List ℕ) where
       ∙ texts-bare utf8 D (locateLayout utf8 D t)
       ∙ ap (λ v. texts (toLayout (v, []))) (parts utf8 D .law .still 0 (fromLayout t .0))
 
-  fives-each : (x : Block) (r : List ℕ) → symbology utf8 nulPadded isDate (width x) .codec .each (Stands (B4 .print x ++ r)) (B4 .locate 0 x .symbology)
+  sixes-each : (x : Block) (r : List ℕ) → symbology utf8 nulPadded isDate (width x) .codec .each (Stands (B4 .print x ++ r)) (B4 .locate 0 x .symbology)
   unfolding block named _on_ _then_ symbologyPart full boxed header num
-  fives-each x r =
+  sixes-each x r =
       block sheet v4 .law .spotted (Stands (B4 .print x ++ r)) 0 x (λ n u q. rw zero-add (part-take (left-part r q))) .1 .1
 
-  pub fives-texts : (x : Block) (r : List ℕ) → map (rowText (B4 .print x ++ r)) (fives (B4 .locate 0 x)) ≡ symbologyTexts (B4 .locate 0 x .symbology)
-  fives-texts x r = symbology-texts utf8 nulPadded isDate (width x) (B4 .print x ++ r) (B4 .locate 0 x .symbology) (fives-each x r)
+  pub sixes-texts : (x : Block) (r : List ℕ) → map (rowText (B4 .print x ++ r)) (sixes (B4 .locate 0 x)) ≡ symbologyTexts (B4 .locate 0 x .symbology)
+  sixes-texts x r = symbology-texts utf8 nulPadded isDate (width x) (B4 .print x ++ r) (B4 .locate 0 x .symbology) (sixes-each x r)
 
   -- ---- the rows' texts lie within the layout
 

@@ -11,4 +11,5 @@ pub mod TableP
 pub mod Demand2
 pub mod StartThenFrames
 pub mod WriterAccepts
+pub mod Owners
 pub mod Witnesses

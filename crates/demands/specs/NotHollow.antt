@@ -14,14 +14,14 @@ use Rattle.layout.specs.Layout.{parts, groups}
 use Rattle.layout.specs.Rows.{rows}
 use Rattle.rules.specs.Rules.{rulesOf, seqsFault, structsFault, recordsFault}
 use Rattle.block.specs.Block.{Block, lengths, header, layoutPart, symbologyPart, block, blockOf}
-use Rattle.block.specs.Read.{fives, nines}
+use Rattle.block.specs.Read.{sixes, nines}
 use Rattle.block.specs.ReadLaws.{given}
 use Rattle.block.specs.Examples.{listed, P10, wide}
 use Rattle.block.specs.declared.Fields.{Fields}
 
 -- the rows of what was read, or the refusal
 abbrev pub rowsRead : Res (Block × List ℕ) → Res (List (List ℕ) × List (List ℕ))
-rowsRead r = r >>= λ z j. ok (fives (z .0), nines (z .0)) j
+rowsRead r = r >>= λ z j. ok (sixes (z .0), nines (z .0)) j
 
 -- the least block below version 4: header, layout length, four counts
 abbrev pub least : List ℕ
@@ -54,7 +54,7 @@ rowsGiven r = r >>= λ z j. ok (z .1 .0) j
 -- two blocks of version 2, each of one symbol, are told apart: 45 53 00 has two bytes, 45 53 47 has three
 pub rows-differ : (sheet : List ℕ) → given 2 sheet (listed (69 ∷ 83 ∷ 0 ∷ [])) ≡ given 2 sheet (listed (69 ∷ 83 ∷ 71 ∷ [])) → ⊥
 rows-differ sheet e =
-    let q : _≡_ {A = Res (List (List ℕ))} (ok ((0 ∷ 108 ∷ 2 ∷ 0 ∷ 0 ∷ []) ∷ []) 123) (ok ((0 ∷ 108 ∷ 3 ∷ 0 ∷ 0 ∷ []) ∷ []) 123) =
+    let q : _≡_ {A = Res (List (List ℕ))} (ok ((0 ∷ 108 ∷ 2 ∷ 0 ∷ 0 ∷ 0 ∷ []) ∷ []) 123) (ok ((0 ∷ 108 ∷ 3 ∷ 0 ∷ 0 ∷ 0 ∷ []) ∷ []) 123) =
     ap rowsGiven (sym (P10 sheet) ∙ e ∙ wide sheet) in
     let z : _≡_ {A = ℕ} 2 3 = cc in
     omega arith

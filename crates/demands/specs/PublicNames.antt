@@ -21,7 +21,7 @@ use Rattle.layout.specs.Rows.{rows}
 use Rattle.layout.specs.ReadLaws.{rows-nine}
 use Rattle.layout.specs.SpanLaws.{layout-lies}
 use Rattle.layout.specs.TextLaws.{rowText}
-use Rattle.symbology.specs.ReadLaws.{rows-of-five}
+use Rattle.symbology.specs.ReadLaws.{rows-of-six}
 use Rattle.names.specs.Names.{noText, symbolText, itemText, spanOf, partIn}
 use Rattle.names.specs.NameLaws.{span-part, span-none, part-bytes, part-none, symbol-text, symbol-kinds, item-kinds}
 use Rattle.names.specs.declared.Span.the-variants.{Part}
@@ -32,10 +32,10 @@ use Rattle.rows_check.specs.CheckLaws.{Formed}
 use Rattle.rows_check.specs.TreeLaws.{tree-rows, tree-flat}
 use Rattle.rows_check.specs.SpanLaws.{rows-in-lie}
 use Rattle.block.specs.Block.{Block, blockOf}
-use Rattle.block.specs.Read.{fives, nines, over}
+use Rattle.block.specs.Read.{sixes, nines, over}
 use Rattle.block.specs.ReadLaws.{Held}
 use Rattle.block.specs.declared.BlockAnswer.{BlockAnswer}
-use Rattle.block.specs.SpanLaws.{fives-lie}
+use Rattle.block.specs.SpanLaws.{sixes-lie}
 use Rattle.demands.specs.LayoutRows.{moveRow, move-kind, move-length, move-start}
 use Rattle.demands.specs.Edited.{layoutIn, nines-lie}
 
@@ -150,14 +150,14 @@ moved-part w hasText f b t rs rs′ two wide n e i h has field =
 
 -- the symbology rows of an accepted block, of any version, over the front of a table
 pub symbology-named : (version : ℕ) (sheet b : List ℕ) (z : Block × List ℕ) (k : ℕ) (t : List ℕ) → Bytes b → blockOf version sheet b ≡ ok z k
-    → Named 5 symbolText b (over (fives (z .0)) 5 t) (fives (z .0))
+    → Named 6 symbolText b (over (sixes (z .0)) 6 t) (sixes (z .0))
 symbology-named version sheet b z k t bs e =
-    rows-named 5 (omega arith) symbolText 0 4 symbol-kinds b (fives (z .0)) (drop (5 * length (fives (z .0))) t) (rows-of-five (z .0 .symbology)) (fives-lie version sheet b z k bs e)
+    rows-named 6 (omega arith) symbolText 0 4 symbol-kinds b (sixes (z .0)) (drop (6 * length (sixes (z .0))) t) (rows-of-six (z .0 .symbology)) (sixes-lie version sheet b z k bs e)
 
 -- all of them have a text
 pub symbology-texted : (version : ℕ) (sheet b : List ℕ) (z : Block × List ℕ) (k : ℕ) → Bytes b → blockOf version sheet b ≡ ok z k
-    → (i : ℕ) → i < length (fives (z .0)) → symbolText (kindOf (fives (z .0)) i) ≡ true
-symbology-texted version sheet b z k bs e i h = symbol-text (kindOf (fives (z .0)) i) (each-at (RowInside 0 4 (length b)) (fives (z .0)) (fives-lie version sheet b z k bs e) i h .kind)
+    → (i : ℕ) → i < length (sixes (z .0)) → symbolText (kindOf (sixes (z .0)) i) ≡ true
+symbology-texted version sheet b z k bs e i h = symbol-text (kindOf (sixes (z .0)) i) (each-at (RowInside 0 4 (length b)) (sixes (z .0)) (sixes-lie version sheet b z k bs e) i h .kind)
 
 -- the layout rows of an accepted version 4 block, over the front of a table; below 4 there are none
 pub block-layout-named : (sheet b : List ℕ) (z : Block × List ℕ) (k : ℕ) (t : List ℕ) → Bytes b → blockOf 4 sheet b ≡ ok z k
@@ -167,12 +167,12 @@ block-layout-named sheet b z k t bs e =
 
 -- the names after a call that reads an accepted version 4 block into tables that hold its rows
 pub record Asked (sheet b : List ℕ) (z : Block) (s′ l′ : List ℕ) : Type 0 where
-  pub symbology : Named 5 symbolText b s′ (fives z)
+  pub symbology : Named 6 symbolText b s′ (sixes z)
   pub layout : Named 9 itemText (layoutIn sheet b) l′ (nines z)
 
 pub asked : (sheet b : List ℕ) (z : Block × List ℕ) (k : ℕ) → Bytes b → blockOf 4 sheet b ≡ ok z k → {s l : List ℕ} {r : BlockAnswer} {s′ l′ : List ℕ} → Held 4 (z .0) s l r s′ l′ → Asked sheet b (z .0) s′ l′
 asked sheet b z k bs e {s} {l} h = record {
-  symbology = subst (λ (t : List ℕ). Named 5 symbolText b t (fives (z .0))) (sym (h .symbology)) (symbology-named 4 sheet b z k s bs e);
+  symbology = subst (λ (t : List ℕ). Named 6 symbolText b t (sixes (z .0))) (sym (h .symbology)) (symbology-named 4 sheet b z k s bs e);
   layout = subst (λ (t : List ℕ). Named 9 itemText (layoutIn sheet b) t (nines (z .0))) (sym (h .layout)) (block-layout-named sheet b z k l bs e);
 }
 

@@ -52,8 +52,8 @@ LayoutRefuses b n = (sheet : List ℕ) (width : ℕ) (t t′ : List ℕ) (r : An
 -- the block b of version 2, with any sheet, any layout table and any symbology table with room for the rows: the fields are answered,
 -- the rows stand at the front of the symbology table, and the rest of it and the layout table are as they were
 abbrev pub BlockGives : List ℕ → Fields → List (List ℕ) → Type 0
-BlockGives b f rs = (sheet s l s′ l′ : List ℕ) (r : BlockAnswer) → 5 * length rs ≤ length s → Promise 2 b sheet s l r s′ l′
-    → (r ≡ Read f) × (s′ ≡ flat rs ++ drop (5 * length rs) s) × (l′ ≡ l)
+BlockGives b f rs = (sheet s l s′ l′ : List ℕ) (r : BlockAnswer) → 6 * length rs ≤ length s → Promise 2 b sheet s l r s′ l′
+    → (r ≡ Read f) × (s′ ≡ flat rs ++ drop (6 * length rs) s) × (l′ ≡ l)
 
 -- the block b of version 2 is refused, with any sheet and any tables, and both tables are as they were
 abbrev pub BlockRefuses : List ℕ → Refusal → Type 0
@@ -110,7 +110,7 @@ pub record TableP : Type 0 where
   pub p07 : LayoutGives p7 1 p7rows
   pub p08 : LayoutGives p8 1 p7rows
   pub p09 : LayoutRefuses p9 (refusal 51 8)
-  pub p10 : BlockGives (listed (69 ∷ 83 ∷ 0 ∷ [])) (zeroFields 3 1) ((0 ∷ 108 ∷ 2 ∷ 0 ∷ 0 ∷ []) ∷ [])
+  pub p10 : BlockGives (listed (69 ∷ 83 ∷ 0 ∷ [])) (zeroFields 3 1) ((0 ∷ 108 ∷ 2 ∷ 0 ∷ 0 ∷ 0 ∷ []) ∷ [])
   pub p11 : BlockRefuses (listed (69 ∷ 0 ∷ 83 ∷ [])) (refusal 41 108)
   pub dates : (isDate 20240229 ≡ true) × (isDate 20000229 ≡ true) × (isDate 19000229 ≡ false) × (isDate 20241301 ≡ false)
   pub texts : (utf8 (0xE2 ∷ 0x80 ∷ 0x8D ∷ []) ≡ true) × (utf8 (0xC0 ∷ 0x80 ∷ []) ≡ false) × (utf8 (0xED ∷ 0xA0 ∷ 0x80 ∷ []) ≡ false) × (utf8 (0xF4 ∷ 0x90 ∷ 0x80 ∷ 0x80 ∷ []) ≡ false)
@@ -127,7 +127,7 @@ table = record {
   p07 = layout-gives p7 1 p7rows 22 P7;
   p08 = layout-gives p8 1 p7rows 24 P8;
   p09 = layout-refuses p9 (refusal 51 8) P9;
-  p10 = block-gives (listed (69 ∷ 83 ∷ 0 ∷ [])) (zeroFields 3 1) ((0 ∷ 108 ∷ 2 ∷ 0 ∷ 0 ∷ []) ∷ []) 123 P10;
+  p10 = block-gives (listed (69 ∷ 83 ∷ 0 ∷ [])) (zeroFields 3 1) ((0 ∷ 108 ∷ 2 ∷ 0 ∷ 0 ∷ 0 ∷ []) ∷ []) 123 P10;
   p11 = block-refuses (listed (69 ∷ 0 ∷ 83 ∷ [])) (refusal 41 108) P11;
   dates = p12;
   texts = p13;

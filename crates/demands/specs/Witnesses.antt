@@ -116,11 +116,11 @@ itsFields = record {
 }
 
 -- its symbology rows
-abbrev pub fivesWith : ℕ → List (List ℕ)
-fivesWith n =
-    (0 ∷ (168 + 2 * D + 4 * n) ∷ 1 ∷ 0 ∷ 0 ∷ [])
-    ∷ (3 ∷ (183 + 2 * D + 4 * n) ∷ 1 ∷ 1 ∷ 0 ∷ [])
-    ∷ (4 ∷ (198 + 2 * D + 4 * n) ∷ 1 ∷ 739310 ∷ 739311 ∷ [])
+abbrev pub sixesWith : ℕ → List (List ℕ)
+sixesWith n =
+    (0 ∷ (168 + 2 * D + 4 * n) ∷ 1 ∷ 0 ∷ 0 ∷ 0 ∷ [])
+    ∷ (3 ∷ (183 + 2 * D + 4 * n) ∷ 1 ∷ 1 ∷ 0 ∷ 1 ∷ [])
+    ∷ (4 ∷ (198 + 2 * D + 4 * n) ∷ 1 ∷ 739310 ∷ 739311 ∷ 1 ∷ [])
     ∷ []
 
 -- its layout rows
@@ -150,16 +150,16 @@ unfolding blockOf lengths whole block header layoutPart symbologyPart named _the
 reads = (refl, refl)
 
 -- what is read gives these fields and rows
-gives : (x n : ℕ) (r : List ℕ) (k : ℕ) → gist (lengths 4) (ok (treeWith x n, r) k) ≡ ok (itsFields, (fivesWith n, ninesWith n)) k
+gives : (x n : ℕ) (r : List ℕ) (k : ℕ) → gist (lengths 4) (ok (treeWith x n, r) k) ≡ ok (itsFields, (sixesWith n, ninesWith n)) k
 unfolding lengths fieldsOf fieldsWith symbologyRows rows dayOf dayNumber daysTo daysBefore daysOfYear daysIn isLeap
 gives x n r k = refl
 
 -- the block is accepted, with a record, a struct, a label def, a symbol and a mapping
-pub accepted : given 4 sheet plain ≡ ok (itsFields, (fivesWith 0, ninesWith 0)) (201 + 2 * D)
+pub accepted : given 4 sheet plain ≡ ok (itsFields, (sixesWith 0, ninesWith 0)) (201 + 2 * D)
 accepted = ap (gist (lengths 4)) (reads .0) ∙ gives 0 0 [] (201 + 2 * D)
 
 -- so is the other, with the same fields and moved rows
-pub accepted-edited : given 4 sheet edited ≡ ok (itsFields, (fivesWith 2, ninesWith 2)) (210 + 2 * D)
+pub accepted-edited : given 4 sheet edited ≡ ok (itsFields, (sixesWith 2, ninesWith 2)) (210 + 2 * D)
 accepted-edited = ap (gist (lengths 4)) (reads .1) ∙ gives 170 2 (187 ∷ []) (210 + 2 * D)
 
 -- ---- an edit of that block
@@ -203,7 +203,7 @@ marks = marking sheet (treeWith 0 0)
 pub record Moves : Type 0 where
   pub fits : fit marks ≡ true
   pub bytes : bytesOf (filled marks) ++ (187 ∷ []) ≡ edited
-  pub symbology : map (moveRow (λ n. n + put (filled-edit marks fits) n)) (fivesWith 0) ≡ fivesWith 2
+  pub symbology : map (moveRow (λ n. n + put (filled-edit marks fits) n)) (sixesWith 0) ≡ sixesWith 2
   pub layout : map (moveRow (λ n. n + put (filled-edit marks fits) (104 + n))) (ninesWith 0) ≡ ninesWith 2
 
 -- all of that, computed

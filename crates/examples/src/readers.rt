@@ -13,15 +13,15 @@ ghost use Prim.Native.Nat.{_≤_};
 // A block of a case: its fields and rows, the rows needed, or the refusal.
 pub(crate) fn block(s: &[u8], sheet: &[u16; 520]) {
     let rows = bytes::at_most(bytes::u16_at(s, 1) as usize, 512);
-    let fives = 5 * rows;
+    let sixes = 6 * rows;
     let nines = 9 * rows;
-    let mut symbology = [0u32; 2560];
+    let mut symbology = [0u32; 3072];
     let mut layout = [0u32; 4608];
     read_block(
         bytes::byte(s, 0),
         bytes::from(s, 3),
         sheet,
-        &mut symbology[0..fives],
+        &mut symbology[0..sixes],
         &mut layout[0..nines],
     );
 }
@@ -46,7 +46,7 @@ fn read_block(
 // The fields of an accepted block and its rows.
 fn accepted(f: Fields, block: &[u8], symbology: &[u32], layout: &[u32]) {
     show::fields(f);
-    show::rows(block, symbology, 5, f.symbology_rows);
+    show::rows(block, symbology, 6, f.symbology_rows);
     show::rows(bytes::from(block, 104), layout, 9, f.layout_rows);
 }
 
@@ -54,11 +54,11 @@ fn accepted(f: Fields, block: &[u8], symbology: &[u32], layout: &[u32]) {
 pub(crate) fn symbology(s: &[u8]) {
     let width = bytes::u16_at(s, 0);
     let base = bytes::u16_at(s, 2) as usize;
-    let mut table = [0u32; 2560];
+    let mut table = [0u32; 3072];
     match symbology::read_section_rows(bytes::from(s, 4), base, width, false, true, &mut table) {
         SectionAnswer::Read { rows, next } => {
             show::read(next, rows);
-            show::rows(&[], &table, 5, rows);
+            show::rows(&[], &table, 6, rows);
         }
         SectionAnswer::Counted(rows) => show::short(rows),
         SectionAnswer::Refused(why) => show::refused(why),

@@ -145,7 +145,7 @@ fn types(f: Fields) {
     end();
 }
 
-// Each of the first n rows of five or nine, with its name in the text, 100 at the most.
+// Each of the first n rows of six or nine, with its name in the text, 100 at the most.
 pub(crate) fn rows(text: &[u8], table: &[u32], width: usize, n: usize)
     requires { ⌜ width ≤ 9 ⌝ }
 {
@@ -172,9 +172,9 @@ fn part(table: &[u32], at: usize, n: usize) -> &[u32] {
     &table[at..end]
 }
 
-// The name of row i of five or nine.
+// The name of row i of six or nine.
 fn name<'a>(text: &'a [u8], table: &[u32], width: usize, i: usize) -> &'a [u8] {
-    if width == 5 {
+    if width == 6 {
         return names::symbology_name(text, table, i);
     }
     names::layout_name(text, table, i)

@@ -32,7 +32,7 @@ spanOf width hasText n rows index =
     cond (ltb index (length rows / width)) (rowSpan (hasText (getD rows (width * index) 0)) n rows (width * index)) noText
 
 abbrev pub symbologySpan : ℕ → List ℕ → ℕ → Span
-symbologySpan n rows index = spanOf 5 symbolText n rows index
+symbologySpan n rows index = spanOf 6 symbolText n rows index
 
 abbrev pub layoutSpan : ℕ → List ℕ → ℕ → Span
 layoutSpan n rows index = spanOf 9 itemText n rows index

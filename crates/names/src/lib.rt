@@ -15,8 +15,8 @@ pub enum Span {
 pub fn symbology_span(block: &[u8], rows: &[u32], index: usize) -> Span
     ensures { λ r. ⌜ r ≡ symbologySpan (length (now (block .entry))) (now (rows .entry)) index ⌝ }
 {
-    if index < rows.len() / 5 {
-        let at = 5 * index;
+    if index < rows.len() / 6 {
+        let at = 6 * index;
         return row_span(symbol_text(rows[at]), block.len(), rows, at);
     }
     no_text()

@@ -93,11 +93,11 @@ fn store_space() -> [u8; 1048576]
     [0; 1048576]
 }
 
-// A table of 16,384 rows of five.
-fn symbology_table() -> [u32; 81920]
-    ensures { λ r. ⌜ 81920 ≡ length r ⌝ }
+// A table of 16,384 rows of six.
+fn symbology_table() -> [u32; 98304]
+    ensures { λ r. ⌜ 98304 ≡ length r ⌝ }
 {
-    [0; 81920]
+    [0; 98304]
 }
 
 // A table of 16,384 rows of nine.

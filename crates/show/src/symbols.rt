@@ -37,10 +37,10 @@ fn dates(start: u32, end: u32) {
 
 // Number j of row i; 0 past the table.
 fn cell(rows: &[u32], i: usize, j: usize) -> u32
-    requires { ⌜ j < 5 ⌝ }
+    requires { ⌜ j < 6 ⌝ }
 {
-    if i < rows.len() / 5 {
-        return rows[5 * i + j];
+    if i < rows.len() / 6 {
+        return rows[6 * i + j];
     }
     0
 }

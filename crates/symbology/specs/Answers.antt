@@ -34,12 +34,12 @@ sectionAnswer write cap (refuse k) = SectionAnswer'.Refused k
 
 -- then the rows stand at the front of the table, and the rest of it is as it was
 unfoldable pub sectionTable : Bool → List ℕ → Res Symbology → List ℕ
-sectionTable write t (ok l j) = cond (write && leb (length (symbologyRows l)) (length t / 5)) (flat (symbologyRows l) ++ drop (5 * length (symbologyRows l)) t) t
+sectionTable write t (ok l j) = cond (write && leb (length (symbologyRows l)) (length t / 6)) (flat (symbologyRows l) ++ drop (6 * length (symbologyRows l)) t) t
 sectionTable write t (refuse k) = t
 
 -- what reading z into the table t answers and leaves, where the rows are to be written only if `write` holds
 pub record SectionPromise (write : Bool) (z : Res Symbology) (t t′ : List ℕ) (r : SectionAnswer) : Type 0 where
-  pub is : r ≡ sectionAnswer write (length t / 5) z
+  pub is : r ≡ sectionAnswer write (length t / 6) z
   pub leaves : t′ ≡ sectionTable write t z
 
 -- ---- the numbers of document 01

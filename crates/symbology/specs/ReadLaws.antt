@@ -2,7 +2,7 @@
 use Prim.Native.Nat.{ℕ, _+_, _*_, _/_, _≤_}
 use mathlib.Core.Path.{_≡_, refl, sym, ap, _∙_, subst}
 use mathlib.Core.Bool.{Bool, true, false, _&&_, cond}
-use mathlib.Core.List.{List, _++_, map}
+use mathlib.Core.List.{List, [], _∷_, _++_}
 use lib.ListN.{length, drop}
 use lib.Dec.{leb}
 use borrow.Author.Tests.{le-leb}
@@ -11,11 +11,11 @@ use Rattle.codec.specs.Codec.{Res, ok, refuse, moved, shifted, _>>=_, need, isN
 use Rattle.text.specs.Utf8.{utf8}
 use Rattle.text.specs.Padded.{nulPadded}
 use Rattle.dates.specs.Date.{isDate}
-use Rattle.table.specs.Table.{flat, allRows}
-use Rattle.table.specs.TableLaws.{Wide, wide-append, wide-map, wide-all, flat-length}
+use Rattle.table.specs.Table.{flat}
+use Rattle.table.specs.TableLaws.{Wide, wide-append, wide-map, wide-from, flat-length}
 use Rattle.symbology.specs.Symbology
-use Rattle.symbology.specs.Symbology.{Symbology, unspanned}
-use Rattle.symbology.specs.SymbologyRows.{symbologyRows, listRow, mappingRows, intervalRow}
+use Rattle.symbology.specs.Symbology.{Symbol, Symbology, unspanned}
+use Rattle.symbology.specs.SymbologyRows.{symbologyRows, listRow, listRows, mappingRows, intervalRow}
 use Rattle.symbology.specs.Reader.{symbologyOf, sectionOf}
 use Rattle.symbology.specs.Answers.{sectionAnswer, sectionTable, SectionPromise}
 use Rattle.symbology.specs.declared.SectionAnswer.{SectionAnswer}
@@ -36,18 +36,16 @@ pub rest-parse : (width base : ℕ) (s : List ℕ) → base + length s ≤ 42949
 unfolding sectionOf
 rest-parse width base s h = symbology-parse width base s h
 
-pub rows-of-five : (t : Symbology) → Wide 5 (symbologyRows t)
+pub rows-of-six : (t : Symbology) → Wide 6 (symbologyRows t)
 unfolding symbologyRows
-rows-of-five t =
-    wide-append 5 (map (listRow 0) (t .symbols) ++ map (listRow 1) (t .partial) ++ map (listRow 2) (t .notFound)) (allRows mappingRows (t .mappings))
-    (wide-append 5 (map (listRow 0) (t .symbols) ++ map (listRow 1) (t .partial)) (map (listRow 2) (t .notFound))
-    (wide-append 5 (map (listRow 0) (t .symbols)) (map (listRow 1) (t .partial)) (wide-map 5 (listRow 0) (λ s. refl) (t .symbols)) (wide-map 5 (listRow 1) (λ s. refl) (t .partial)))
-    (wide-map 5 (listRow 2) (λ s. refl) (t .notFound)))
-    (wide-all 5 mappingRows (λ m. (refl, wide-map 5 intervalRow (λ i. refl) (m .intervals))) (t .mappings))
+rows-of-six t = lists 0 (t .symbols) 0 _ (lists 1 (t .partial) _ _ (lists 2 (t .notFound) _ _ (wide-from 6 mappingRows (λ m n. (refl, wide-map 6 (intervalRow n) (λ i. refl) (m .intervals))) (t .mappings) _)))
+  where
+    lists : (kind : ℕ) (xs : List Symbol) (n : ℕ) (rest : List (List ℕ)) → Wide 6 rest → Wide 6 (listRows kind xs n ++ rest)
+    lists kind xs n rest h = wide-append 6 (listRows kind xs n) rest (wide-from 6 (λ s n. listRow kind s n ∷ []) (λ s n. (refl, tt)) xs n) h
 
--- the rows, one after the other, are five numbers each
-pub symbology-flat : (t : Symbology) → length (flat (symbologyRows t)) ≡ 5 * length (symbologyRows t)
-symbology-flat t = flat-length 5 (symbologyRows t) (rows-of-five t)
+-- the rows, one after the other, are six numbers each
+pub symbology-flat : (t : Symbology) → length (flat (symbologyRows t)) ≡ 6 * length (symbologyRows t)
+symbology-flat t = flat-length 6 (symbologyRows t) (rows-of-six t)
 
 -- ---- what an answer says
 
@@ -57,8 +55,8 @@ pub record Was (written write : Bool) (z : Res Symbology) (t t′ : List ℕ) (n
   pub next : ℕ
   pub is : z ≡ ok tree next
   pub many : length (symbologyRows tree) ≡ n
-  pub room : (write && leb (length (symbologyRows tree)) (length t / 5)) ≡ written
-  pub leaves : t′ ≡ cond written (flat (symbologyRows tree) ++ drop (5 * length (symbologyRows tree)) t) t
+  pub room : (write && leb (length (symbologyRows tree)) (length t / 6)) ≡ written
+  pub leaves : t′ ≡ cond written (flat (symbologyRows tree) ++ drop (6 * length (symbologyRows tree)) t) t
 
 data Says (write : Bool) (z : Res Symbology) (t t′ : List ℕ) : SectionAnswer → Type 0 where
   read : {n j : ℕ} → Was true write z t t′ n → Says write z t t′ (SectionAnswer'.Read n j)
@@ -70,13 +68,13 @@ module _ {write : Bool} {z : Res Symbology} {t t′ : List ℕ} {r r′ : Sectio
   unfolding sectionAnswer sectionTable
   says = subst (Says write z t t′) (sym (f .is) ∙ e) (go z (f .leaves))
     where
-      by : (x : Symbology) (j : ℕ) (b : Bool) → (write && leb (length (symbologyRows x)) (length t / 5)) ≡ b → t′ ≡ cond b (flat (symbologyRows x) ++ drop (5 * length (symbologyRows x)) t) t
+      by : (x : Symbology) (j : ℕ) (b : Bool) → (write && leb (length (symbologyRows x)) (length t / 6)) ≡ b → t′ ≡ cond b (flat (symbologyRows x) ++ drop (6 * length (symbologyRows x)) t) t
           → Says write (ok x j) t t′ (cond b (SectionAnswer'.Read (length (symbologyRows x)) j) (SectionAnswer'.Counted (length (symbologyRows x))))
       by x j true q l = read {j = j} (record { tree = x; next = j; is = refl; many = refl; room = q; leaves = l })
       by x j false q l = short (record { tree = x; next = j; is = refl; many = refl; room = q; leaves = l })
 
-      go : (z : Res Symbology) → t′ ≡ sectionTable write t z → Says write z t t′ (sectionAnswer write (length t / 5) z)
-      go (ok x j) l = by x j (write && leb (length (symbologyRows x)) (length t / 5)) refl l
+      go : (z : Res Symbology) → t′ ≡ sectionTable write t z → Says write z t t′ (sectionAnswer write (length t / 6) z)
+      go (ok x j) l = by x j (write && leb (length (symbologyRows x)) (length t / 6)) refl l
       go (refuse k) l = no {k = k} refl l
 
 module _ {write : Bool} {z : Res Symbology} {t t′ : List ℕ} {r : SectionAnswer} (f : SectionPromise write z t t′ r) where
@@ -118,8 +116,8 @@ promise-moved p {write} {z} {t} f = record { is = ap (movedIn p) (f .is) ∙ ans
     by true n j = refl
     by false n j = refl
 
-    answer : (z : Res Symbology) → movedIn p (sectionAnswer write (length t / 5) z) ≡ sectionAnswer write (length t / 5) (shifted p z)
-    answer (ok x j) = by (write && leb (length (symbologyRows x)) (length t / 5)) (length (symbologyRows x)) j
+    answer : (z : Res Symbology) → movedIn p (sectionAnswer write (length t / 6) z) ≡ sectionAnswer write (length t / 6) (shifted p z)
+    answer (ok x j) = by (write && leb (length (symbologyRows x)) (length t / 6)) (length (symbologyRows x)) j
     answer (refuse k) = refl
 
     table : (z : Res Symbology) → sectionTable write t z ≡ sectionTable write t (shifted p z)

@@ -1,28 +1,32 @@
--- The symbology's rows, as document 01's "Rows" has them with request 7 of document 02: five numbers each, in wire order. Assumes nothing.
+-- The symbology's rows, as document 01's "Rows" has them with requests 7 and 8 of document 02: six numbers each, in wire order. Assumes nothing.
 use Prim.Native.Nat.{ℕ}
-use mathlib.Core.List.{List, [], _∷_, _++_, map}
+use mathlib.Core.List.{List, [], _∷_, map}
 use lib.ListN.{length}
-use Rattle.table.specs.Table.{flat}
+use Rattle.table.specs.Table.{From, _andThen_, eachFrom}
 use Rattle.text.specs.Trim.{trimmedLen}
 use Rattle.dates.specs.Day.{dayOf}
 use Rattle.symbology.specs.Symbology.{Symbol, Interval, Mapping, Symbology}
 
-abbrev pub row5 : ℕ → ℕ → ℕ → ℕ → ℕ → List ℕ
-row5 kind start len x y = kind ∷ start ∷ len ∷ x ∷ y ∷ []
+abbrev pub row6 : ℕ → ℕ → ℕ → ℕ → ℕ → ℕ → List ℕ
+row6 kind start len x y owner = kind ∷ start ∷ len ∷ x ∷ y ∷ owner ∷ []
 
-abbrev pub symbolRow : ℕ → Symbol → ℕ → ℕ → List ℕ
-symbolRow k s x y = row5 k (s .start) (trimmedLen (s .text)) x y
+abbrev pub symbolRow : ℕ → Symbol → ℕ → ℕ → ℕ → List ℕ
+symbolRow kind s x y owner = row6 kind (s .start) (trimmedLen (s .text)) x y owner
 
--- an interval's dates stand in its row as the numbers of their days
-abbrev pub intervalRow : Interval → List ℕ
-intervalRow i = symbolRow 4 (i .symbol) (dayOf (i .from)) (dayOf (i .to))
+-- a symbol of a list of kind 0, 1 or 2, in row n
+abbrev pub listRow : ℕ → Symbol → ℕ → List ℕ
+listRow kind s n = symbolRow kind s 0 0 n
 
-abbrev pub mappingRows : Mapping → List (List ℕ)
-mappingRows m = symbolRow 3 (m .rawSymbol) (length (m .intervals)) 0 ∷ map intervalRow (m .intervals)
+abbrev pub listRows : ℕ → List Symbol → From
+listRows kind xs = eachFrom (λ s n. listRow kind s n ∷ []) xs
 
--- a list of kind 0, 1 or 2
-abbrev pub listRow : ℕ → Symbol → List ℕ
-listRow kind s = symbolRow kind s 0 0
+-- an interval of the mapping in row `owner`: its dates stand in its row as the numbers of their days
+abbrev pub intervalRow : ℕ → Interval → List ℕ
+intervalRow owner i = symbolRow 4 (i .symbol) (dayOf (i .from)) (dayOf (i .to)) owner
+
+-- a mapping in row n, and its intervals
+abbrev pub mappingRows : Mapping → From
+mappingRows m n = symbolRow 3 (m .rawSymbol) (length (m .intervals)) 0 n ∷ map (intervalRow n) (m .intervals)
 
 unfoldable pub symbologyRows : Symbology → List (List ℕ)
-symbologyRows t = map (listRow 0) (t .symbols) ++ map (listRow 1) (t .partial) ++ map (listRow 2) (t .notFound) ++ flat (map mappingRows (t .mappings))
+symbologyRows t = (listRows 0 (t .symbols) andThen listRows 1 (t .partial) andThen listRows 2 (t .notFound) andThen eachFrom mappingRows (t .mappings)) 0

@@ -10,7 +10,7 @@ use lib.Seq.{getD-append-add}
 use lib.Dec.{leb, eqb}
 use Rattle.codec.specs.Codec.{Codec, timesEach}
 use Rattle.codec.specs.Laws.{Part}
-use Rattle.table.specs.Table.{flat, allRows}
+use Rattle.table.specs.Table.{flat, allRows, From, eachFrom}
 
 -- Q holds of every row
 abbrev pub Each : (List ℕ → Type 0) → List (List ℕ) → Type 0
@@ -28,11 +28,22 @@ each-at Q [] h i l = absurd (omega arith)
 each-at Q (r ∷ rs) h zero l = h .0
 each-at Q (r ∷ rs) h (suc i) l = each-at Q rs (h .1) i (omega arith)
 
+-- the rows of items of which R holds: one row each, and several that tell their index
+module _ {A : Type 0} (R : A → Type 0) (Q : List ℕ → Type 0) (all : List A → Type 0) (first : (x : A) (xs : List A) → all (x ∷ xs) → R x × all xs) where
+  pub each-item : (row : A → List ℕ) → ((x : A) → R x → Q (row x)) → (xs : List A) → all xs → Each Q (map row xs)
+  each-item row h [] e = tt
+  each-item row h (x ∷ xs) e = let f = first x xs e in (h x (f .0), each-item row h xs (f .1))
+
+  pub each-from : (rows : A → From) → ((x : A) (n : ℕ) → R x → Each Q (rows x n)) → (xs : List A) (n : ℕ) → all xs → Each Q (eachFrom rows xs n)
+  each-from rows h [] n e = tt
+  each-from rows h (x ∷ xs) n e =
+      let f = first x xs e in
+      each-append Q (rows x n) (eachFrom rows xs (n + length (rows x n))) (h x n (f .0)) (each-from rows h xs (n + length (rows x n)) (f .1))
+
 -- the rows of items, where P holds of the start and the bytes of every part that has its place
 module _ {A : Type 0} (c : Codec A) (P : ℕ → List ℕ → Type 0) (Q : List ℕ → Type 0) where
   pub each-map : (row : A → List ℕ) → ((x : A) → c .each P x → Q (row x)) → (xs : List A) → timesEach c P xs → Each Q (map row xs)
-  each-map row h [] e = tt
-  each-map row h (x ∷ xs) e = (h x (e .0), each-map row h xs (e .1))
+  each-map = each-item (c .each P) Q (timesEach c P) (λ x xs e. e)
 
   pub each-all : (rows : A → List (List ℕ)) → ((x : A) → c .each P x → Each Q (rows x)) → (xs : List A) → timesEach c P xs → Each Q (allRows rows xs)
   each-all rows h [] e = tt

@@ -9,7 +9,7 @@ use lib.ListN.{length, length-append}
 use borrow.Author.Tests.{le-ltb}
 use Rattle.refusal.specs.declared.Refusal.{Refusal}
 use Rattle.codec.specs.Codec.{ok, refuse, moved, shifted, _>>=_}
-use Rattle.table.specs.Table.{Out, row, seq, onGot, putRow, Put, fill, Fills, answer, Room, Ran, Within, stopped, refused}
+use Rattle.table.specs.Table.{Out, row, seq, seqFrom, onGot, putRow, Put, fill, Fills, answer, Room, Ran, Within, stopped, refused}
 use Rattle.numbers.specs.declared.Got.{Got}
 use Rattle.numbers.specs.declared.Got.the-variants.{Value, Refused}
 
@@ -61,31 +61,42 @@ join w rs n t t₁ g (ok qs q) =
     (ap (λ m. Value m q) e, λ t′ h. h ∙ ap (λ v. fill w v (n + length rs) qs) g ∙ sym (fill-append w rs qs n t))
 join w rs n t t₁ g (refuse k) = (refl, λ t′ h. tt)
 
-seq-go : (w : ℕ) (o : Out) (f : ℕ → Out) (n : ℕ) (t t₁ : List ℕ) {m p : ℕ} → answer n o ≡ Value m p → Fills w t n o t₁
-    → (answer n (seq o f) ≡ answer m (f p)) × ((t′ : List ℕ) → Fills w t₁ m (f p) t′ → Fills w t n (seq o f) t′)
-unfolding seq
+seq-go : (w : ℕ) (o : Out) (f : ℕ → ℕ → Out) (n : ℕ) (t t₁ : List ℕ) {m p : ℕ} → answer n o ≡ Value m p → Fills w t n o t₁
+    → (answer n (seqFrom n o f) ≡ answer m (f m p)) × ((t′ : List ℕ) → Fills w t₁ m (f m p) t′ → Fills w t n (seqFrom n o f) t′)
+unfolding seqFrom
 seq-go w (ok rs q) f n t t₁ {m} {p} e g =
     let em : n + length rs ≡ m = cc in
     let ep : q ≡ p = cc in
-    subst₂ (λ (m p : ℕ). (answer n (seq (ok rs q) f) ≡ answer m (f p)) × ((t′ : List ℕ) → Fills w t₁ m (f p) t′ → Fills w t n (seq (ok rs q) f) t′)) em ep
-    (join w rs n t t₁ g (f q))
+    subst₂ (λ (m p : ℕ). (answer n (seqFrom n (ok rs q) f) ≡ answer m (f m p)) × ((t′ : List ℕ) → Fills w t₁ m (f m p) t′ → Fills w t n (seqFrom n (ok rs q) f) t′)) em ep
+    (join w rs n t t₁ g (f (n + length rs) q))
 seq-go w (refuse k) f n t t₁ e g = absurd (let z : _≡_ {A = ℕ} 0 1 = cc in omega arith)
 
-seq-stop : (w : ℕ) (o : Out) (f : ℕ → Out) (n : ℕ) (t t′ : List ℕ) {k : Refusal} → answer n o ≡ Refused k → (answer n (seq o f) ≡ Refused k) × Fills w t n (seq o f) t′
-unfolding seq
+seq-stop : (w : ℕ) (o : Out) (f : ℕ → ℕ → Out) (n : ℕ) (t t′ : List ℕ) {k : Refusal} → answer n o ≡ Refused k → (answer n (seqFrom n o f) ≡ Refused k) × Fills w t n (seqFrom n o f) t′
+unfolding seqFrom
 seq-stop w (ok rs q) f n t t′ e = absurd (let z : _≡_ {A = ℕ} 0 1 = cc in omega arith)
 seq-stop w (refuse j) f n t t′ e = (e, tt)
 
+-- a second reader that is told no index is one from any row on
+seq-from : (n : ℕ) (o : Out) (f : ℕ → Out) → seq o f ≡ seqFrom n o (λ _ p. f p)
+unfolding seq seqFrom
+seq-from n o f = refl
+
 module _ {w base n : ℕ} {s : List ℕ} {o : Out} {t t₁ : List ℕ} {r₁ : Got} (g : Ran w base s o n t t₁ r₁) where
-  pub ran-seq : {base′ m p : ℕ} {s′ t₂ : List ℕ} {r₂ : Got} (f : ℕ → Out) → r₁ ≡ Value m p → Ran w base′ s′ (f p) m t₁ t₂ r₂ → Ran w base′ s′ (seq o f) n t t₂ r₂
-  ran-seq f e h =
+  pub ran-from : {base′ m p : ℕ} {s′ t₂ : List ℕ} {r₂ : Got} (f : ℕ → ℕ → Out) → r₁ ≡ Value m p → Ran w base′ s′ (f m p) m t₁ t₂ r₂ → Ran w base′ s′ (seqFrom n o f) n t t₂ r₂
+  ran-from f e h =
       let q = seq-go w o f n t t₁ (sym (g .answered) ∙ e) (g .filled) in
       record { answered = h .answered ∙ sym (q .0); filled = q .1 _ (h .filled); within = h .within }
 
-  pub ran-stop : {base′ : ℕ} {k : Refusal} {s′ : List ℕ} (f : ℕ → Out) → r₁ ≡ Refused k → Ran w base′ s′ (seq o f) n t t₁ (Refused k)
-  ran-stop f e =
+  pub ran-seq : {base′ m p : ℕ} {s′ t₂ : List ℕ} {r₂ : Got} (f : ℕ → Out) → r₁ ≡ Value m p → Ran w base′ s′ (f p) m t₁ t₂ r₂ → Ran w base′ s′ (seq o f) n t t₂ r₂
+  ran-seq f e h = rw (seq-from n o f) (ran-from (λ _ p. f p) e h)
+
+  pub ran-from-stop : {base′ : ℕ} {k : Refusal} {s′ : List ℕ} (f : ℕ → ℕ → Out) → r₁ ≡ Refused k → Ran w base′ s′ (seqFrom n o f) n t t₁ (Refused k)
+  ran-from-stop f e =
       let q = seq-stop w o f n t t₁ (sym (g .answered) ∙ e) in
       record { answered = sym (q .0); filled = q .1; within = refused }
+
+  pub ran-stop : {base′ : ℕ} {k : Refusal} {s′ : List ℕ} (f : ℕ → Out) → r₁ ≡ Refused k → Ran w base′ s′ (seq o f) n t t₁ (Refused k)
+  ran-stop f e = rw (seq-from n o f) (ran-from-stop (λ _ p. f p) e)
 
   pub ran-at : {m p : ℕ} → r₁ ≡ Value m p → (m ≤ base + p) × (p ≤ length s)
   ran-at {m} {p} e = let w = g .within in go (rw e at w)
@@ -153,8 +164,8 @@ module _ {w base n₀ p n : ℕ} {s : List ℕ} {o₀ o : Out} {t₀ t : List �
       }
 
   -- the rows of a reader within
-  pub going-run : {base′ m q p′ : ℕ} {s′ t′ : List ℕ} {o′ : Out} {r : Got} (f : ℕ → Out) → o ≡ seq o′ f → Ran w base′ s′ o′ n t t′ r → r ≡ Value m q → length t′ ≡ length t → (m ≤ base + p′) × (p′ ≤ length s) → Going w base s o₀ n₀ t₀ (f q) p′ m t′
-  going-run {t′ = t′} {o′} f e h i l b =
+  pub going-from : {base′ m q p′ : ℕ} {s′ t′ : List ℕ} {o′ : Out} {r : Got} (f : ℕ → ℕ → Out) → o ≡ seqFrom n o′ f → Ran w base′ s′ o′ n t t′ r → r ≡ Value m q → length t′ ≡ length t → (m ≤ base + p′) × (p′ ≤ length s) → Going w base s o₀ n₀ t₀ (f m q) p′ m t′
+  going-from {t′ = t′} {o′} f e h i l b =
       let z = seq-go w o′ f n t t′ (sym (h .answered) ∙ i) (h .filled) in
       record {
         answers = g .answers ∙ rw e (z .0);
@@ -164,10 +175,16 @@ module _ {w base n₀ p n : ℕ} {s : List ℕ} {o₀ o : Out} {t₀ t : List �
         wide = l ∙ g .wide;
       }
 
-  pub going-halt : {base′ : ℕ} {k : Refusal} {s′ t′ : List ℕ} {o′ : Out} {r : Got} (f : ℕ → Out) → o ≡ seq o′ f → Ran w base′ s′ o′ n t t′ r → r ≡ Refused k → Ran w base s o₀ n₀ t₀ t′ (Refused k)
-  going-halt {t′ = t′} {o′} f e h i =
+  pub going-run : {base′ m q p′ : ℕ} {s′ t′ : List ℕ} {o′ : Out} {r : Got} (f : ℕ → Out) → o ≡ seq o′ f → Ran w base′ s′ o′ n t t′ r → r ≡ Value m q → length t′ ≡ length t → (m ≤ base + p′) × (p′ ≤ length s) → Going w base s o₀ n₀ t₀ (f q) p′ m t′
+  going-run {o′ = o′} f e h i l b = going-from (λ _ p. f p) (e ∙ seq-from n o′ f) h i l b
+
+  pub going-from-halt : {base′ : ℕ} {k : Refusal} {s′ t′ : List ℕ} {o′ : Out} {r : Got} (f : ℕ → ℕ → Out) → o ≡ seqFrom n o′ f → Ran w base′ s′ o′ n t t′ r → r ≡ Refused k → Ran w base s o₀ n₀ t₀ t′ (Refused k)
+  going-from-halt {t′ = t′} {o′} f e h i =
       let z = seq-stop w o′ f n t t′ (sym (h .answered) ∙ i) in
       record { answered = sym (g .answers ∙ rw e (z .0)); filled = g .fills t′ (subst (λ x. Fills w t n x t′) (sym e) (z .1)); within = refused }
+
+  pub going-halt : {base′ : ℕ} {k : Refusal} {s′ t′ : List ℕ} {o′ : Out} {r : Got} (f : ℕ → Out) → o ≡ seq o′ f → Ran w base′ s′ o′ n t t′ r → r ≡ Refused k → Ran w base s o₀ n₀ t₀ t′ (Refused k)
+  going-halt {o′ = o′} f e h i = going-from-halt (λ _ p. f p) (e ∙ seq-from n o′ f) h i
 
   pub going-end : o ≡ ok [] p → Ran w base s o₀ n₀ t₀ t (Value n p)
   going-end e = record {

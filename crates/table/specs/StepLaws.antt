@@ -1,55 +1,84 @@
 -- What a reader of rows meets, combinator by combinator: items, pairs, counts and numbers. Assumes nothing.
-use Prim.Native.Nat.{ℕ, zero, suc, _-_, _≤_, _<_}
+use Prim.Native.Nat.{ℕ, zero, suc, _+_, _-_, _≤_, _<_}
 use native.Mathlib.Omega.{arith}
 use mathlib.Core.Path.{_≡_, refl, ap}
 use mathlib.Core.List.{List, [], _∷_, _++_, map}
+use lib.ListN.{length}
 use Rattle.refusal.specs.declared.Refusal.{Refusal}
 use Rattle.codec.specs.Codec.{Res, ok, refuse, _>>=_, Codec, num, timesParse}
 use Rattle.numbers.specs.Numbers.{numAt}
 use Rattle.numbers.specs.NumberLaws.{numOf, num-is}
-use Rattle.table.specs.Table.{Out, allRows, said, row, seq, onGot}
+use Rattle.table.specs.Table.{Out, From, _andThen_, eachFrom, allRows, said, row, seq, seqFrom, onGot}
 use Rattle.numbers.specs.declared.Got.{Got}
 use Rattle.numbers.specs.declared.Got.the-variants.{Value, Refused}
 
 -- ---- n items, row by row
 
-module _ {A : Type 0} (c : Codec A) (f : A → List ℕ) (base : ℕ) (s : List ℕ) where
-  items-tail : (x : A) (r : Res (List A)) → said (map f) (r >>= λ xs k. ok (x ∷ xs) k) ≡ row (f x) (said (map f) r)
-  items-tail x (ok xs k) = refl
-  items-tail x (refuse k) = refl
+-- one row each; `all` has the rows of items from row m on
+module _ {A : Type 0} (c : Codec A) (f : A → ℕ → List ℕ) (all : List A → From) (none : (m : ℕ) → all [] m ≡ []) (more : (x : A) (xs : List A) (m : ℕ) → all (x ∷ xs) m ≡ f x m ∷ all xs (m + 1)) (base : ℕ) (s : List ℕ) (m : ℕ) where
+  rows-tail : (x : A) (r : Res (List A)) → said (λ xs. all xs m) (r >>= λ xs k. ok (x ∷ xs) k) ≡ row (f x m) (said (λ xs. all xs (m + 1)) r)
+  rows-tail x (ok xs k) = rw (more x xs m)
+  rows-tail x (refuse k) = refl
 
+  pub rows-end : (n at : ℕ) → n ≤ 0 → said (λ xs. all xs m) (timesParse c n base s at) ≡ ok [] at
+  rows-end zero at h = rw (none m)
+  rows-end (suc n) at h = let z : ⊥ = omega arith in absurd z
+
+  pub rows-row : (n at : ℕ) {x : A} {p : ℕ} → 0 < n → c .parse base s at ≡ ok x p
+      → said (λ xs. all xs m) (timesParse c n base s at) ≡ row (f x m) (said (λ xs. all xs (m + 1)) (timesParse c (n - 1) base s p))
+  rows-row zero at h e = let z : ⊥ = omega arith in absurd z
+  rows-row (suc n) at {x} {p} h e = let k : suc n - 1 ≡ n = omega arith in rw (e, k) (rows-tail x (timesParse c n base s p))
+
+  pub rows-no : (n at : ℕ) {k : Refusal} → 0 < n → c .parse base s at ≡ refuse k → said (λ xs. all xs m) (timesParse c n base s at) ≡ refuse k
+  rows-no zero at h e = let z : ⊥ = omega arith in absurd z
+  rows-no (suc n) at h e = rw e
+
+-- rows that tell no index
+module _ {A : Type 0} (c : Codec A) (f : A → List ℕ) (base : ℕ) (s : List ℕ) where
   pub items-end : (n at : ℕ) → n ≤ 0 → said (map f) (timesParse c n base s at) ≡ ok [] at
-  items-end zero at h = refl
-  items-end (suc n) at h = let z : ⊥ = omega arith in absurd z
+  items-end n at h = rows-end c (λ x _. f x) (λ xs _. map f xs) (λ _. refl) (λ x xs _. refl) base s 0 n at h
 
   pub items-row : (n at : ℕ) {x : A} {p : ℕ} → 0 < n → c .parse base s at ≡ ok x p
       → said (map f) (timesParse c n base s at) ≡ row (f x) (said (map f) (timesParse c (n - 1) base s p))
-  items-row zero at h e = let z : ⊥ = omega arith in absurd z
-  items-row (suc n) at {x} {p} h e = let k : suc n - 1 ≡ n = omega arith in rw (e, k) (items-tail x (timesParse c n base s p))
+  items-row n at h e = rows-row c (λ x _. f x) (λ xs _. map f xs) (λ _. refl) (λ x xs _. refl) base s 0 n at h e
 
   pub items-no : (n at : ℕ) {k : Refusal} → 0 < n → c .parse base s at ≡ refuse k → said (map f) (timesParse c n base s at) ≡ refuse k
-  items-no zero at h e = let z : ⊥ = omega arith in absurd z
-  items-no (suc n) at h e = rw e
+  items-no n at h e = rows-no c (λ x _. f x) (λ xs _. map f xs) (λ _. refl) (λ x xs _. refl) base s 0 n at h e
 
--- n items, each of several rows
-module _ {A : Type 0} (c : Codec A) (f : A → List (List ℕ)) (base : ℕ) (s : List ℕ) where
-  pub many-run : (n at : ℕ) → 0 < n → said (allRows f) (timesParse c n base s at) ≡ seq (said f (c .parse base s at)) (λ p. said (allRows f) (timesParse c (n - 1) base s p))
-  unfolding seq
-  many-run zero at h = let z : ⊥ = omega arith in absurd z
-  many-run (suc n) at h = let k : suc n - 1 ≡ n = omega arith in rw k (go (c .parse base s at))
+-- several rows each
+module _ {A : Type 0} (c : Codec A) (f : A → From) (all : List A → From) (none : (m : ℕ) → all [] m ≡ []) (more : (x : A) (xs : List A) (m : ℕ) → all (x ∷ xs) m ≡ (f x andThen all xs) m) (base : ℕ) (s : List ℕ) (m : ℕ) where
+  run-all : (n at : ℕ) → 0 < n → said (λ xs. all xs m) (timesParse c n base s at) ≡ seqFrom m (said (λ x. f x m) (c .parse base s at)) (λ k p. said (λ xs. all xs k) (timesParse c (n - 1) base s p))
+  unfolding seqFrom
+  run-all zero at h = let z : ⊥ = omega arith in absurd z
+  run-all (suc n) at h = let k : suc n - 1 ≡ n = omega arith in rw k (go (c .parse base s at))
     where
-      tail : (x : A) (r : Res (List A)) → said (allRows f) (r >>= λ xs k. ok (x ∷ xs) k) ≡ (said (allRows f) r >>= λ qs q. ok (f x ++ qs) q)
-      tail x (ok xs k) = refl
+      tail : (x : A) (r : Res (List A)) → said (λ xs. all xs m) (r >>= λ xs k. ok (x ∷ xs) k) ≡ (said (λ xs. all xs (m + length (f x m))) r >>= λ qs q. ok (f x m ++ qs) q)
+      tail x (ok xs k) = rw (more x xs m)
       tail x (refuse k) = refl
 
-      go : (r : Res A) → said (allRows f) (r >>= λ x j. timesParse c n base s j >>= λ xs k. ok (x ∷ xs) k)
-          ≡ ((said f r) >>= λ rs p. said (allRows f) (timesParse c n base s p) >>= λ qs q. ok (rs ++ qs) q)
+      go : (r : Res A) → said (λ xs. all xs m) (r >>= λ x j. timesParse c n base s j >>= λ xs k. ok (x ∷ xs) k)
+          ≡ ((said (λ x. f x m) r) >>= λ rs p. said (λ xs. all xs (m + length rs)) (timesParse c n base s p) >>= λ qs q. ok (rs ++ qs) q)
       go (ok x j) = tail x (timesParse c n base s j)
       go (refuse k) = refl
 
+  end-all : (n at : ℕ) → n ≤ 0 → said (λ xs. all xs m) (timesParse c n base s at) ≡ ok [] at
+  end-all zero at h = rw (none m)
+  end-all (suc n) at h = let z : ⊥ = omega arith in absurd z
+
+module _ {A : Type 0} (c : Codec A) (f : A → From) (base : ℕ) (s : List ℕ) (m : ℕ) where
+  pub each-run : (n at : ℕ) → 0 < n → said (λ xs. eachFrom f xs m) (timesParse c n base s at) ≡ seqFrom m (said (λ x. f x m) (c .parse base s at)) (λ k p. said (λ xs. eachFrom f xs k) (timesParse c (n - 1) base s p))
+  each-run = run-all c f (eachFrom f) (λ _. refl) (λ x xs _. refl) base s m
+
+  pub each-end : (n at : ℕ) → n ≤ 0 → said (λ xs. eachFrom f xs m) (timesParse c n base s at) ≡ ok [] at
+  each-end = end-all c f (eachFrom f) (λ _. refl) (λ x xs _. refl) base s m
+
+module _ {A : Type 0} (c : Codec A) (f : A → List (List ℕ)) (base : ℕ) (s : List ℕ) where
+  pub many-run : (n at : ℕ) → 0 < n → said (allRows f) (timesParse c n base s at) ≡ seq (said f (c .parse base s at)) (λ p. said (allRows f) (timesParse c (n - 1) base s p))
+  unfolding seq seqFrom
+  many-run = run-all c (λ x _. f x) (λ xs _. allRows f xs) (λ _. refl) (λ x xs _. refl) base s 0
+
   pub many-end : (n at : ℕ) → n ≤ 0 → said (allRows f) (timesParse c n base s at) ≡ ok [] at
-  many-end zero at h = refl
-  many-end (suc n) at h = let z : ⊥ = omega arith in absurd z
+  many-end = end-all c (λ x _. f x) (λ xs _. allRows f xs) (λ _. refl) (λ x xs _. refl) base s 0
 
 -- ---- one after the other
 
@@ -57,15 +86,20 @@ module _ {A : Type 0} (c : Codec A) (f : A → List (List ℕ)) (base : ℕ) (s 
 abbrev pub both : {A B : Type 0} → Res A → (ℕ → Res B) → Res (A × B)
 both {A} {B} r g = _>>=_ {A = A} {B = A × B} r (λ x j. g j >>= λ y k. ok (x, y) k)
 
-pub both-seq : {A B : Type 0} (f : A → List (List ℕ)) (h : B → List (List ℕ)) (r : Res A) (g : ℕ → Res B)
-    → said (λ z. f (z .0) ++ h (z .1)) (both r g) ≡ seq (said f r) (λ q. said h (g q))
-unfolding seq
-both-seq {A} {B} f h (ok x j) g = go (g j)
+pub both-from : {A B : Type 0} (f : A → From) (h : B → From) (m : ℕ) (r : Res A) (g : ℕ → Res B)
+    → said (λ z. (f (z .0) andThen h (z .1)) m) (both r g) ≡ seqFrom m (said (λ x. f x m) r) (λ k q. said (λ y. h y k) (g q))
+unfolding seqFrom
+both-from {A} {B} f h m (ok x j) g = go (g j)
   where
-    go : (r : Res B) → said (λ z. f (z .0) ++ h (z .1)) (_>>=_ {B = A × B} r λ y k. ok (x, y) k) ≡ (said h r >>= λ qs q. ok (f x ++ qs) q)
+    go : (r : Res B) → said (λ z. (f (z .0) andThen h (z .1)) m) (_>>=_ {B = A × B} r λ y k. ok (x, y) k) ≡ (said (λ y. h y (m + length (f x m))) r >>= λ qs q. ok (f x m ++ qs) q)
     go (ok y k) = refl
     go (refuse k) = refl
-both-seq f h (refuse k) g = refl
+both-from f h m (refuse k) g = refl
+
+pub both-seq : {A B : Type 0} (f : A → List (List ℕ)) (h : B → List (List ℕ)) (r : Res A) (g : ℕ → Res B)
+    → said (λ z. f (z .0) ++ h (z .1)) (both r g) ≡ seq (said f r) (λ q. said h (g q))
+unfolding seq seqFrom
+both-seq f h r g = both-from (λ x _. f x) (λ y _. h y) 0 r g
 
 -- the same bytes under another name
 pub said-named : {A B : Type 0} (f : B → List (List ℕ)) (to : A → B) (r : Res A) → said f (r >>= λ x j. ok (to x) j) ≡ said (λ x. f (to x)) r
@@ -77,10 +111,14 @@ pub said-same : {A : Type 0} (f g : A → List (List ℕ)) → ((x : A) → f x 
 said-same f g h (ok x j) = ap (λ v. ok v j) (h x)
 said-same f g h (refuse k) = refl
 
+pub from-same : (m : ℕ) (o : Out) (f g : ℕ → ℕ → Out) → ((k p : ℕ) → f k p ≡ g k p) → seqFrom m o f ≡ seqFrom m o g
+unfolding seqFrom
+from-same m (ok rs p) f g h = rw (h (m + length rs) p)
+from-same m (refuse k) f g h = refl
+
 pub seq-same : (o : Out) (f g : ℕ → Out) → ((p : ℕ) → f p ≡ g p) → seq o f ≡ seq o g
-unfolding seq
-seq-same (ok rs p) f g h = rw (h p)
-seq-same (refuse k) f g h = refl
+unfolding seq seqFrom
+seq-same o f g h = from-same 0 o (λ _ p. f p) (λ _ p. g p) (λ _ p. h p)
 
 -- a row that tells a number of what follows
 pub said-row : {A : Type 0} (h : ℕ → List ℕ) (f : A → List (List ℕ)) (size : A → ℕ) (count : ℕ) (r : Res A) → ((x : A) (j : ℕ) → r ≡ ok x j → size x ≡ count)

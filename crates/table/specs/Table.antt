@@ -21,6 +21,20 @@ flat (x ∷ xs) = x ++ flat xs
 abbrev pub allRows : {A : Type 0} → (A → List (List ℕ)) → List A → List (List ℕ)
 allRows f xs = flat (map f xs)
 
+-- the rows of a thing, told the index of the first of them
+abbrev pub From : Type 0
+From = ℕ → List (List ℕ)
+
+infixr 25 _andThen_
+-- rows, and others after them
+abbrev pub _andThen_ : From → From → From
+_andThen_ f g n = f n ++ g (n + length (f n))
+
+-- the rows of each, one after the other
+abbrev pub eachFrom : {A : Type 0} → (A → From) → List A → From
+eachFrom f [] n = []
+eachFrom f (x ∷ xs) n = (f x andThen eachFrom f xs) n
+
 abbrev pub Out : Type 0
 Out = Res (List (List ℕ))
 
@@ -35,6 +49,10 @@ row r o = o >>= λ rs p. ok (r ∷ rs) p
 -- the first reader's rows, and where it stopped those of the second
 unfoldable pub seq : Out → (ℕ → Out) → Out
 seq o f = o >>= λ rs p. f p >>= λ qs q. ok (rs ++ qs) q
+
+-- the same from row n on, where the second is told the index of its first row too
+unfoldable pub seqFrom : ℕ → Out → (ℕ → ℕ → Out) → Out
+seqFrom n o f = o >>= λ rs p. f (n + length rs) p >>= λ qs q. ok (rs ++ qs) q
 
 -- a number that was read, and what follows it
 abbrev pub onGot : Got → (ℕ → ℕ → Out) → Out

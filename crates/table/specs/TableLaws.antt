@@ -8,8 +8,8 @@ use native.Mathlib.Omega.{arith}
 use lib.ListN.{length, drop, length-append, length-drop}
 use lib.Seq.{sets-eq, take-at, drop-append-add, drop-drop}
 use borrow.Author.Tests.{lt-ltb}
-use Rattle.table.specs.Table.{flat, allRows, putRow, fill}
-use Rattle.table.specs.EachLaws.{Each, each-append}
+use Rattle.table.specs.Table.{flat, allRows, From, eachFrom, putRow, fill}
+use Rattle.table.specs.EachLaws.{Each, each-append, each-from}
 
 -- every row has w numbers
 abbrev pub Wide : ℕ → List (List ℕ) → Type 0
@@ -25,6 +25,9 @@ wide-map w f h (x ∷ xs) = (h x, wide-map w f h xs)
 pub wide-all : (w : ℕ) {A : Type 0} (f : A → List (List ℕ)) → ((x : A) → Wide w (f x)) → (xs : List A) → Wide w (allRows f xs)
 wide-all w f h [] = tt
 wide-all w f h (x ∷ xs) = wide-append w (f x) (allRows f xs) (h x) (wide-all w f h xs)
+
+pub wide-from : (w : ℕ) {A : Type 0} (f : A → From) → ((x : A) (n : ℕ) → Wide w (f x n)) → (xs : List A) (n : ℕ) → Wide w (eachFrom f xs n)
+wide-from w f h xs n = each-from (λ _. Unit {0}) (λ r. length r ≡ w) (λ _. Unit {0}) (λ x xs e. (tt, tt)) f (λ x n e. h x n) xs n tt
 
 -- rows of w numbers, with what omega tells of a number w
 module _ (w : ℕ) (zero : w * 0 ≡ 0) (step : (n : ℕ) → w * (n + 1) ≡ w * n + w) (fit : (m n : ℕ) → w * n + w ≤ m → n < m / w) where

@@ -23,12 +23,12 @@ fields-of-requires c κs = c .before .before .before .before .before .before .be
 returns : tie.Need-returns
 returns c =
     let start = c .before .before .before .before .before .before .before .before .before .before .before .before .before .before .before .before .before .before .before in
-    body-read (start .args .sheet .now) (start .args .v) (start .args .block .now) _ (start .args .symbology .now) (start .args .layout .now) (start .pre) (lays-at (c .before .before .before .before .before .before .before .before .before .before .before .before .before .before .before .layout-part .ensures) (c .before .before .before .before .before .before .before .before .before .before .before .before .before .version .given .1)) (c .before .before .before .before .before .before .before .before .before .before .symbology-part .ensures) refl (c .before .before .before .before .before .before .fives .given .1) (c .before .before .before .put-layout .ensures) (c .fields-of .ensures)
+    body-read (start .args .sheet .now) (start .args .v) (start .args .block .now) _ (start .args .symbology .now) (start .args .layout .now) (start .pre) (lays-at (c .before .before .before .before .before .before .before .before .before .before .before .before .before .before .before .layout-part .ensures) (c .before .before .before .before .before .before .before .before .before .before .before .before .before .version .given .1)) (c .before .before .before .before .before .before .before .before .before .before .symbology-part .ensures) refl (c .before .before .before .before .before .before .sixes .given .1) (c .before .before .before .put-layout .ensures) (c .fields-of .ensures)
 
 returns-2 : tie.Need-returns-2
 returns-2 c =
     let start = c .before .before .before .before .before .before .before .before .before .before .before .before .before .before in
-    body-short (start .args .sheet .now) (start .args .v) (start .args .block .now) _ (start .args .symbology .now) (start .args .layout .now) (start .pre) (lays-at (c .before .before .before .before .before .before .before .before .before .before .layout-part .ensures) (c .before .before .before .before .before .before .before .before .version .given .1)) (c .before .before .before .before .before .symbology-part .ensures) refl (c .before .fives2 .given .1)
+    body-short (start .args .sheet .now) (start .args .v) (start .args .block .now) _ (start .args .symbology .now) (start .args .layout .now) (start .pre) (lays-at (c .before .before .before .before .before .before .before .before .before .before .layout-part .ensures) (c .before .before .before .before .before .before .before .before .version .given .1)) (c .before .before .before .before .before .symbology-part .ensures) refl (c .before .sixes2 .given .1)
 
 returns-3 : tie.Need-returns-3
 returns-3 c =

@@ -10,12 +10,12 @@ use Rattle.names.proofs.symbology_span.Tie as tie
 returns : tie.Need-returns
 returns c =
     let args = c .before .before .before .before .before .before .args in
-    (rw (c .before .symbol-text .ensures) at (c .row-span .ensures)) ∙ row-there 5 symbolText _ (args .rows .now) (args .index) (c .before .before .before .if1 .taken)
+    (rw (c .before .symbol-text .ensures) at (c .row-span .ensures)) ∙ row-there 6 symbolText _ (args .rows .now) (args .index) (c .before .before .before .if1 .taken)
 
 returns-2 : tie.Need-returns-2
 returns-2 c =
     let args = c .before .before .before .before .args in
-    c .no-text .ensures ∙ row-past 5 symbolText _ (args .rows .now) (args .index) (c .before .if1 .left)
+    c .no-text .ensures ∙ row-past 6 symbolText _ (args .rows .now) (args .index) (c .before .if1 .left)
 
 pub symbology-span-spec : {M : Type 1} → statement M
 symbology-span-spec =

@@ -7,4 +7,4 @@ use Rattle.show.proofs.symbology_table.Statement.{statement}
 use Rattle.show.proofs.symbology_table.Tie as tie
 
 pub symbology-table-spec : {M : Type 1} → statement M
-symbology-table-spec = tie.close (tie.spec (λ c. sym (length-replicate {A = ℕ} 81920 0)))
+symbology-table-spec = tie.close (tie.spec (λ c. sym (length-replicate {A = ℕ} 98304 0)))

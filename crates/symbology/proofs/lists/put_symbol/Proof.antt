@@ -4,19 +4,19 @@ use mathlib.Core.Path.{_∙_, ap}
 use borrow.Author.Needs.{needs}
 use Rattle.text.specs.TrimLaws.{trimmed-le}
 use Rattle.table.specs.ReadingLaws.{put-as, put-not}
-use Rattle.symbology.specs.SymbologyRows.{row5}
+use Rattle.symbology.specs.SymbologyRows.{row6}
 use Rattle.symbology.proofs.lists.put_symbol.Statement.{statement}
 use Rattle.symbology.proofs.lists.put_symbol.Tie as tie
 
-five-requires : tie.Need-five-requires
-five-requires c κs =
+six-requires : tie.Need-six-requires
+six-requires c κs =
     let start = c .before .before .before .before in
     omega (arith, c .trimmed-len .ensures, trimmed-le (start .args .symbol .now), start .pre)
 
 returns : tie.Need-returns
 returns c =
     let args = c .before .before .before .before .before .before .before .before .before .before .args in
-    put-as (c .before .before .before .before .before .five .ensures ∙ ap (λ l. row5 (args .kind) (args .start) l (args .x) (args .y)) (c .before .before .before .before .before .before .trimmed-len .ensures)) (c .before .before .put-row .ensures)
+    put-as (c .before .before .before .before .before .six .ensures ∙ ap (λ l. row6 (args .kind) (args .start) l (args .x) (args .y) (args .owner)) (c .before .before .before .before .before .before .trimmed-len .ensures)) (c .before .before .put-row .ensures)
 
 returns-2 : tie.Need-returns-2
 returns-2 c = record { is = put-not _ _ _ _ (c .if1 .left) }
@@ -26,7 +26,7 @@ put-symbol-spec =
     tie.close
     (tie.spec
     (λ c κs. search needs)
-    five-requires
+    six-requires
     (λ c. search needs)
     (λ c κs. search needs)
     (λ c. search needs)

@@ -7,15 +7,16 @@ use Rattle.dates.specs.Months.{Right, monthsAfter}
 use Rattle.dates.specs.MonthLaws.{day-right, right-after}
 use Rattle.table.specs.ReadingLaws.{put-as, put-not}
 use Rattle.text.specs.Trim.{trimmedLen}
-use Rattle.symbology.specs.SymbologyRows.{row5}
+use Rattle.symbology.specs.SymbologyRows.{row6}
 use Rattle.symbology.proofs.mappings.put_interval.Statement.{statement}
 use Rattle.symbology.proofs.mappings.put_interval.Tie as tie
 
 returns : tie.Need-returns
 returns c =
-    let first : Right (monthsAfter (c .before .before .before .before .before .before .before .before .before .before .before .args .months .now) (c .before .before .before .before .before .before .before .before .before .before .before .args .from / 100)) = right-after _ (c .before .before .before .before .before .before .before .before .before .before .before .pre .1) _ (omega arith) in
+    let args = c .before .before .before .before .before .before .before .before .before .before .before .args in
+    let first : Right (monthsAfter (args .months .now) (args .from / 100)) = right-after _ (c .before .before .before .before .before .before .before .before .before .before .before .pre .1) _ (omega arith) in
     let after = subst Right (sym (c .before .before .before .before .before .before .day-number-in .ensures .1)) first in (
-      put-as (ap₂ (row5 4 (c .before .before .before .before .before .before .before .before .before .before .before .args .start) (trimmedLen (c .before .before .before .before .before .before .before .before .before .before .before .args .symbol .now))) (c .before .before .before .before .before .before .day-number-in .ensures .0 ∙ day-right _ (c .before .before .before .before .before .before .before .before .before .before .before .pre .1) _ (omega arith)) (c .before .before .before .before .day-number-in2 .ensures .0 ∙ day-right _ after _ (omega arith))) (c .before .before .put-symbol .ensures),
+      put-as (ap₂ (λ x y. row6 4 (args .start) (trimmedLen (args .symbol .now)) x y (args .owner)) (c .before .before .before .before .before .before .day-number-in .ensures .0 ∙ day-right _ (c .before .before .before .before .before .before .before .before .before .before .before .pre .1) _ (omega arith)) (c .before .before .before .before .day-number-in2 .ensures .0 ∙ day-right _ after _ (omega arith))) (c .before .before .put-symbol .ensures),
       subst Right (sym (c .before .before .before .before .day-number-in2 .ensures .1)) (right-after _ after _ (omega arith)),
     )
 
