@@ -47,7 +47,7 @@
 
 /* The version of this header, major x 10000 + minor x 100 + patch. */
 #define DBN_START_VERSION_MAJOR 0
-#define DBN_START_VERSION_MINOR 7
+#define DBN_START_VERSION_MINOR 8
 #define DBN_START_VERSION_PATCH 0
 #define DBN_START_VERSION (DBN_START_VERSION_MAJOR * 10000 + DBN_START_VERSION_MINOR * 100 + DBN_START_VERSION_PATCH)
 
@@ -171,15 +171,18 @@ enum dbn_sheet {
 };
 
 /* Numbers in a row, and the kinds of rows, which are a row's first number. Unused numbers are 0. Starts count from the block for
- * symbology rows and from the layout for layout rows. */
-enum dbn_row { DBN_SYMBOLOGY_ROW = 5, DBN_LAYOUT_ROW = 9 };
+ * symbology rows and from the layout for layout rows. A table of n numbers has room for n / DBN_SYMBOLOGY_ROW or n / DBN_LAYOUT_ROW rows. */
+enum dbn_row { DBN_SYMBOLOGY_ROW = 6, DBN_LAYOUT_ROW = 9 };
 
+/* The kinds of symbology rows, and the numbers after the kind. The sixth number, row[5], is the row's owner: of an interval the index of its
+ * mapping's row, of every other row its own index. Indexes count from 0 in the table. So an interval's mapping is found at once, and only
+ * intervals of that mapping stand between the two. */
 enum dbn_symbology_kind {
-    DBN_KIND_SYMBOL = 0,    /* start, length */
-    DBN_KIND_PARTIAL = 1,   /* start, length */
-    DBN_KIND_NOT_FOUND = 2, /* start, length */
-    DBN_KIND_MAPPING = 3,   /* start, length, count of the intervals that follow */
-    DBN_KIND_INTERVAL = 4   /* start, length, start day, end day, as day numbers */
+    DBN_KIND_SYMBOL = 0,    /* start, length, 0, 0, owner */
+    DBN_KIND_PARTIAL = 1,   /* start, length, 0, 0, owner */
+    DBN_KIND_NOT_FOUND = 2, /* start, length, 0, 0, owner */
+    DBN_KIND_MAPPING = 3,   /* start, length, count of the intervals that follow, 0, owner */
+    DBN_KIND_INTERVAL = 4   /* start, length, start day and end day as day numbers, owner */
 };
 
 enum dbn_layout_kind {

@@ -2,6 +2,7 @@
 use crate::{
     bench_shapes::{beside, shapes},
     of_crate::dbn::Fsm,
+    walk::ROW,
 };
 use dbn_start::{ffi, Layout};
 use std::hint::black_box;
@@ -30,7 +31,7 @@ fn read(what: &str, version: u8, block: &[u8]) {
     let sheet = shapes::sheet();
     let stream = shapes::stream_of(version, block);
     let mut out = [0; 20];
-    let (mut symbology, mut layout, mut store) = (vec![0; 5 * 4000], vec![0; 9 * 4000], vec![0; stream.len()]);
+    let (mut symbology, mut layout, mut store) = (vec![0; ROW * 4000], vec![0; 9 * 4000], vec![0; stream.len()]);
     // The crate's process() alone: the state machine and its bytes are made outside the clock, so it is timed by hand.
     let mut theirs = Vec::new();
     let mut here = Vec::new();

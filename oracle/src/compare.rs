@@ -6,6 +6,7 @@ use crate::{
     ours,
     paper::{self, Stage},
     tally::{told, Beside, Kind, Tally},
+    walk::ROW,
 };
 
 /// A made sheet: which of the two builds it is for, its lent form, and which sizes of 0 the crate is told as `Some(0)`.
@@ -482,7 +483,7 @@ fn feed_paper(wanted: &mut calls::FeedAnswer, held: u64, piece: &[u8], sheet: &S
 fn read_rows(wanted: &mut calls::FeedAnswer, held: usize) -> Answer {
     let values = crate::walk::block(wanted.store[3], &wanted.store[8..held]);
     let (s, l) = (values.symbology.concat(), values.layout.concat());
-    if wanted.symbology.len() / 5 < values.symbology.len() || wanted.layout.len() / 9 < values.layout.len() {
+    if wanted.symbology.len() / ROW < values.symbology.len() || wanted.layout.len() / 9 < values.layout.len() {
         wanted.number = 3;
         wanted.out[10..12].copy_from_slice(&[values.symbology.len() as u64, values.layout.len() as u64]);
         return Answer::Refused(3, None);

@@ -144,24 +144,33 @@ macro_rules! build {
                 assert_eq!((m.end.map(|x| x.get()), m.limit.map(|x| x.get())), (v.end, v.limit));
                 assert_eq!((m.stype_in.map(|s| s as u8), m.stype_out as u8), (v.stype_in, v.stype_out));
                 assert_eq!((m.ts_out, m.symbol_cstr_len), (v.ts_out, v.width));
-                let mut wanted: Vec<(u32, &[u8], u32, u32)> = Vec::new();
-                for (kind, list) in [&m.symbols, &m.partial, &m.not_found].into_iter().enumerate() {
-                    wanted.extend(list.iter().map(|symbol| (kind as u32, symbol.as_bytes(), 0, 0)));
-                }
-                for mapping in &m.mappings {
-                    wanted.push((3, mapping.raw_symbol.as_bytes(), mapping.intervals.len() as u32, 0));
-                    for i in &mapping.intervals {
-                        let [start, end] = [i.start_date, i.end_date].map(day_number);
-                        wanted.push((4, i.symbol.as_bytes(), start, end));
-                    }
-                }
-                let name = |r: &[u32; 5]| &block[r[1] as usize..(r[1] + r[2]) as usize];
-                let walked: Vec<_> = v.symbology.iter().map(|r| (r[0], name(r), r[3], r[4])).collect();
-                assert_eq!(wanted, walked);
+                let name = |r: &[u32; walk::ROW]| &block[r[1] as usize..(r[1] + r[2]) as usize];
+                let walked: Vec<_> = v.symbology.iter().map(|r| (r[0], name(r), r[3], r[4], r[5])).collect();
+                assert_eq!(symbology(m), walked);
                 match &m.layout {
                     Some(read) => check_layout(read, v.layout_version, &v.layout, crate::of_crate::layout_of(block)),
                     None => assert!(v.layout.is_empty() && v.layout_version == 0),
                 }
+            }
+
+            /// The rows that the crate's values come to, each with its name in the place of start and length. How many rows stand before a
+            /// mapping is the owner of its intervals.
+            fn symbology(m: &Metadata) -> Vec<(u32, &[u8], u32, u32, u32)> {
+                let mut rows: Vec<(u32, &[u8], u32, u32, u32)> = Vec::new();
+                for (kind, list) in [&m.symbols, &m.partial, &m.not_found].into_iter().enumerate() {
+                    for symbol in list {
+                        rows.push((kind as u32, symbol.as_bytes(), 0, 0, rows.len() as u32));
+                    }
+                }
+                for mapping in &m.mappings {
+                    let owner = rows.len() as u32;
+                    rows.push((3, mapping.raw_symbol.as_bytes(), mapping.intervals.len() as u32, 0, owner));
+                    for i in &mapping.intervals {
+                        let [start, end] = [i.start_date, i.end_date].map(day_number);
+                        rows.push((4, i.symbol.as_bytes(), start, end, owner));
+                    }
+                }
+                rows
             }
 
             fn check_layout(l: &StreamLayout, version: u16, rows: &[[u32; 9]], bytes: &[u8]) {

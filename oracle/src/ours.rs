@@ -3,7 +3,7 @@ use crate::{
     calls,
     gen::{Rng, Sheet},
     of_crate::Answer,
-    walk::Values,
+    walk::{Values, ROW},
 };
 
 /// Numbers to tell a write by.
@@ -46,7 +46,7 @@ fn values(out: &[u64], symbology: &[u32], layout: &[u32]) -> Values {
         ts_out: out[7] != 0,
         width: out[8] as usize,
         layout_version: out[9] as u16,
-        symbology: symbology[..out[10] as usize * 5].chunks(5).map(|row| row.try_into().unwrap()).collect(),
+        symbology: symbology[..out[10] as usize * ROW].chunks(ROW).map(|row| row.try_into().unwrap()).collect(),
         layout: layout[..out[11] as usize * 9].chunks(9).map(|row| row.try_into().unwrap()).collect(),
     }
 }
@@ -58,7 +58,7 @@ pub fn feed(r: &mut Rng, stream: &[u8], cuts: &[usize], sheet: &Sheet) -> Vec<An
     // The rows needed, which the answer to empty tables tells.
     let bare = calls::feed(0, &store, stream, &sheet.0, &[], &[], &marks(r));
     let rows = if bare.number == 3 { [bare.out[10] as usize, bare.out[11] as usize] } else { [0, 0] };
-    let (sn, ln) = (rows[0] * 5 + r.below(12), rows[1] * 9 + r.below(20));
+    let (sn, ln) = (rows[0] * ROW + r.below(12), rows[1] * 9 + r.below(20));
     let (symbology, layout) = (table(r, sn), table(r, ln));
     let (mut answers, mut at, mut held) = (Vec::new(), 0, 0);
     for &cut in cuts.iter().chain([&stream.len()]) {
@@ -91,7 +91,7 @@ pub fn feed(r: &mut Rng, stream: &[u8], cuts: &[usize], sheet: &Sheet) -> Vec<An
 pub fn block(r: &mut Rng, version: u8, block: &[u8], sheet: &Sheet) -> Answer {
     let bare = calls::block(version, block, &sheet.0, &[], &[], &marks(r));
     let rows = if bare.number == 3 { [bare.out[10] as usize, bare.out[11] as usize] } else { [0, 0] };
-    let (sn, ln) = (rows[0] * 5 + r.below(12), rows[1] * 9 + r.below(20));
+    let (sn, ln) = (rows[0] * ROW + r.below(12), rows[1] * 9 + r.below(20));
     let (symbology, layout, out) = (table(r, sn), table(r, ln), marks(r));
     let a = calls::block(version, block, &sheet.0, &symbology, &layout, &out);
     if a.number != 0 {
@@ -99,7 +99,7 @@ pub fn block(r: &mut Rng, version: u8, block: &[u8], sheet: &Sheet) -> Answer {
         return if kept { refused(a.number, &a.out) } else { Answer::Odd("tables or out after a refusal".into()) };
     }
     let [s, l] = rows;
-    let past = a.symbology[s * 5..] == symbology[s * 5..] && a.layout[l * 9..] == layout[l * 9..];
+    let past = a.symbology[s * ROW..] == symbology[s * ROW..] && a.layout[l * 9..] == layout[l * 9..];
     let values = values(&a.out, &a.symbology, &a.layout);
     if !past || a.out[10..12] != [s as u64, l as u64] || values.out() != a.out {
         return Answer::Odd("rows needed and given, past the last row, or numbers of what is absent".into());
@@ -128,7 +128,7 @@ fn fed_answer(
     if fed.number == 0 && needed == 0 {
         let [s, l] = rows;
         need(fed.out[10..12] == [s as u64, l as u64], "the rows needed and the rows given")?;
-        need(fed.symbology[s * 5..] == symbology[s * 5..], "past the last symbology row")?;
+        need(fed.symbology[s * ROW..] == symbology[s * ROW..], "past the last symbology row")?;
         need(fed.layout[l * 9..] == layout[l * 9..], "past the last layout row")?;
         let values = values(&fed.out, &fed.symbology, &fed.layout);
         need(values.out() == fed.out[..16], "numbers of what is absent")?;
@@ -151,7 +151,7 @@ fn names(r: &mut Rng, block: &[u8], values: &Values) -> Result<(), String> {
     let layout: Vec<u32> = values.layout.concat();
     let part =
         if values.layout_version == 0 && layout.is_empty() { &[][..] } else { crate::of_crate::layout_of(block) };
-    for (bytes, rows, width) in [(block, &symbology, 5), (part, &layout, 9)] {
+    for (bytes, rows, width) in [(block, &symbology, ROW), (part, &layout, 9)] {
         let count = rows.len() / width;
         for _ in 0..2.min(count) {
             let index = r.below(count);

@@ -5,6 +5,9 @@ use crate::paper::day_number;
 /// The length of an entry of a layout.
 pub const ENTRY: usize = 16;
 
+/// Numbers in a row of symbology: kind, start, length, x, y and owner.
+pub const ROW: usize = 6;
+
 /// The fields of an accepted block, and its rows.
 #[derive(Debug, Clone, PartialEq, Eq, Default)]
 pub struct Values {
@@ -18,7 +21,7 @@ pub struct Values {
     pub ts_out: bool,
     pub width: usize,
     pub layout_version: u16,
-    pub symbology: Vec<[u32; 5]>,
+    pub symbology: Vec<[u32; ROW]>,
     pub layout: Vec<[u32; 9]>,
 }
 
@@ -156,7 +159,8 @@ pub fn block(version: u8, b: &[u8]) -> Values {
     v
 }
 
-fn symbology(b: &[u8], mut p: usize, width: usize) -> Vec<[u32; 5]> {
+/// The rows of the symbology from `p` on. A row owns itself, but for an interval, which its mapping owns.
+fn symbology(b: &[u8], mut p: usize, width: usize) -> Vec<[u32; ROW]> {
     let mut rows = Vec::new();
     let span = |p: usize| [p as u32, trimmed(&b[p..p + width]) as u32];
     for kind in 0..3 {
@@ -164,7 +168,7 @@ fn symbology(b: &[u8], mut p: usize, width: usize) -> Vec<[u32; 5]> {
         p += 4;
         for _ in 0..count {
             let [start, length] = span(p);
-            rows.push([kind, start, length, 0, 0]);
+            rows.push([kind, start, length, 0, 0, rows.len() as u32]);
             p += width;
         }
     }
@@ -172,15 +176,54 @@ fn symbology(b: &[u8], mut p: usize, width: usize) -> Vec<[u32; 5]> {
     p += 4;
     for _ in 0..count {
         let [start, length] = span(p);
-        let intervals = u32_at(b, p + width);
-        rows.push([3, start, length, intervals, 0]);
+        let (intervals, owner) = (u32_at(b, p + width), rows.len() as u32);
+        rows.push([3, start, length, intervals, 0, owner]);
         p += width + 4;
         for _ in 0..intervals {
             let [start, length] = span(p + 8);
             let [first, end] = [p, p + 4].map(|p| day_number(u32_at(b, p)));
-            rows.push([4, start, length, first, end]);
+            rows.push([4, start, length, first, end, owner]);
             p += 8 + width;
         }
     }
     rows
+}
+
+#[cfg(test)]
+mod tests {
+    //! Places and owners counted by hand.
+    use super::*;
+
+    #[test]
+    fn rows_of_lists_and_of_mappings_with_two_intervals_with_none_and_with_one() {
+        let days = |first: u8, end: u8| [first, 0, 0, 0, end, 0, 0, 0];
+        let parts: [&[u8]; 14] = [
+            b"\x02\0\0\0ABC\0",
+            b"\0\0\0\0",
+            b"\x01\0\0\0D\0",
+            b"\x03\0\0\0",
+            b"ES\x02\0\0\0",
+            &days(101, 102),
+            b"H3",
+            &days(102, 101),
+            b"M3",
+            b"NQ\0\0\0\0",
+            b"CL\x01\0\0\0",
+            &days(101, 101),
+            b"K\0",
+            b"after",
+        ];
+        let rows = [
+            [0, 4, 2, 0, 0, 0],
+            [0, 6, 1, 0, 0, 1],
+            [2, 16, 1, 0, 0, 2],
+            [3, 22, 2, 2, 0, 3],
+            [4, 36, 2, 0, 1, 3],
+            [4, 46, 2, 1, 0, 3],
+            [3, 48, 2, 0, 0, 6],
+            [3, 54, 2, 1, 0, 7],
+            [4, 68, 1, 0, 0, 7],
+        ];
+        assert_eq!(symbology(&parts.concat(), 0, 2), rows);
+    }
 }

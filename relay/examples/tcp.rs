@@ -46,7 +46,7 @@ fn read(address: &str) -> Result<(), Box<dyn Error>> {
     socket.set_read_timeout(Some(Duration::from_secs(10)))?;
     let (feed, frames, count) = stream(&mut socket)?;
     let block = feed.block().expect("a feed that needs nothing has a block");
-    let intervals = block.mappings().flat_map(|mapping| mapping.intervals()).count();
+    let intervals = block.intervals().count();
     println!("{}, version {}: {} bytes of start", block.dataset(), block.version(), feed.held().len());
     println!("{} mappings, {intervals} intervals", block.mappings().count());
     println!("{} records, {} bytes", count.by_rtype.iter().sum::<u64>(), count.bytes);

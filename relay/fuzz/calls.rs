@@ -202,11 +202,11 @@ pub fn write(
     WriteAnswer { number, out: values.content("out").try_into().unwrap(), output: bytes.content("the output").to_vec() }
 }
 
-/// The number and {start, length} for the name of a row: of symbology (`width` 5) or of a layout (9).
+/// The number and {start, length} for the name of a row: of symbology or of a layout, by how many numbers a row has.
 pub fn name(bytes: &[u8], rows: &[u32], width: usize, index: u64) -> (u32, [u64; 2]) {
     let (lent, table) = (Lent::new(bytes), Lent::new(rows));
     let mut values = Lent::new(&[77u64, 78]);
-    let call = if width == 5 { ffi::dbn_symbology_name } else { ffi::dbn_layout_name };
+    let call = if width == ffi::SYMBOLOGY_ROW { ffi::dbn_symbology_name } else { ffi::dbn_layout_name };
     // SAFETY: every pointer is to a buffer of the given length, and no two overlap.
     let number = unsafe { call(lent.at(), bytes.len(), table.at(), rows.len(), index, values.at_mut().cast()) };
     lent.unchanged("the bytes", bytes);

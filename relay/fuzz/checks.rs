@@ -3,8 +3,9 @@ use super::{
     calls::{self, FeedAnswer},
     days,
     gen::{self, Rng, Sheet},
-    texts, Count,
+    owners, texts, Count,
 };
+use dbn_start::ffi::SYMBOLOGY_ROW;
 
 /// A table, store or output full of marks, so that a write shows.
 pub fn marked<T>(r: &mut Rng, length: usize, mark: impl Fn(u64) -> T) -> Vec<T> {
@@ -70,9 +71,9 @@ fn placed(number: u32, place: u64, length: usize, version: Option<u8>) {
 
 /// The lengths of two tables, and whether they are long enough for the rows.
 fn tables(r: &mut Rng, rows: (usize, usize)) -> (usize, usize, bool) {
-    let (s, l) = (rows.0 * 5, rows.1 * 9);
+    let (s, l) = (rows.0 * SYMBOLOGY_ROW, rows.1 * 9);
     match r.below(6) {
-        0 if s > 0 => (s - 1 - r.below(s.min(5)), l + r.below(20), false),
+        0 if s > 0 => (s - 1 - r.below(SYMBOLOGY_ROW), l + r.below(20), false),
         1 if l > 0 => (s + r.below(20), l - 1 - r.below(l.min(9)), false),
         2 => (s, l, true),
         _ => (s + r.below(12), l + r.below(20), true),
@@ -107,7 +108,8 @@ pub fn stream(r: &mut Rng, sheet: &Sheet, count: &mut Count) {
     other_tables(&bare, &whole, enough);
     if (whole.number, whole.out[18]) == (0, 0) {
         assert_eq!((whole.out[10] as usize, whole.out[11] as usize), rows, "rows given are the rows needed");
-        assert_eq!(whole.symbology[rows.0 * 5..], symbology[rows.0 * 5..], "past the last symbology row");
+        let last = rows.0 * SYMBOLOGY_ROW;
+        assert_eq!(whole.symbology[last..], symbology[last..], "past the last symbology row");
         assert_eq!(whole.layout[rows.1 * 9..], layout[rows.1 * 9..], "past the last layout row");
     }
     cut(r, &bytes, sheet, &store, &symbology, &layout, &whole, count);
@@ -303,9 +305,10 @@ fn block(
         return within(version, block, sheet, &out, a.number, a.out[PLACE]);
     }
     texts::accepted(r, version, block, sheet, &a);
-    let (sn, ln) = (a.out[10] as usize * 5, a.out[11] as usize * 9);
+    let (sn, ln) = (a.out[10] as usize * SYMBOLOGY_ROW, a.out[11] as usize * 9);
     days::accepted(block, &a.symbology[..sn]);
-    names(r, block, &a.symbology[..sn], 5);
+    owners::accepted(&a.symbology[..sn]);
+    names(r, block, &a.symbology[..sn], SYMBOLOGY_ROW);
     if version < 4 {
         assert_eq!((a.out[9], ln), (0, 0), "no layout below version 4");
         return;
@@ -329,10 +332,10 @@ fn within(version: u8, block: &[u8], sheet: &Sheet, out: &[u64; 16], number: u32
 
 /// Every name asked for lies in the bytes and is a text; a row without one, and any other index, gives 90.
 fn names(r: &mut Rng, bytes: &[u8], rows: &[u32], width: usize) {
-    let count = (rows.len() / width) as u64;
+    let (count, most) = ((rows.len() / width) as u64, u64::MAX / width as u64);
     for _ in 0..3 {
-        let index =
-            if r.one_in(4) { r.pick(&[count, count + 1, u64::MAX, u64::MAX / 5]) } else { r.next() % (count + 1) };
+        let beyond = [count, count + 1, u64::MAX, most, most + 1];
+        let index = if r.one_in(4) { r.pick(&beyond) } else { r.next() % (count + 1) };
         let (number, [start, length]) = calls::name(bytes, rows, width, index);
         let row = rows.get(index.min(count) as usize * width..).and_then(|x| x.get(..width));
         match row {
@@ -560,8 +563,8 @@ fn any_block(
 /// Rows of anything: a span outside gives 90.
 fn any_names(r: &mut Rng, bytes: &[u8], count: &mut Count) {
     let n = r.below(5);
-    for width in [5usize, 9] {
-        let length = n * width + r.below(3);
+    for width in [SYMBOLOGY_ROW, 9] {
+        let length = n * width + r.below(width);
         let rows = marked(r, length, |x| (x >> 32) as u32 % [20, 200, u32::MAX][x as usize % 3]);
         let index = r.below(n + 2) as u64;
         let (number, [start, length]) = calls::name(bytes, &rows, width, index);
@@ -572,7 +575,7 @@ fn any_names(r: &mut Rng, bytes: &[u8], count: &mut Count) {
             assert!(index < n as u64, "a name past the table");
             let row = &rows[index as usize * width..];
             assert_eq!([start, length], [row[1] as u64, row[2] as u64], "the span of a row");
-            let kinds: &[u32] = if width == 5 { &[0, 1, 2, 3, 4] } else { &[10, 12, 13, 14, 15] };
+            let kinds: &[u32] = if width == SYMBOLOGY_ROW { &[0, 1, 2, 3, 4] } else { &[10, 12, 13, 14, 15] };
             assert!(kinds.contains(&row[0]), "a name of a row without a text");
         }
     }

@@ -3,7 +3,7 @@ use super::{
     calls::{self, BlockAnswer},
     gen::{Rng, Sheet},
 };
-use dbn_start::ffi::PLACE;
+use dbn_start::ffi::{PLACE, SYMBOLOGY_ROW};
 
 /// A text of an accepted block: its first byte, the length of its name, its width, and the two numbers that refuse it, as no UTF-8
 /// and for what comes after a NUL.
@@ -42,7 +42,7 @@ pub fn accepted(r: &mut Rng, version: u8, block: &[u8], sheet: &Sheet, a: &Block
     let [dataset, symbol] = widths(version, block);
     assert_eq!(a.out[8] as usize, symbol, "the symbol width");
     let mut texts = vec![Text { start: 0, length: a.out[0] as usize, width: dataset, numbers: [20, 29] }];
-    for row in a.symbology[..a.out[10] as usize * 5].chunks(5) {
+    for row in a.symbology[..a.out[10] as usize * SYMBOLOGY_ROW].chunks(SYMBOLOGY_ROW) {
         let numbers = [[32, 41], [32, 41], [32, 41], [36, 42], [40, 43]][row[0] as usize];
         texts.push(Text { start: row[1] as usize, length: row[2] as usize, width: symbol, numbers });
     }

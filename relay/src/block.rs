@@ -1,7 +1,8 @@
 use crate::{
-    ffi, named, part, promise,
-    tables::{rows, LAYOUT_ROW, SYMBOLOGY_ROW},
-    text, Day, Layout, Refusal, RefusalKind, Sheet, Tables,
+    ffi::{self, LAYOUT_ROW, SYMBOLOGY_ROW},
+    promise,
+    symbology::Symbology,
+    text, Day, Interval, Layout, Mapping, Refusal, RefusalKind, Sheet, Tables,
 };
 use std::fmt;
 
@@ -55,7 +56,7 @@ pub struct Block<'a> {
     bytes: &'a [u8],
     fields: Fields,
     dataset: &'a str,
-    symbology: &'a [u32],
+    symbology: Symbology<'a>,
     layout: &'a [u32],
 }
 
@@ -102,7 +103,7 @@ impl<'a> Block<'a> {
             bytes,
             fields,
             dataset: text(&bytes[..dataset]),
-            symbology: &tables.symbology[..symbology * SYMBOLOGY_ROW],
+            symbology: Symbology::accepted(bytes, &tables.symbology[..symbology * SYMBOLOGY_ROW]),
             layout: &tables.layout[..layout * LAYOUT_ROW],
         }
     }
@@ -127,46 +128,68 @@ impl<'a> Block<'a> {
         self.dataset
     }
 
-    /// The symbology rows, five numbers each.
-    pub fn rows(&self) -> impl ExactSizeIterator<Item = &'a [u32; 5]> + use<'a> {
-        rows(self.symbology)
+    /// The symbology rows, six numbers each. The last is the row's owner: of an interval the index of its mapping's row, of every other
+    /// row its own index.
+    pub fn rows(&self) -> impl ExactSizeIterator<Item = &'a [u32; 6]> + use<'a> {
+        self.symbology.rows()
     }
 
     /// The name of a symbology row, which holds no NUL, or 90 where there is no such row.
     pub fn name(&self, row: usize) -> Result<&'a str, Refusal> {
-        let mut out = [0; 2];
-        let (bytes, rows) = (self.bytes, self.symbology);
-        // SAFETY: each pointer and length are those of a slice.
-        let number = unsafe {
-            ffi::dbn_symbology_name(bytes.as_ptr(), bytes.len(), rows.as_ptr(), rows.len(), row as u64, &mut out)
-        };
-        part(self.bytes, number, out)
+        self.symbology.name(row)
     }
 
     /// The symbols that were asked for. Like every name of a block, they hold no NUL.
     pub fn symbols(&self) -> impl Iterator<Item = &'a str> + use<'a> {
-        self.list(0)
+        self.symbology.list(0)
     }
 
     /// The symbols that resolved for a part of the time.
     pub fn partial(&self) -> impl Iterator<Item = &'a str> + use<'a> {
-        self.list(1)
+        self.symbology.list(1)
     }
 
     /// The symbols that did not resolve.
     pub fn not_found(&self) -> impl Iterator<Item = &'a str> + use<'a> {
-        self.list(2)
+        self.symbology.list(2)
     }
 
     /// Each mapping with its intervals.
     pub fn mappings(&self) -> impl Iterator<Item = Mapping<'a>> + use<'a> {
-        let block = *self;
-        self.of_kind(3).map(move |(at, row)| Mapping {
-            block,
-            raw_symbol: named(block.name(at)),
-            first: at + 1,
-            count: row[3] as usize,
-        })
+        self.symbology.mappings()
+    }
+
+    /// Every interval of the block, in the stream's order. [`Interval::mapping`] tells which symbol it belongs to.
+    pub fn intervals(&self) -> impl Iterator<Item = Interval<'a>> + use<'a> {
+        self.symbology.intervals()
+    }
+
+    /// The intervals that have that day, in the stream's order: those that start on it or before, and end after it.
+    pub fn intervals_on(&self, day: Day) -> impl Iterator<Item = Interval<'a>> + use<'a> {
+        self.symbology.intervals_on(day)
+    }
+
+    /// What a symbol stood for on a day: the first interval in the stream's order that has that day and belongs to a mapping of that
+    /// raw symbol, or `None` where there is none.
+    ///
+    /// ```
+    /// use dbn_start::{Block, Day, Tables};
+    /// // A block of version 3 with symbols of 6 bytes: three empty lists, and a mapping of two intervals.
+    /// let mut bytes = vec![0; 116];
+    /// bytes[45] = 6;
+    /// bytes.extend(b"\x01\0\0\0ES.c.0\x02\0\0\0");
+    /// for (start, end, contract) in [(20230101_u32, 20230317_u32, b"ESH3\0\0"), (20230317, 20230616, b"ESM3\0\0")] {
+    ///     bytes.extend([&start.to_le_bytes()[..], &end.to_le_bytes(), contract].concat());
+    /// }
+    /// let mut tables = Tables::default();
+    /// let block = Block::read(3, &bytes, None, &mut tables).expect("an accepted block");
+    /// let day = |date| Day::from_yyyymmdd(date).expect("a date");
+    /// let interval = block.interval_on("ES.c.0", day(20230401)).expect("a contract");
+    /// assert_eq!((interval.symbol, interval.mapping().raw_symbol), ("ESM3", "ES.c.0"));
+    /// assert_eq!(block.interval_on("ES.c.0", day(20230616)), None);
+    /// ```
+    pub fn interval_on(&self, raw_symbol: &str, day: Day) -> Option<Interval<'a>> {
+        self.intervals_on(day).find(|interval| interval.mapping().raw_symbol == raw_symbol)
     }
 
     /// The layout, which version 4 has.
@@ -174,15 +197,6 @@ impl<'a> Block<'a> {
         let version = self.fields.layout_version?;
         let length = u32::from_le_bytes(self.bytes[100..104].try_into().expect("four bytes"));
         Some(Layout::accepted(&self.bytes[104..][..length as usize], version, self.layout))
-    }
-
-    fn list(&self, kind: u32) -> impl Iterator<Item = &'a str> + use<'a> {
-        let block = *self;
-        self.of_kind(kind).map(move |(at, _)| named(block.name(at)))
-    }
-
-    fn of_kind(&self, kind: u32) -> impl Iterator<Item = (usize, &'a [u32; SYMBOLOGY_ROW])> + use<'a> {
-        self.rows().enumerate().filter(move |(_, row)| row[0] == kind)
     }
 }
 
@@ -210,46 +224,5 @@ fn call(version: u8, bytes: &[u8], sheet: &[u16; ffi::SHEET], tables: &mut Table
             layout.len(),
             out,
         )
-    }
-}
-
-/// A symbol, and what it stood for at which time.
-#[derive(Clone, Copy)]
-pub struct Mapping<'a> {
-    block: Block<'a>,
-    /// The symbol that was asked for.
-    pub raw_symbol: &'a str,
-    first: usize,
-    count: usize,
-}
-
-/// One interval of a mapping. `end_date - start_date` is how many days it has; a stream may also have one that ends before it starts.
-#[derive(Debug, Clone, Copy, PartialEq, Eq)]
-pub struct Interval<'a> {
-    /// The first day.
-    pub start_date: Day,
-    /// The day after the last.
-    pub end_date: Day,
-    /// What the symbol stood for.
-    pub symbol: &'a str,
-}
-
-impl<'a> Mapping<'a> {
-    /// The mapping's intervals, in the stream's order.
-    pub fn intervals(&self) -> impl Iterator<Item = Interval<'a>> + use<'a> {
-        let block = self.block;
-        let own = &block.symbology[self.first * SYMBOLOGY_ROW..][..self.count * SYMBOLOGY_ROW];
-        (self.first..).zip(rows::<SYMBOLOGY_ROW>(own)).map(move |(at, row)| Interval {
-            start_date: Day::promised(row[3]),
-            end_date: Day::promised(row[4]),
-            symbol: named(block.name(at)),
-        })
-    }
-}
-
-impl fmt::Debug for Mapping<'_> {
-    fn fmt(&self, f: &mut fmt::Formatter<'_>) -> fmt::Result {
-        let intervals: Vec<_> = self.intervals().collect();
-        f.debug_struct("Mapping").field("raw_symbol", &self.raw_symbol).field("intervals", &intervals).finish()
     }
 }

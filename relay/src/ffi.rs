@@ -7,6 +7,13 @@
 /// The length of a type sheet.
 pub const SHEET: usize = 520;
 
+/// Numbers in one row of symbology: kind, start, length, x, y and owner. The owner of an interval is the index of its mapping's row, and
+/// of every other row its own index.
+pub const SYMBOLOGY_ROW: usize = 6;
+
+/// Numbers in one row of a layout.
+pub const LAYOUT_ROW: usize = 9;
+
 /// Where `out` has the place of a refusal that has one, 10 to 12 and 20 to 55. After any other refusal it keeps its value.
 pub const PLACE: usize = 13;
 

@@ -1,7 +1,8 @@
 use crate::{
     block::TABLE_SHORT,
-    ffi, named, part, promise,
-    tables::{rows, LAYOUT_ROW as ROW},
+    ffi::{self, LAYOUT_ROW as ROW},
+    named, part, promise,
+    tables::rows,
     Refusal, Sheet, Tables,
 };
 use std::fmt;

@@ -1,13 +1,12 @@
-use crate::{promise, Refusal, RefusalKind};
-
-/// Numbers in one row of symbology, and in one row of a layout.
-pub(crate) const SYMBOLOGY_ROW: usize = 5;
-pub(crate) const LAYOUT_ROW: usize = 9;
+use crate::{
+    ffi::{LAYOUT_ROW, SYMBOLOGY_ROW},
+    promise, Refusal, RefusalKind,
+};
 
 /// The most that a stream start may take.
 ///
 /// A [`Feed`](crate::Feed) takes less than `2 * bytes + 36 * rows` bytes and 4 KiB of memory: what has come, twice while the store grows,
-/// and 20 bytes for a row of symbology or 36 for one of a layout. Memory grows with what arrives, not with what a prelude claims.
+/// and 24 bytes for a row of symbology or 36 for one of a layout. Memory grows with what arrives, not with what a prelude claims.
 #[derive(Debug, Clone, Copy, PartialEq, Eq)]
 pub struct Limits {
     /// The most bytes of a stream start, the prelude's eight among them. One that announces more is refused by 2.
@@ -70,5 +69,14 @@ fn room(table: &mut Vec<u32>, rows: usize, width: usize) -> Result<(), Refusal> 
 
 /// The numbers of a table as rows.
 pub(crate) fn rows<const N: usize>(table: &[u32]) -> impl ExactSizeIterator<Item = &[u32; N]> {
-    table.chunks_exact(N).map(|row| row.try_into().expect("a chunk of N"))
+    table.chunks_exact(N).map(of_n)
+}
+
+/// One row of a table, or `None` where it has no such row.
+pub(crate) fn row<const N: usize>(table: &[u32], at: usize) -> Option<&[u32; N]> {
+    table.chunks_exact(N).nth(at).map(of_n)
+}
+
+fn of_n<const N: usize>(row: &[u32]) -> &[u32; N] {
+    row.try_into().expect("a chunk of N")
 }

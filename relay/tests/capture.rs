@@ -21,6 +21,8 @@ fn one_contract(feed: &Feed) {
     assert_eq!(dated.collect::<Vec<_>>(), INTERVALS);
     let days = mappings[0].intervals().map(|i| i.end_date - i.start_date);
     assert_eq!(days.collect::<Vec<_>>(), [75, 91, 91, 91]);
+    assert!(block.intervals().eq(mappings[0].intervals()));
+    assert!(block.intervals().all(|interval| interval.mapping().raw_symbol == "ES.c.0"));
 }
 
 /// Feeds the pieces between the cuts. Every count needed is what is left of the stage.

@@ -43,7 +43,7 @@ fn told(refusal: Refusal) -> (RefusalKind, Option<usize>) {
 
 #[test]
 fn every_piece_is_answered_as_the_library_answers_it() {
-    let (mut ends, mut store, mut tables) = ([0; 3], vec![0; 8 + 65_535], [vec![0; 20_000], vec![0; 36_000]]);
+    let (mut ends, mut store, mut tables) = ([0; 3], vec![0; 8 + 65_535], [vec![0; 24_000], vec![0; 36_000]]);
     for seed in 0..5_000 {
         let mut r = Rng::new(seed);
         let sheet = gen::plain_sheet();

@@ -66,6 +66,13 @@ fn days_are_told_as_the_header_says() {
     }
 }
 
+#[test]
+fn rows_are_as_wide_as_the_header_says() {
+    for (name, width) in [("DBN_SYMBOLOGY_ROW", ffi::SYMBOLOGY_ROW), ("DBN_LAYOUT_ROW", ffi::LAYOUT_ROW)] {
+        assert!(HEADER.contains(&format!("{name} = {width}")), "{name}");
+    }
+}
+
 /// The functions that a text declares after these words, each with how many parameters it has.
 fn declared(text: &str, words: &str) -> Vec<(String, usize)> {
     let one = |part: &str| {

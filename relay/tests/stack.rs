@@ -95,7 +95,7 @@ fn write(layout: &[u8]) -> impl FnMut() + '_ {
 fn feed(version: u8, block: &[u8]) -> impl FnMut() {
     let (stream, sheet, mut out) = (shapes::stream_of(version, block), sheet(), [0; 20]);
     let (mut store, mut first, mut second) =
-        (vec![0; stream.len()], vec![0; 5 * block.len()], vec![0; 9 * block.len()]);
+        (vec![0; stream.len()], vec![0; ffi::SYMBOLOGY_ROW * block.len()], vec![0; ffi::LAYOUT_ROW * block.len()]);
     move || {
         // SAFETY: every pointer is to a buffer of the given length, and no two overlap.
         let number = unsafe {
@@ -122,10 +122,10 @@ fn names(layout: &[u8], block: &[u8]) {
     let (mut one, mut two) = ([0; 2], [0; 2]);
     // SAFETY: the pointers are to buffers of the given length.
     let numbers = unsafe {
-        let (of_layout, of_block) = ([14, 0, 2, 0, 0, 0, 0, 0, 0], [0, 108, 4, 0, 0]);
+        let (of_layout, of_block) = ([14, 0, 2, 0, 0, 0, 0, 0, 0], [0, 108, 4, 0, 0, 0]);
         [
             ffi::dbn_layout_name(layout.as_ptr(), layout.len(), of_layout.as_ptr(), 9, 0, &mut one),
-            ffi::dbn_symbology_name(block.as_ptr(), block.len(), of_block.as_ptr(), 5, 0, &mut two),
+            ffi::dbn_symbology_name(block.as_ptr(), block.len(), of_block.as_ptr(), 6, 0, &mut two),
         ]
     };
     assert_eq!((numbers, one, two), ([0, 0], [0, 2], [108, 4]));

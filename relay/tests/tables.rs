@@ -65,7 +65,7 @@ fn a_refusal_leaves_the_tables_and_out_but_for_its_place() {
 #[test]
 fn a_short_table_is_3_with_the_rows_needed_and_nothing_else() {
     let (stream, _) = capture();
-    for sn in 0..30 {
+    for sn in 0..36 {
         let (number, out, symbology, layout) = block(2, &stream[8..], sn, 4);
         assert_eq!(number, 3, "{sn} numbers");
         let mut wanted = [99; 16];
@@ -78,12 +78,21 @@ fn a_short_table_is_3_with_the_rows_needed_and_nothing_else() {
 #[test]
 fn rows_past_the_last_are_untouched() {
     let (stream, _) = capture();
-    let (number, out, symbology, layout) = block(2, &stream[8..], 37, 4);
-    assert_eq!((number, out[10], out[11]), (0, 6, 0));
-    assert_eq!(symbology[..5], [0, 108, 6, 0, 0]);
-    assert_eq!(symbology[5..10], [3, 191, 6, 4, 0]);
-    assert_eq!(symbology[10..15], [4, 274, 4, 738_886, 738_961], "1 January and 17 March 2023 as day numbers");
-    assert!(symbology[30..].iter().chain(&layout).all(|&x| x == MARK));
+    let rows = [
+        [0, 108, 6, 0, 0, 0],
+        [3, 191, 6, 4, 0, 1],
+        // 1 January, 17 March, 16 June, 15 September and 15 December 2023 as day numbers; all four belong to row 1.
+        [4, 274, 4, 738_886, 738_961, 1],
+        [4, 353, 6, 738_961, 739_052, 1],
+        [4, 432, 5, 739_052, 739_143, 1],
+        [4, 511, 6, 739_143, 739_234, 1],
+    ];
+    for more in 0..15 {
+        let (number, out, symbology, layout) = block(2, &stream[8..], 36 + more, 4);
+        assert_eq!((number, out[10], out[11]), (0, 6, 0), "{more} numbers more");
+        assert_eq!(symbology[..36], rows.concat());
+        assert!(symbology[36..].iter().chain(&layout).all(|&x| x == MARK));
+    }
 }
 
 #[test]

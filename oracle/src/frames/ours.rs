@@ -7,6 +7,7 @@ use crate::{
     calls,
     gen::Rng,
     ours::{marks, table},
+    walk::ROW,
 };
 
 /// A call by a caller whose held count is not beyond the store. Gives the count taken and what it came to; the store gets the bytes.
@@ -51,7 +52,7 @@ impl Start {
         let store = vec![0; made.start];
         let bare = calls::feed(0, &store, &made.bytes, &[0; 520], &[], &[], &[0; 20]);
         let rows = if bare.number == 3 { bare.out[10] as usize } else { 0 };
-        Self { store, held: 0, tables: [table(r, rows * 5), Vec::new()] }
+        Self { store, held: 0, tables: [table(r, rows * ROW), Vec::new()] }
     }
 
     /// The count taken of a piece, and the count needed, 0 where the block is whole.

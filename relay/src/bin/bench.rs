@@ -92,7 +92,7 @@ fn block(version: u8, bytes: &[u8]) -> f64 {
     };
     let (number, s, l) = call(&mut [], &mut []);
     assert_eq!(number, 3, "accepted, with rows");
-    let (mut symbology, mut layout) = (vec![0; s * 5], vec![0; l * 9]);
+    let (mut symbology, mut layout) = (vec![0; s * ffi::SYMBOLOGY_ROW], vec![0; l * ffi::LAYOUT_ROW]);
     assert_eq!(call(&mut symbology, &mut layout), (0, s, l));
     alone(|| call(&mut symbology, &mut layout))
 }

@@ -57,6 +57,30 @@ pub fn p10(symbol: [u8; 3]) -> Vec<u8> {
     out
 }
 
+/// The intervals of a mapping: start date, end date and symbol of each.
+pub type Intervals<'a> = &'a [(u32, u32, &'a str)];
+
+/// A symbology with symbols of this width: the three lists, then the mappings with their intervals.
+pub fn symbology(width: usize, lists: [&[&str]; 3], mappings: &[(&str, Intervals)]) -> Vec<u8> {
+    let count = |count: usize| (count as u32).to_le_bytes();
+    let symbol = |text: &str| [text.as_bytes(), &vec![0; width - text.len()]].concat();
+    let mut out = Vec::new();
+    for list in lists {
+        out.extend(count(list.len()));
+        list.iter().for_each(|text| out.extend(symbol(text)));
+    }
+    out.extend(count(mappings.len()));
+    for (raw_symbol, intervals) in mappings {
+        out.extend(symbol(raw_symbol));
+        out.extend(count(intervals.len()));
+        for (start, end, text) in *intervals {
+            out.extend([start.to_le_bytes(), end.to_le_bytes()].concat());
+            out.extend(symbol(text));
+        }
+    }
+    out
+}
+
 /// The intervals of the capture's stand-in.
 pub const INTERVALS: [(u32, u32, &str); 4] = [
     (20230101, 20230317, "3403"),
@@ -68,11 +92,6 @@ pub const INTERVALS: [(u32, u32, &str); 4] = [
 /// A stand-in for the trader's capture: one continuous symbol with four intervals. Also the places inside the intervals
 /// where four network pieces meet.
 pub fn capture() -> (Vec<u8>, [usize; 3]) {
-    let symbol = |text: &str| {
-        let mut out = text.as_bytes().to_vec();
-        out.resize(71, 0);
-        out
-    };
     let mut block = b"GLBX.MDP3\0\0\0\0\0\0\0".to_vec();
     block.extend(0u16.to_le_bytes());
     block.extend(1_672_531_200_000_000_000u64.to_le_bytes());
@@ -81,17 +100,8 @@ pub fn capture() -> (Vec<u8>, [usize; 3]) {
     block.extend([3, 0, 0]);
     block.extend(71u16.to_le_bytes());
     block.resize(104, 0);
-    block.extend(1u32.to_le_bytes());
-    block.extend(symbol("ES.c.0"));
-    block.extend([0; 8]);
-    block.extend(1u32.to_le_bytes());
-    block.extend(symbol("ES.c.0"));
-    block.extend(4u32.to_le_bytes());
-    let first = 8 + block.len();
-    for (start, end, instrument) in INTERVALS {
-        block.extend(start.to_le_bytes());
-        block.extend(end.to_le_bytes());
-        block.extend(symbol(instrument));
-    }
-    (stream_of(2, &block), [first + 2, first + 79 + 6, first + 2 * 79 + 12])
+    block.extend(symbology(71, [&["ES.c.0"], &[], &[]], &[("ES.c.0", &INTERVALS)]));
+    let stream = stream_of(2, &block);
+    let first = stream.len() - 4 * 79;
+    (stream, [first + 2, first + 79 + 6, first + 2 * 79 + 12])
 }
