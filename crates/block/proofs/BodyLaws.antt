@@ -12,6 +12,7 @@ use Rattle.codec.specs.CaseLaws.{by-bool}
 use Rattle.codec.specs.Codec.{Res, ok, refuse, refusal, named, _then_, _on_, whole}
 use Rattle.layout.specs.Layout.{Layout}
 use Rattle.layout.specs.Rows.{rows}
+use Rattle.table.specs.Columns.{columns}
 use Rattle.symbology.specs.Symbology.{Symbology}
 use Rattle.symbology.specs.SymbologyRows.{symbologyRows}
 use Rattle.layout.specs.Answers.{leave}
@@ -21,7 +22,7 @@ use Rattle.symbology.specs.declared.SectionAnswer.{SectionAnswer}
 use Rattle.symbology.specs.declared.SectionAnswer.the-variants as SectionAnswer'
 use Rattle.block.specs.Block.{Header, Block, lengths, header, widthOf, layoutPart, symbologyPart, toBlock, block, blockOf}
 use Rattle.block.specs.Fields.{fieldsWith, fieldsOf}
-use Rattle.block.specs.Read.{sixes, nines, roomy, over, blockAnswer, blockSymbology, blockLayout, Promise, answerOf, symbologyAfter, layoutAfter}
+use Rattle.block.specs.Read.{sixes, nines, roomy, blockAnswer, blockSymbology, blockLayout, Promise, answerOf, symbologyAfter, layoutAfter}
 use Rattle.block.specs.Parts.{Fixed, OfHeader, refusalOf, Headed, layoutTable, LayoutRead, LayoutReads, lays, lays-no, SymbologyReads, Does}
 use Rattle.block.specs.declared.MetadataLengths.{MetadataLengths}
 use Rattle.block.specs.declared.Fields.{Fields}
@@ -58,7 +59,7 @@ module _ (v : MetadataLengths) {z : Res (Block × List ℕ)} (s l : List ℕ) wh
     does-short q = record { answer = rw (e, q); symbology = rw (e, q); layout = rw (e, q) }
 
     does-read : {s′ l′ : List ℕ} {f : Fields} → roomy (x .0) (length s) (length l) ≡ true → leb (length (nines (x .0))) (length l / 9) ≡ true
-        → s′ ≡ over (sixes (x .0)) 6 s → l′ ≡ leave l (ok (x .0 .layout) 0) → f ≡ fieldsOf v (x .0) → Does v z s l (Read f) s′ l′
+        → s′ ≡ columns 6 (sixes (x .0)) s → l′ ≡ leave l (ok (x .0 .layout) 0) → f ≡ fieldsOf v (x .0) → Does v z s l (Read f) s′ l′
     unfolding answerOf symbologyAfter layoutAfter
     does-read q q9 es el ef = record { answer = rw (e, q, ef); symbology = es ∙ rw (e, q); layout = el ∙ leave-ok l (x .0 .layout) 0 ∙ rw (e, q, q9) }
 

@@ -12,13 +12,15 @@ use Rattle.rules.specs.Rules.{ruleNumbers}
 use Rattle.symbology.specs.SymbologyRows.{symbologyRows}
 use Rattle.symbology.specs.Answers.{contentsNumbers}
 use Rattle.table.specs.Table.{flat}
+use Rattle.table.specs.Columns.{columns}
 use Rattle.block.specs.Block.{Block, lengths, blockOf}
 use Rattle.block.specs.Fields.{fieldsOf}
 use Rattle.block.specs.declared.MetadataLengths.{MetadataLengths}
 use Rattle.block.specs.declared.BlockAnswer.{BlockAnswer}
 use Rattle.block.specs.declared.BlockAnswer.the-variants.{Read, Refused, Short}
 
--- a block's rows: symbology in sixes, starts counted from the block; layout in nines, starts counted from the layout
+-- a block's rows: symbology in sixes, starts counted from the block; layout in nines, starts counted from the layout. The table of symbology has its
+-- rows by column, that of the layout one after the other
 abbrev pub sixes : Block → List (List ℕ)
 sixes b = symbologyRows (b .symbology)
 
@@ -44,7 +46,7 @@ over rs w t = flat rs ++ drop (w * length rs) t
 
 unfoldable pub symbologyAfter : Res (Block × List ℕ) → List ℕ → List ℕ → List ℕ
 symbologyAfter (refuse k) s l = s
-symbologyAfter (ok z j) s l = cond (roomy (z .0) (length s) (length l)) (over (sixes (z .0)) 6 s) s
+symbologyAfter (ok z j) s l = cond (roomy (z .0) (length s) (length l)) (columns 6 (sixes (z .0)) s) s
 
 unfoldable pub layoutAfter : Res (Block × List ℕ) → List ℕ → List ℕ → List ℕ
 layoutAfter (refuse k) s l = l

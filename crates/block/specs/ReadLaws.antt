@@ -11,8 +11,9 @@ use Rattle.refusal.specs.declared.Refusal.{Refusal}
 use Rattle.codec.specs.Codec.{Res, ok, refuse, _>>=_}
 use Rattle.codec.specs.CaseLaws.{both-true}
 use Rattle.table.specs.Table.{flat}
+use Rattle.table.specs.Columns.{columns}
+use Rattle.table.specs.ColumnLaws.{columns-length, columns-again}
 use Rattle.layout.specs.ReadLaws.{rows-flat}
-use Rattle.symbology.specs.ReadLaws.{symbology-flat}
 use Rattle.block.specs.Block.{Block, lengths, blockOf}
 use Rattle.block.specs.Fields.{fieldsOf}
 use Rattle.block.specs.declared.MetadataLengths.{MetadataLengths}
@@ -23,10 +24,10 @@ use Rattle.block.specs.Read.{sixes, nines, roomy, answerOf, over, symbol
 
 -- ---- tables that are long enough
 
--- an accepted block whose rows the tables hold: its fields, and the rows over the front of both tables
+-- an accepted block whose rows the tables hold: its fields, the symbology's rows by column, and the layout's over the front of its table
 pub record Held (v : ℕ) (z : Block) (s l : List ℕ) (r : BlockAnswer) (s′ l′ : List ℕ) : Type 0 where
   pub answer : r ≡ Read (fieldsOf (lengths v) z)
-  pub symbology : s′ ≡ over (sixes z) 6 s
+  pub symbology : s′ ≡ columns 6 (sixes z) s
   pub layout : l′ ≡ over (nines z) 9 l
 
 pub held : {v : ℕ} {b t s l : List ℕ} {r : BlockAnswer} {s′ l′ : List ℕ} (z : Block × List ℕ) (k : ℕ) → Promise v b t s l r s′ l′ → blockOf v t b ≡ ok z k
@@ -45,13 +46,13 @@ gist v r = r >>= λ z j. ok (fieldsOf v (z .0), (sixes (z .0), nines (z .0))) j
 abbrev pub given : ℕ → List ℕ → List ℕ → Res (Fields × (List (List ℕ) × List (List ℕ)))
 given v t b = gist (lengths v) (blockOf v t b)
 
--- both tables are long enough: the fields are answered, the rows stand at the front of the tables, the rest of them is as it was
+-- both tables are long enough: the fields are answered, the rows stand in the tables, the rest of them is as it was
 pub read-given : (v : ℕ) (b t s l : List ℕ) (f : Fields) (six nine : List (List ℕ)) (k : ℕ) → given v t b ≡ ok (f, (six, nine)) k
-    → length six ≤ length s / 6 → length nine ≤ length l / 9 → Promise v b t s l (Read f) (over six 6 s) (over nine 9 l)
+    → length six ≤ length s / 6 → length nine ≤ length l / 9 → Promise v b t s l (Read f) (columns 6 six s) (over nine 9 l)
 read-given v b t s l f six nine k e hs hl = go (blockOf v t b) refl e
   where
     go : (r : Res (Block × List ℕ)) → blockOf v t b ≡ r → gist (lengths v) r ≡ ok (f, (six, nine)) k
-        → Promise v b t s l (Read f) (over six 6 s) (over nine 9 l)
+        → Promise v b t s l (Read f) (columns 6 six s) (over nine 9 l)
     go (refuse n) q e = absurd (let y : _≡_ {A = ℕ} 0 1 = cc in omega arith)
     go (ok z j) q e =
         let x : _≡_ {A = Fields × (List (List ℕ) × List (List ℕ))} (fieldsOf (lengths v) (z .0), (sixes (z .0), nines (z .0))) (f, (six, nine)) = cc in
@@ -63,7 +64,7 @@ read-given v b t s l f six nine k e hs hl = go (blockOf v t b) refl e
         let h = held z j p q h6 h9 in
         record {
           answer = sym (h .answer ∙ ap (λ y. Read (y .0)) x);
-          symbology = sym (h .symbology ∙ ap (λ (rs : List (List ℕ)). over rs 6 s) e6);
+          symbology = sym (h .symbology ∙ ap (λ (rs : List (List ℕ)). columns 6 rs s) e6);
           layout = sym (h .layout ∙ ap (λ (rs : List (List ℕ)). over rs 9 l) e9);
         }
 
@@ -104,11 +105,10 @@ again-of v (ok z j) s l = go (roomy (z .0) (length s) (length l)) refl
         let (a, b) = both-true _ _ q in
         let ha : length (sixes (z .0)) ≤ length s / 6 = leb-true _ _ a in
         let hb : length (nines (z .0)) ≤ length l / 9 = leb-true _ _ b in
-        let ws = symbology-flat (z .0 .symbology) in
         let wl = rows-flat (z .0 .layout) in
-        let ls : length (over (sixes (z .0)) 6 s) ≡ length s = over-length (sixes (z .0)) 6 ws s (omega arith) in
+        let ls : length (columns 6 (sixes (z .0)) s) ≡ length s = columns-length 6 (omega arith) (sixes (z .0)) s ha in
         let ll : length (over (nines (z .0)) 9 l) ≡ length l = over-length (nines (z .0)) 9 wl l (omega arith) in
-        (simp (q, ls, ll), simp (q, ls, ll) (over-again (sixes (z .0)) 6 ws s), simp (q, ls, ll) (over-again (nines (z .0)) 9 wl l))
+        (simp (q, ls, ll), simp (q, ls, ll) (columns-again 6 (omega arith) (sixes (z .0)) s ha), simp (q, ls, ll) (over-again (nines (z .0)) 9 wl l))
     go false q = (simp q, simp q, simp q)
 
 pub again : (v : ℕ) (b t s l : List ℕ) → Again v b t s l

@@ -1,11 +1,13 @@
 -- ONE ANSWER, and which numbers it can be.
 -- Assumes nothing.
-use Prim.Native.Nat.{ℕ}
+use Prim.Native.Nat.{ℕ, _/_}
 use mathlib.Core.Path.{_≡_, refl, sym, ap, subst, _∙_}
 use mathlib.Core.List.{List, [], _∷_}
+use lib.ListN.{length}
 use Rattle.refusal.specs.declared.Refusal.{Refusal}
 use Rattle.codec.specs.Codec.{refusal}
 use Rattle.codec.specs.Refusals.{In}
+use Rattle.table.specs.Columns.{cell, rowCell}
 use Rattle.names.specs.Names.{symbolText, itemText, symbologySpan, layoutSpan, spanNumber}
 use Rattle.names.specs.RefusalLaws.{span-refuses}
 use Rattle.names.specs.declared.Span.{Span}
@@ -36,7 +38,7 @@ module _ (n : ℕ) (rows : List ℕ) (index : ℕ) {r q : ℕ} {o1 o2 : List ℕ
 module _ (n : ℕ) (rows : List ℕ) (index : ℕ) {r : ℕ} {o : List ℕ} where
   -- either gives 0 or 90
   pub symbology-name-number : SpanC (symbologySpan n rows index) r o → In (0 ∷ 90 ∷ []) r
-  symbology-name-number f = span-number (symbologySpan n rows index) (f .0) (λ k e. span-refuses 6 symbolText n rows index e)
+  symbology-name-number f = span-number (symbologySpan n rows index) (f .0) (λ k e. span-refuses symbolText n (length rows / 6) (cell 6 rows index) index e)
 
   pub layout-name-number : SpanC (layoutSpan n rows index) r o → In (0 ∷ 90 ∷ []) r
-  layout-name-number f = span-number (layoutSpan n rows index) (f .0) (λ k e. span-refuses 9 itemText n rows index e)
+  layout-name-number f = span-number (layoutSpan n rows index) (f .0) (λ k e. span-refuses itemText n (length rows / 9) (rowCell 9 rows index) index e)

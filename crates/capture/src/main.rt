@@ -158,7 +158,7 @@ fn first_interval(rows: &[u32]) -> usize
     let n = rows.len() / 6;
     let mut i = 0;
     while i < n {
-        if cell(rows, i, 0) == 4 {
+        if table::number_at(rows, i, 0) == 4 {
             return i;
         }
         i += 1;
@@ -168,7 +168,7 @@ fn first_interval(rows: &[u32]) -> usize
 
 // The place in the stream of the second byte of row i's text.
 fn inside(rows: &[u32], i: usize) -> usize {
-    cell(rows, i, 1) as usize + 9
+    table::number_at(rows, i, 1) as usize + 9
 }
 
 // The number from lo to hi that is nearest to x.
@@ -200,7 +200,7 @@ fn show(store: &[u8], rows: &[u32], n: usize) {
 // A mapping or an interval; rows of the lists are passed over.
 fn show_row(block: &[u8], rows: &[u32], i: usize) {
     let name = names::symbology_name(block, rows, i);
-    match cell(rows, i, 0) {
+    match table::number_at(rows, i, 0) {
         3 => {
             text(b"mapping ");
             text(name);
@@ -208,25 +208,15 @@ fn show_row(block: &[u8], rows: &[u32], i: usize) {
         }
         4 => {
             text(b"  ");
-            date(cell(rows, i, 3));
+            date(table::number_at(rows, i, 3));
             text(b" to ");
-            date(cell(rows, i, 4));
+            date(table::number_at(rows, i, 4));
             text(b": ");
             text(name);
             text(b"\n");
         }
         _ => {}
     }
-}
-
-// Number j of row i; 0 past the table.
-fn cell(rows: &[u32], i: usize, j: usize) -> u32
-    requires { ⌜ j < 6 ⌝ }
-{
-    if i < rows.len() / 6 {
-        return rows[6 * i + j];
-    }
-    0
 }
 
 // The date of day n as yyyy-mm-dd.

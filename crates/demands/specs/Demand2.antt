@@ -36,7 +36,7 @@ use Rattle.feed.specs.Feeding.{Feeding}
 use Rattle.feed.specs.PieceLaws.{Lent, Handed, any-cutting, any-cutting-handed}
 use Rattle.feed.specs.Single.{Same}
 use Rattle.feed.specs.declared.Fed.{Fed}
-use Rattle.demands.specs.PublicNames.{Named, names-same, ruled-named, formed-named}
+use Rattle.demands.specs.PublicNames.{LayoutNamed, names-same, ruled-named, formed-named}
 
 -- FEEDS of a stream in pieces, each as `feed` promises, end as one feed of the whole: the same bytes taken, store, answer and tables
 pub cut : {k : ℕ} {st p t s l : List ℕ} {x y : Fed} {st1 s1 l1 st2 s2 l2 : List ℕ}
@@ -92,8 +92,8 @@ pub record ReadBack (version : ℕ) (table text written t t′ : List ℕ) (r : 
   pub rows-same : map noStart rows ≡ map noStart (rowsIn table)
   pub leaves : t′ ≡ flat rows ++ drop (9 * length rows) t
   -- asked for by index, a row with a text gives its start and length and never 90: of the rows read, and of the rows written
-  pub named : Named 9 itemText written t′ rows
-  pub named-written : Named 9 itemText text table (rowsIn table)
+  pub named : LayoutNamed written t′ rows
+  pub named-written : LayoutNamed text table (rowsIn table)
   -- each name the same bytes
   pub names : (i : ℕ) → i < length (rowsIn table) → partIn written (layoutSpan (length written) t′ i) ≡ partIn text (layoutSpan (length text) table i)
 
@@ -109,7 +109,7 @@ round-trip-read sheet width version table text out out′ n bytes v w t t′ r r
     let l : length (rows x) ≡ length (rowsIn table) = sym (length-map (rows x) noStart) ∙ ap length (b .rows-same) ∙ length-map (rowsIn table) noStart in
     let h : leb (length (rows x)) (length t / 9) ≡ true = le-leb (length (rows x)) (length t / 9) (subst (λ (k : ℕ). k ≤ length t / 9) (sym l) room) in
     let a : t′ ≡ flat (rows x) ++ drop (9 * length (rows x)) t = c .leaves ∙ ap (leave t) (b .accepted) ∙ leave-ok t x (length s) ∙ rw h refl in
-    let N = subst (λ (u : List ℕ). Named 9 itemText s u (rows x)) (sym a)
+    let N = subst (λ (u : List ℕ). LayoutNamed s u (rows x)) (sym a)
     (ruled-named sheet width s x (length s) (drop (9 * length (rows x)) t) (written-bytes sheet width version table text out out′ n w bytes v) (b .accepted)) in
     let M = formed-named table text (formed sheet width version table text out out′ n w) in
     record {
@@ -119,5 +119,5 @@ round-trip-read sheet width version table text out out′ n bytes v w t t′ r r
       leaves = a;
       named = N;
       named-written = M;
-      names = names-same 9 itemText text s table t′ (rowsIn table) (rows x) M N l (b .names-same);
+      names = names-same itemText text s (layoutSpan (length text) table) (layoutSpan (length s) t′) (rowsIn table) (rows x) M N l (b .names-same);
     }

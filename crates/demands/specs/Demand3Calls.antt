@@ -9,6 +9,7 @@ use mathlib.Core.List.{List, _++_, map}
 use lib.ListN.{length, length-map}
 use Rattle.codec.specs.Codec.{ok, Bytes}
 use Rattle.codec.specs.Edits.{Marked, bytesOf, Edit, put}
+use Rattle.table.specs.Columns.{columns}
 use Rattle.layout.specs.ReadLaws.{rows-nine}
 use Rattle.symbology.specs.ReadLaws.{rows-of-six}
 use Rattle.names.specs.declared.Span.the-variants.{Part}
@@ -44,10 +45,10 @@ pub record SameCalls (sheet b : List ℕ) (z : Block) (b′ : List ℕ) (before 
   -- the same answer: the block's fields
   pub answer : c .answer ≡ Read (fieldsOf (lengths 4) z)
   pub same-answer : d .answer ≡ c .answer
-  -- both symbology tables begin with the rows, after the second call each start moved; the rest of each is as it was
-  pub symbology : c .symbology-after ≡ over (sixes z) 6 (c .symbology)
-  pub symbology-moved : d .symbology-after ≡ over (map (moveRow (λ n. n + before n)) (sixes z)) 6 (d .symbology)
-  -- so do both layout tables; a layout's first byte stands at place 104
+  -- both symbology tables have the rows by column, after the second call each start moved; the rest of each is as it was
+  pub symbology : c .symbology-after ≡ columns 6 (sixes z) (c .symbology)
+  pub symbology-moved : d .symbology-after ≡ columns 6 (map (moveRow (λ n. n + before n)) (sixes z)) (d .symbology)
+  -- both layout tables begin with the rows, in the same way; a layout's first byte stands at place 104
   pub layout : c .layout-after ≡ over (nines z) 9 (c .layout)
   pub layout-moved : d .layout-after ≡ over (map (moveRow (λ n. n + before (104 + n))) (nines z)) 9 (d .layout)
   -- asked for by index, every symbology row gives its start and length, and never 90; the second call's start is moved
@@ -72,14 +73,15 @@ module _ (sheet b : List ℕ) (z : Block) (r : List ℕ) (k : ℕ) (bytes : Byte
       let n6 : length (sixes y) ≡ length (sixes z) = ap length (e .symbology) ∙ length-map (sixes z) (moveRow f) in
       let n9 : length (nines y) ≡ length (nines z) = ap length (e .layout) ∙ length-map (nines z) (moveRow g) in
       let H = held (z, r) k (p .promise) read (p .symbology-room) (p .layout-room) in
-      let H′ = held (y, e .rest) (length b′) (q .promise) (e .accepted) (subst (λ (n : ℕ). n ≤ length (d .symbology) / 6) (sym n6) (q .symbology-room)) (subst (λ (n : ℕ). n ≤ length (d .layout) / 9) (sym n9) (q .layout-room)) in
+      let room = subst (λ (n : ℕ). n ≤ length (d .symbology) / 6) (sym n6) (q .symbology-room) in
+      let H′ = held (y, e .rest) (length b′) (q .promise) (e .accepted) room (subst (λ (n : ℕ). n ≤ length (d .layout) / 9) (sym n9) (q .layout-room)) in
       let again : Promise 4 b sheet (d .symbology) (d .layout) (blockAnswer 4 b sheet (d .symbology) (d .layout)) (blockSymbology 4 b sheet (d .symbology) (d .layout)) (blockLayout 4 b sheet (d .symbology) (d .layout)) =
       record { answer = refl; symbology = refl; layout = refl } in
       let A = held (z, r) k again read (q .symbology-room) (q .layout-room) in
-      let t6 : d .symbology-after ≡ over (map (moveRow f) (sixes z)) 6 (d .symbology) = H′ .symbology ∙ ap (λ (rs : List (List ℕ)). over rs 6 (d .symbology)) (e .symbology) in
+      let t6 : d .symbology-after ≡ columns 6 (map (moveRow f) (sixes z)) (d .symbology) = H′ .symbology ∙ ap (λ (rs : List (List ℕ)). columns 6 rs (d .symbology)) (e .symbology) in
       let t9 : d .layout-after ≡ over (map (moveRow g) (nines z)) 9 (d .layout) = H′ .layout ∙ ap (λ (rs : List (List ℕ)). over rs 9 (d .layout)) (e .layout) in
-      let N = asked sheet b (z, r) k bytes read H in
-      let M = asked sheet b′ (y, e .rest) (length b′) bytes′ (e .accepted) H′ in
+      let N = asked sheet b (z, r) k bytes read (p .symbology-room) H in
+      let M = asked sheet b′ (y, e .rest) (length b′) bytes′ (e .accepted) room H′ in
       let has = symbology-texted 4 sheet b (z, r) k bytes read in
       record {
         answer = H .answer;
@@ -89,11 +91,11 @@ module _ (sheet b : List ℕ) (z : Block) (r : List ℕ) (k : ℕ) (bytes : Byte
         layout = H .layout;
         layout-moved = t9;
         parts = λ i h. N .symbology .part i h (has i h);
-        parts-moved = λ i h. moved-part 6 symbolText f b′ (d .symbology-after) (sixes z) (sixes y) (omega arith) (rows-of-six (z .symbology)) (M .symbology) (e .symbology) i h (has i h) (symbol-no-field (kindOf (sixes z) i) (has i h));
+        parts-moved = λ i h. moved-part 6 symbolText f b′ (symbologySpan (length b′) (d .symbology-after)) (sixes z) (sixes y) (omega arith) (rows-of-six (z .symbology)) (M .symbology) (e .symbology) i h (has i h) (symbol-no-field (kindOf (sixes z) i) (has i h));
         layout-parts = N .layout .part;
-        layout-parts-moved = λ i h t. moved-part 9 itemText g (layoutIn sheet b′) (d .layout-after) (nines z) (nines y) (omega arith) (rows-nine (z .layout)) (M .layout) (e .layout) i h t (item-no-field (kindOf (nines z) i) t);
-        names = names-same 6 symbolText b b′ (c .symbology-after) (d .symbology-after) (sixes z) (sixes y) (N .symbology) (M .symbology) n6 (e .names);
-        layout-names = names-same 9 itemText (layoutIn sheet b) (layoutIn sheet b′) (c .layout-after) (d .layout-after) (nines z) (nines y) (N .layout) (M .layout) n9 (e .layoutNames);
+        layout-parts-moved = λ i h t. moved-part 9 itemText g (layoutIn sheet b′) (layoutSpan (length (layoutIn sheet b′)) (d .layout-after)) (nines z) (nines y) (omega arith) (rows-nine (z .layout)) (M .layout) (e .layout) i h t (item-no-field (kindOf (nines z) i) t);
+        names = names-same symbolText b b′ (symbologySpan (length b) (c .symbology-after)) (symbologySpan (length b′) (d .symbology-after)) (sixes z) (sixes y) (N .symbology) (M .symbology) n6 (e .names);
+        layout-names = names-same itemText (layoutIn sheet b) (layoutIn sheet b′) (layoutSpan (length (layoutIn sheet b)) (c .layout-after)) (layoutSpan (length (layoutIn sheet b′)) (d .layout-after)) (nines z) (nines y) (N .layout) (M .layout) n9 (e .layoutNames);
       }
 
   -- DEMAND 3 over two promises: b is accepted as z, and any edit of its marked bytes, with any bytes after them, is read by a second call

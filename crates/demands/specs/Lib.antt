@@ -11,5 +11,6 @@ pub mod TableP
 pub mod Demand2
 pub mod StartThenFrames
 pub mod WriterAccepts
+pub mod InColumns
 pub mod Owners
 pub mod Witnesses

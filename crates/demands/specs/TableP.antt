@@ -36,6 +36,7 @@ use Rattle.block.specs.declared.Fields.{Fields}
 use Rattle.block.specs.declared.BlockAnswer.{BlockAnswer}
 use Rattle.block.specs.declared.BlockAnswer.the-variants.{Read}
 use Rattle.block.specs.declared.BlockAnswer.the-variants as Block'
+use Rattle.table.specs.Columns.{columns}
 use Rattle.feed.specs.Examples.{Gives, p1, p2, p3, p4, p5}
 use Rattle.feed.specs.declared.Answer.the-variants.{Needs, Refused}
 
@@ -50,10 +51,10 @@ abbrev pub LayoutRefuses : List ℕ → Refusal → Type 0
 LayoutRefuses b n = (sheet : List ℕ) (width : ℕ) (t t′ : List ℕ) (r : Answer) → Ruled b width sheet t t′ r → (r ≡ Layout'.Refused n) × (t′ ≡ t)
 
 -- the block b of version 2, with any sheet, any layout table and any symbology table with room for the rows: the fields are answered,
--- the rows stand at the front of the symbology table, and the rest of it and the layout table are as they were
+-- the rows stand in the symbology table by column, and the rest of it and the layout table are as they were
 abbrev pub BlockGives : List ℕ → Fields → List (List ℕ) → Type 0
 BlockGives b f rs = (sheet s l s′ l′ : List ℕ) (r : BlockAnswer) → 6 * length rs ≤ length s → Promise 2 b sheet s l r s′ l′
-    → (r ≡ Read f) × (s′ ≡ flat rs ++ drop (6 * length rs) s) × (l′ ≡ l)
+    → (r ≡ Read f) × (s′ ≡ columns 6 rs s) × (l′ ≡ l)
 
 -- the block b of version 2 is refused, with any sheet and any tables, and both tables are as they were
 abbrev pub BlockRefuses : List ℕ → Refusal → Type 0

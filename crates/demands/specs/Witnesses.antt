@@ -29,7 +29,10 @@ use Rattle.rules.specs.Rules.{rulesOf, seqsFault, structsFault, recordsFault, s
 use Rattle.prelude.specs.Prelude.{magic, prelude, preludeOf}
 use Rattle.block.specs.Block.{Block, lengths, header, layoutPart, symbologyPart, block, blockOf}
 use Rattle.block.specs.Fields.{fieldsWith, fieldsOf}
+use Rattle.block.specs.Read.{Promise}
 use Rattle.block.specs.ReadLaws.{gist, given, read-given}
+use Rattle.block.specs.declared.BlockAnswer.the-variants.{Read}
+use Rattle.table.specs.ColumnLaws.{columns-none}
 use Rattle.block.specs.Examples.{zeroFields}
 use Rattle.block.specs.declared.Fields.{Fields}
 use Rattle.block.specs.declared.Optional.the-variants.{Absent, Present}
@@ -248,4 +251,4 @@ least-given t = refl
 -- fed whole to any store of 128 bytes or more, with any sheet and any tables, it is done
 pub done : Gives 128 leastStream (Done (zeroFields 0 0))
 unfolding preludeOf prelude magic _then_ named checked fixed num raw
-done = fed-done leastStream 2 120 (zeroFields 0 0) refl refl (omega arith) (λ t s l. read-given 2 least t s l (zeroFields 0 0) [] [] 120 (least-given t) (omega arith) (omega arith))
+done = fed-done leastStream 2 120 (zeroFields 0 0) refl refl (omega arith) (λ t s l. subst (λ (u : List ℕ). Promise 2 least t s l (Read (zeroFields 0 0)) u l) (columns-none 6 s) (read-given 2 least t s l (zeroFields 0 0) [] [] 120 (least-given t) (omega arith) (omega arith)))

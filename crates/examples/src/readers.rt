@@ -46,8 +46,8 @@ fn read_block(
 // The fields of an accepted block and its rows.
 fn accepted(f: Fields, block: &[u8], symbology: &[u32], layout: &[u32]) {
     show::fields(f);
-    show::rows(block, symbology, 6, f.symbology_rows);
-    show::rows(bytes::from(block, 104), layout, 9, f.layout_rows);
+    show::symbology_rows(block, symbology, f.symbology_rows);
+    show::layout_rows(bytes::from(block, 104), layout, f.layout_rows);
 }
 
 // A symbology of a case: the place after it, its count of rows and the rows; or the refusal.
@@ -58,7 +58,7 @@ pub(crate) fn symbology(s: &[u8]) {
     match symbology::read_section_rows(bytes::from(s, 4), base, width, false, true, &mut table) {
         SectionAnswer::Read { rows, next } => {
             show::read(next, rows);
-            show::rows(&[], &table, 6, rows);
+            show::symbology_rows(&[], &table, rows);
         }
         SectionAnswer::Counted(rows) => show::short(rows),
         SectionAnswer::Refused(why) => show::refused(why),
@@ -76,7 +76,7 @@ pub(crate) fn layout(s: &[u8], sheet: &[u16; 520]) {
     show::say(given);
     rules_of_bytes(layout, width, sheet);
     rules_of_rows(rows::front(&table, n), layout, width, sheet);
-    show::rows(layout, &table, 9, n);
+    show::layout_rows(layout, &table, n);
 }
 
 // Reads the rows of a layout, says what came of it, and answers how many there are.

@@ -145,17 +145,39 @@ fn types(f: Fields) {
     end();
 }
 
-// Each of the first n rows of six or nine, with its name in the text, 100 at the most.
-pub(crate) fn rows(text: &[u8], table: &[u32], width: usize, n: usize)
-    requires { ⌜ width ≤ 9 ⌝ }
-{
+// Each of the first n symbology rows, which stand by column, with its name in the block, 100 at the most.
+pub(crate) fn symbology_rows(block: &[u8], table: &[u32], n: usize) {
+    let most = bytes::at_most(n, 100);
+    let mut i = 0;
+    while i < most {
+        let numbers = six(table, i);
+        row(&numbers);
+        line(names::symbology_name(block, table, i));
+        i += 1;
+    }
+}
+
+// The numbers of row i of six columns; zeros past their height.
+fn six(table: &[u32], i: usize) -> [u32; 6] {
+    [
+        table::number_at(table, i, 0),
+        table::number_at(table, i, 1),
+        table::number_at(table, i, 2),
+        table::number_at(table, i, 3),
+        table::number_at(table, i, 4),
+        table::number_at(table, i, 5),
+    ]
+}
+
+// Each of the first n layout rows, with its name in the layout, 100 at the most.
+pub(crate) fn layout_rows(layout: &[u8], table: &[u32], n: usize) {
     let most = bytes::at_most(n, 100);
     let mut at = 0;
     let mut i = 0;
     while i < most {
-        row(part(table, at, width));
-        line(name(text, table, width, i));
-        at += width;
+        row(part(table, at, 9));
+        line(names::layout_name(layout, table, i));
+        at += 9;
         i += 1;
     }
 }
@@ -170,14 +192,6 @@ fn part(table: &[u32], at: usize, n: usize) -> &[u32] {
     }
     let end = at + n;
     &table[at..end]
-}
-
-// The name of row i of six or nine.
-fn name<'a>(text: &'a [u8], table: &[u32], width: usize, i: usize) -> &'a [u8] {
-    if width == 6 {
-        return names::symbology_name(text, table, i);
-    }
-    names::layout_name(text, table, i)
 }
 
 // The numbers of a row, and a colon.

@@ -6,6 +6,7 @@ use mathlib.Core.List.{List, [], _∷_}
 use native.Mathlib.Omega.{arith}
 use lib.ListN.{length, getD}
 use lib.Dec.{eqb}
+use Rattle.table.specs.Table.{putRow}
 use Rattle.codec.specs.Codec.{among}
 use Rattle.marks.specs.Marks.{wiped, Marks, Only}
 use Rattle.marks.specs.MarkLaws.{only-next, only-end}
@@ -84,7 +85,7 @@ trail-end {s} {count} {at} {todo} {p} {seen} {ws} t h m =
 -- the loop over labels: the codes that were seen are marked, and the rest is read after them
 pub record Labelling (base : ℕ) (s : List ℕ) (at count n : ℕ) (t₀ ws : List ℕ) (todo p k : ℕ) (t : List ℕ) : Type 0 where
   pub seen : List ℕ
-  pub going : Going 9 base s (labelsAt base [] count s at) n t₀ (labelsAt base seen todo s p) p k t
+  pub going : Going (putRow 9) base s (labelsAt base [] count s at) n t₀ (labelsAt base seen todo s p) p k t
   pub marks : Marks ws seen
   pub trail : Trail s count at todo p seen
 

@@ -12,7 +12,7 @@ use Rattle.codec.specs.CaseLaws.{by-le}
 use Rattle.text.specs.Utf8.{utf8}
 use Rattle.numbers.specs.Numbers.{u16At}
 use Rattle.numbers.specs.NumberLaws.{num-is, u16-value}
-use Rattle.table.specs.Table.{said, answer, fill, Fills, Ran, allRows}
+use Rattle.table.specs.Table.{putRow, said, answer, fill, Fills, Ran, allRows}
 use Rattle.table.specs.TableLaws.{fill-rows}
 use Rattle.numbers.specs.declared.Got.{Got}
 use Rattle.numbers.specs.declared.Got.the-variants.{Value}
@@ -67,7 +67,7 @@ unfolding verdict
 ver-no l e = rw e
 
 -- the rows' reader ran on the groups, with any table
-module _ (l : List ℕ) {v p n q base : ℕ} {s t t′ : List ℕ} {r : Got} (h : length l ≤ 4294967295) (e : u16At l 0 ≡ Value v p) (g : Ran 9 base s (groupsAt l p) 0 t t′ r) where
+module _ (l : List ℕ) {v p n q base : ℕ} {s t t′ : List ℕ} {r : Got} (h : length l ≤ 4294967295) (e : u16At l 0 ≡ Value v p) (g : Ran (putRow 9) base s (groupsAt l p) 0 t t′ r) where
   pub ver-ok : r ≡ Value n q → Accepted v n ≡ verdict (layoutOf l)
   unfolding groupsAt verdict
   ver-ok f = rw (layout-ok l h e) (go (Layout.groups utf8 D .codec .parse 0 l p) (sym (g .answered) ∙ f))
@@ -76,7 +76,7 @@ module _ (l : List ℕ) {v p n q base : ℕ} {s t t′ : List ℕ} {r : Got} (h 
       go (ok z k) a = let w : 0 + length (groupRows z) ≡ n = cc in ap (Accepted v) (sym w ∙ zero-add (length (groupRows z)) ∙ ap length (sym (same-rows v z (drop k l))))
       go (refuse k) a = absurd (let z : _≡_ {A = ℕ} 0 1 = cc in omega arith)
 
-module _ (l : List ℕ) {v p base : ℕ} {k : Refusal} {s t t′ : List ℕ} {r : Got} (h : length l ≤ 4294967295) (e : u16At l 0 ≡ Value v p) (g : Ran 9 base s (groupsAt l p) 0 t t′ r) where
+module _ (l : List ℕ) {v p base : ℕ} {k : Refusal} {s t t′ : List ℕ} {r : Got} (h : length l ≤ 4294967295) (e : u16At l 0 ≡ Value v p) (g : Ran (putRow 9) base s (groupsAt l p) 0 t t′ r) where
   pub ver-bad : r ≡ Got'.Refused k → Verdict'.Refused k ≡ verdict (layoutOf l)
   unfolding groupsAt verdict
   ver-bad f = rw (layout-ok l h e) (go (Layout.groups utf8 D .codec .parse 0 l p) (sym (g .answered) ∙ f))
@@ -133,15 +133,15 @@ accepts l {v} {n} e =
         absurd (let z : _≡_ {A = ℕ} 0 1 = cc in omega arith)
 
 module _ {l : List ℕ} {v n : ℕ} (a : Accepts l v n) where
-  pub ans-read : {base : ℕ} {s t t′ : List ℕ} {r : Got} → n ≤ length t / 9 → Ran 9 base s (groupsAt l 2) 0 t t′ r → Answers l t t′ (Read v n)
+  pub ans-read : {base : ℕ} {s t t′ : List ℕ} {r : Got} → n ≤ length t / 9 → Ran (putRow 9) base s (groupsAt l 2) 0 t t′ r → Answers l t t′ (Read v n)
   unfolding groupsAt judge leave
   ans-read {t = t} {t′} h g =
       let T : Layout.Layout = toLayout ((v, a .z), drop (a .k) l) in
       let e = a .many in
       let w : 9 * length (rows T) ≤ length t = omega arith in
       let h1 : length (rows T) ≤ length t / 9 = omega arith in
-      let f : Fills 9 t 0 (said groupRows (ok (a .z) (a .k))) t′ = subst (λ (x : Res Groups). Fills 9 t 0 (said groupRows x) t′) (a .read) (g .filled) in
-      let i : t′ ≡ fill 9 t 0 (rows T) = f ∙ ap (fill 9 t 0) (sym (same-rows v (a .z) (drop (a .k) l))) in
+      let f : Fills (putRow 9) t 0 (said groupRows (ok (a .z) (a .k))) t′ = subst (λ (x : Res Groups). Fills (putRow 9) t 0 (said groupRows x) t′) (a .read) (g .filled) in
+      let i : t′ ≡ fill (putRow 9) t 0 (rows T) = f ∙ ap (fill (putRow 9) t 0) (sym (same-rows v (a .z) (drop (a .k) l))) in
       record {
         is = rw (a .is, le-leb (length (rows T)) (length t / 9) h1, e);
         leaves = rw (a .is, le-leb (length (rows T)) (length t / 9) h1) (i ∙ fill-rows 9 (omega arith) (rows T) t (rows-nine T) h1);

@@ -6,7 +6,7 @@ ghost use mathlib.Core.Path.{_≡_};
 ghost use mathlib.Core.List.{[]};
 ghost use Prim.Native.Nat.{_<_};
 ghost use Rattle.marks.specs.Marks.{Marks};
-ghost use Rattle.table.specs.Table.{Room, Ran};
+ghost use Rattle.table.specs.Table.{putRow, Room, Ran};
 ghost use Rattle.layout.specs.Reader.{labelsAt};
 ghost use Rattle.layout.specs.Labels.{Cleared, Codes};
 
@@ -22,7 +22,7 @@ pub(crate) fn labels(
 ) -> Got
     requires { ⌜ Room base (now s) at n ⌝ }
     requires { ⌜ Marks (now marks) [] ⌝ }
-    ensures { λ r. ⌜ Ran 9 base (now (s .entry)) (labelsAt base [] count (now (s .entry)) at) n (now (table .entry)) (now (table .exit)) r ⌝ }
+    ensures { λ r. ⌜ Ran (putRow 9) base (now (s .entry)) (labelsAt base [] count (now (s .entry)) at) n (now (table .entry)) (now (table .exit)) r ⌝ }
     ensures { λ r. ⌜ Cleared r (now (marks .exit)) ⌝ }
 {
     let mut todo = count;

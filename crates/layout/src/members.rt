@@ -2,12 +2,12 @@
 use super::rows;
 use numbers::Got;
 ghost use mathlib.Core.Path.{_≡_};
-ghost use Rattle.table.specs.Table.{Room, Ran};
+ghost use Rattle.table.specs.Table.{putRow, Room, Ran};
 ghost use Rattle.layout.specs.Reader.{entriesAt, namesAt, fieldsAt};
 
 pub(crate) fn fields(s: &[u8], at: usize, base: usize, table: &mut [u32], n: usize) -> Got
     requires { ⌜ Room base (now s) at n ⌝ }
-    ensures { λ r. ⌜ Ran 9 base (now (s .entry)) (fieldsAt base (now (s .entry)) at) n (now (table .entry)) (now (table .exit)) r ⌝ }
+    ensures { λ r. ⌜ Ran (putRow 9) base (now (s .entry)) (fieldsAt base (now (s .entry)) at) n (now (table .entry)) (now (table .exit)) r ⌝ }
 {
     match numbers::u16_at(s, at, refusal::LAYOUT_TRUNCATED) {
         Got::Value { value, next } => match entries(s, next, value, base, table, n) {
@@ -20,7 +20,7 @@ pub(crate) fn fields(s: &[u8], at: usize, base: usize, table: &mut [u32], n: usi
 
 fn entries(s: &[u8], at: usize, count: usize, base: usize, table: &mut [u32], n: usize) -> Got
     requires { ⌜ Room base (now s) at n ⌝ }
-    ensures { λ r. ⌜ Ran 9 base (now (s .entry)) (entriesAt base count (now (s .entry)) at) n (now (table .entry)) (now (table .exit)) r ⌝ }
+    ensures { λ r. ⌜ Ran (putRow 9) base (now (s .entry)) (entriesAt base count (now (s .entry)) at) n (now (table .entry)) (now (table .exit)) r ⌝ }
 {
     let mut todo = count;
     let mut p = at;
@@ -43,7 +43,7 @@ fn entries(s: &[u8], at: usize, count: usize, base: usize, table: &mut [u32], n:
 
 fn names(s: &[u8], at: usize, count: usize, base: usize, table: &mut [u32], n: usize) -> Got
     requires { ⌜ Room base (now s) at n ⌝ }
-    ensures { λ r. ⌜ Ran 9 base (now (s .entry)) (namesAt base count (now (s .entry)) at) n (now (table .entry)) (now (table .exit)) r ⌝ }
+    ensures { λ r. ⌜ Ran (putRow 9) base (now (s .entry)) (namesAt base count (now (s .entry)) at) n (now (table .entry)) (now (table .exit)) r ⌝ }
 {
     let mut todo = count;
     let mut p = at;

@@ -11,13 +11,13 @@ ghost use Rattle.codec.specs.Codec.{refusal};
 ghost use Rattle.numbers.specs.Numbers.{Past};
 ghost use Rattle.numbers.specs.declared.Got.the-variants as Got';
 ghost use Rattle.marks.specs.Marks.{Marks};
-ghost use Rattle.table.specs.Table.{Room, Ran};
+ghost use Rattle.table.specs.Table.{putRow, Room, Ran};
 ghost use Rattle.layout.specs.Reader.{recordHead, recordBody, structBody, labelBody, bodyOf, sectionsAt, groupAt, groupsAt};
 ghost use Rattle.layout.specs.Labels.{Cleared};
 
 pub(crate) fn groups(s: &[u8], at: usize, table: &mut [u32]) -> Got
     requires { ⌜ Room 0 (now s) at 0 ⌝ }
-    ensures { λ r. ⌜ Ran 9 0 (now (s .entry)) (groupsAt (now (s .entry)) at) 0 (now (table .entry)) (now (table .exit)) r ⌝ }
+    ensures { λ r. ⌜ Ran (putRow 9) 0 (now (s .entry)) (groupsAt (now (s .entry)) at) 0 (now (table .entry)) (now (table .exit)) r ⌝ }
 {
     let mut marks = [0u64; 1024];
     match group(0, s, at, table, 0, &mut marks) {
@@ -39,7 +39,7 @@ fn group(
 ) -> Got
     requires { ⌜ Room 0 (now s) at n ⌝ }
     requires { ⌜ Marks (now marks) [] ⌝ }
-    ensures { λ r. ⌜ Ran 9 0 (now (s .entry)) (groupAt kind (now (s .entry)) at) n (now (table .entry)) (now (table .exit)) r ⌝ }
+    ensures { λ r. ⌜ Ran (putRow 9) 0 (now (s .entry)) (groupAt kind (now (s .entry)) at) n (now (table .entry)) (now (table .exit)) r ⌝ }
     ensures { λ r. ⌜ Cleared r (now (marks .exit)) ⌝ }
 {
     match numbers::u16_at(s, at, refusal::LAYOUT_TRUNCATED) {
@@ -59,7 +59,7 @@ fn sections(
 ) -> Got
     requires { ⌜ Room 0 (now s) at n ⌝ }
     requires { ⌜ Marks (now marks) [] ⌝ }
-    ensures { λ r. ⌜ Ran 9 0 (now (s .entry)) (sectionsAt kind count (now (s .entry)) at) n (now (table .entry)) (now (table .exit)) r ⌝ }
+    ensures { λ r. ⌜ Ran (putRow 9) 0 (now (s .entry)) (sectionsAt kind count (now (s .entry)) at) n (now (table .entry)) (now (table .exit)) r ⌝ }
     ensures { λ r. ⌜ Cleared r (now (marks .exit)) ⌝ }
 {
     let mut todo = count;
@@ -100,7 +100,7 @@ fn body(
 ) -> Got
     requires { ⌜ Room base (now s) 0 n ⌝ }
     requires { ⌜ Marks (now marks) [] ⌝ }
-    ensures { λ r. ⌜ Ran 9 base (now (s .entry)) (bodyOf kind base (now (s .entry))) n (now (table .entry)) (now (table .exit)) r ⌝ }
+    ensures { λ r. ⌜ Ran (putRow 9) base (now (s .entry)) (bodyOf kind base (now (s .entry))) n (now (table .entry)) (now (table .exit)) r ⌝ }
     ensures { λ r. ⌜ Cleared r (now (marks .exit)) ⌝ }
 {
     if kind == 0 {
@@ -115,7 +115,7 @@ fn body(
 // The record whose section's body is `s`, `base` bytes into the layout.
 fn record_body(s: &[u8], base: usize, table: &mut [u32], n: usize) -> Got
     requires { ⌜ Room base (now s) 0 n ⌝ }
-    ensures { λ r. ⌜ Ran 9 base (now (s .entry)) (recordBody base (now (s .entry))) n (now (table .entry)) (now (table .exit)) r ⌝ }
+    ensures { λ r. ⌜ Ran (putRow 9) base (now (s .entry)) (recordBody base (now (s .entry))) n (now (table .entry)) (now (table .exit)) r ⌝ }
 {
     match record_head(s) {
         Got::Value { value: _, next: p } => match wire::name_at(s, p) {
@@ -175,7 +175,7 @@ fn cut(place: usize) -> Got
 // The struct whose section's body is `s`, `base` bytes into the layout.
 fn struct_body(s: &[u8], base: usize, table: &mut [u32], n: usize) -> Got
     requires { ⌜ Room base (now s) 0 n ⌝ }
-    ensures { λ r. ⌜ Ran 9 base (now (s .entry)) (structBody base (now (s .entry))) n (now (table .entry)) (now (table .exit)) r ⌝ }
+    ensures { λ r. ⌜ Ran (putRow 9) base (now (s .entry)) (structBody base (now (s .entry))) n (now (table .entry)) (now (table .exit)) r ⌝ }
 {
     match numbers::u16_at(s, 0, refusal::LAYOUT_TRUNCATED) {
         Got::Value {
@@ -206,7 +206,7 @@ fn struct_body(s: &[u8], base: usize, table: &mut [u32], n: usize) -> Got
 fn label_body(s: &[u8], base: usize, table: &mut [u32], n: usize, marks: &mut [u64; 1024]) -> Got
     requires { ⌜ Room base (now s) 0 n ⌝ }
     requires { ⌜ Marks (now marks) [] ⌝ }
-    ensures { λ r. ⌜ Ran 9 base (now (s .entry)) (labelBody base (now (s .entry))) n (now (table .entry)) (now (table .exit)) r ⌝ }
+    ensures { λ r. ⌜ Ran (putRow 9) base (now (s .entry)) (labelBody base (now (s .entry))) n (now (table .entry)) (now (table .exit)) r ⌝ }
     ensures { λ r. ⌜ Cleared r (now (marks .exit)) ⌝ }
 {
     match wire::name_at(s, 0) {

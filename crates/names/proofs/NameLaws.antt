@@ -1,39 +1,39 @@
 -- The spans of rows and their bytes, by the tests of the code. Assumes nothing.
-use Prim.Native.Nat.{ℕ, _+_, _-_, _*_, _/_, _≤_, _<_}
+use Prim.Native.Nat.{ℕ, _+_, _-_, _≤_, _<_}
 use native.Mathlib.Omega.{arith}
 use mathlib.Core.Path.{_≡_, refl, sym, _∙_}
 use mathlib.Core.Bool.{Bool, true, false}
 use mathlib.Core.List.{List, []}
-use lib.ListN.{length, getD, take, drop}
+use lib.ListN.{length, take, drop}
 use borrow.Author.Tests.{le-leb, lt-leb, lt-ltb, le-ltb}
 use Rattle.refusal.specs.declared.Refusal.{Refusal}
-use Rattle.names.specs.Names.{noText, rowSpan, spanOf, partIn}
+use Rattle.names.specs.Names.{noText, textSpan, spanOf, partIn}
 use Rattle.names.specs.declared.Span.{Span}
 use Rattle.names.specs.declared.Span.the-variants.{Part, Refused}
 
 -- the row is past the table, or in it
-module _ (width : ℕ) (hasText : ℕ → Bool) (n : ℕ) (rows : List ℕ) (index : ℕ) where
-  pub row-past : length rows / width ≤ index → noText ≡ spanOf width hasText n rows index
+module _ (hasText : ℕ → Bool) (n count : ℕ) (number : ℕ → ℕ) (index : ℕ) where
+  pub row-past : count ≤ index → noText ≡ spanOf hasText n count number index
   unfolding spanOf
-  row-past h = rw (le-ltb index (length rows / width) h)
+  row-past h = rw (le-ltb index count h)
 
-  pub row-there : index < length rows / width → rowSpan (hasText (getD rows (width * index) 0)) n rows (width * index) ≡ spanOf width hasText n rows index
+  pub row-there : index < count → {kind start len : ℕ} → kind ≡ number 0 → start ≡ number 1 → len ≡ number 2 → textSpan (hasText kind) n start len ≡ spanOf hasText n count number index
   unfolding spanOf
-  row-there h = rw (lt-ltb index (length rows / width) h)
+  row-there h e f g = rw (lt-ltb index count h, e, f, g)
 
 -- a row in the table has no text, or has one within the bytes, or one that is not
-module _ (n : ℕ) (rows : List ℕ) (at : ℕ) {has : Bool} where
-  pub span-none : has ≡ false → noText ≡ rowSpan has n rows at
-  unfolding rowSpan
+module _ (n : ℕ) {has : Bool} (start len : ℕ) where
+  pub span-none : has ≡ false → noText ≡ textSpan has n start len
+  unfolding textSpan
   span-none e = rw e
 
-  module _ (e : has ≡ true) {a b : ℕ} (ea : a ≡ getD rows (at + 1) 0) (eb : b ≡ getD rows (at + 2) 0) where
-    pub span-in : a + b ≤ n → Part a b ≡ rowSpan has n rows at
-    unfolding rowSpan
+  module _ (e : has ≡ true) {a b : ℕ} (ea : a ≡ start) (eb : b ≡ len) where
+    pub span-in : a + b ≤ n → Part a b ≡ textSpan has n start len
+    unfolding textSpan
     span-in h = rw (e, ← ea, ← eb, le-leb (a + b) n h)
 
-    pub span-out : n < a + b → noText ≡ rowSpan has n rows at
-    unfolding rowSpan
+    pub span-out : n < a + b → noText ≡ textSpan has n start len
+    unfolding textSpan
     span-out h = rw (e, ← ea, ← eb, lt-leb (a + b) n h)
 
 module _ (b : List ℕ) {span : Span} where

@@ -1,29 +1,28 @@
--- Which part of the bytes a row of a table names, by the row's numbers, and which kinds of rows have a text. Assumes nothing.
-use Prim.Native.Nat.{ℕ, _+_, _*_, _/_, _≤_, _<_}
+-- Which part of the bytes a row names, by its numbers, and which kinds of rows have a text. Assumes nothing.
+use Prim.Native.Nat.{ℕ, _+_, _≤_, _<_}
 use native.Mathlib.Omega.{arith}
 use mathlib.Core.Path.{_≡_, refl, sym, ap, _∙_}
 use mathlib.Core.Bool.{Bool, true, false, not, _&&_}
 use mathlib.Core.List.{List, []}
-use lib.ListN.{length, getD, take, drop}
+use lib.ListN.{length, take, drop}
 use lib.Dec.{leb, ltb, eqb, leb·zero}
 use borrow.Author.Tests.{lt-ltb, le-leb, leb-true, ne-eqb}
 use Rattle.refusal.specs.declared.Refusal.{Refusal}
-use Rattle.names.specs.Names.{noText, symbolText, itemText, rowSpan, spanOf, partIn}
+use Rattle.names.specs.Names.{noText, symbolText, itemText, textSpan, spanOf, partIn}
 use Rattle.names.specs.declared.Span.the-variants.{Part, Refused}
 
-module _ (width : ℕ) (hasText : ℕ → Bool) (n : ℕ) (table : List ℕ) (i : ℕ) where
+module _ (hasText : ℕ → Bool) (n count : ℕ) (number : ℕ → ℕ) (i : ℕ) where
   -- a row with a text within n bytes gives its second and third number
-  pub span-part : i < length table / width → hasText (getD table (width * i) 0) ≡ true → getD table (width * i + 1) 0 + getD table (width * i + 2) 0 ≤ n
-      → spanOf width hasText n table i ≡ Part (getD table (width * i + 1) 0) (getD table (width * i + 2) 0)
-  unfolding spanOf rowSpan
-  span-part l t h = rw (lt-ltb i (length table / width) l, t, le-leb (getD table (width * i + 1) 0 + getD table (width * i + 2) 0) n h)
+  pub span-part : i < count → hasText (number 0) ≡ true → number 1 + number 2 ≤ n → spanOf hasText n count number i ≡ Part (number 1) (number 2)
+  unfolding spanOf textSpan
+  span-part l t h = rw (lt-ltb i count l, t, le-leb (number 1 + number 2) n h)
 
   -- a row without a text gives 90
-  pub span-none : hasText (getD table (width * i) 0) ≡ false → spanOf width hasText n table i ≡ noText
-  unfolding spanOf rowSpan
-  span-none t = go (ltb i (length table / width)) refl
+  pub span-none : hasText (number 0) ≡ false → spanOf hasText n count number i ≡ noText
+  unfolding spanOf textSpan
+  span-none t = go (ltb i count) refl
     where
-      go : (x : Bool) → ltb i (length table / width) ≡ x → spanOf width hasText n table i ≡ noText
+      go : (x : Bool) → ltb i count ≡ x → spanOf hasText n count number i ≡ noText
       go true q = rw (q, t)
       go false q = rw q
 

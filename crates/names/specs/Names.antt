@@ -1,11 +1,12 @@
--- The text of a row, as document 01's "Rows" has it: asked for by index, a part of the bytes that the row's start counts from.
+-- The text of a row, as document 01's "Rows" has it, with request 10 of document 02: asked for by index, a part of the bytes that the row's start counts from.
 -- Assumes nothing.
-use Prim.Native.Nat.{ℕ, _+_, _*_, _/_}
+use Prim.Native.Nat.{ℕ, _+_, _/_}
 use mathlib.Core.Bool.{Bool, not, _&&_, cond}
 use mathlib.Core.List.{List, []}
-use lib.ListN.{length, getD, take, drop}
+use lib.ListN.{length, take, drop}
 use lib.Dec.{leb, ltb, eqb}
 use Rattle.codec.specs.Codec.{refusal}
+use Rattle.table.specs.Columns.{cell, rowCell}
 use Rattle.names.specs.declared.Span.{Span}
 use Rattle.names.specs.declared.Span.the-variants.{Part, Refused}
 
@@ -21,21 +22,20 @@ itemText kind = not (eqb kind 11) && (leb 10 kind && leb kind 15)
 abbrev pub noText : Span
 noText = Refused (refusal 90 0)
 
--- the second and third number of the row at `at`, a start and a length; 90 for a row without a text, or where they reach past n bytes
-unfoldable pub rowSpan : Bool → ℕ → List ℕ → ℕ → Span
-rowSpan has n rows at =
-    cond (has && leb (getD rows (at + 1) 0 + getD rows (at + 2) 0) n) (Part (getD rows (at + 1) 0) (getD rows (at + 2) 0)) noText
+-- a start and a length; 90 for a row without a text, or where they reach past n bytes
+unfoldable pub textSpan : Bool → ℕ → ℕ → ℕ → Span
+textSpan has n start len = cond (has && leb (start + len) n) (Part start len) noText
 
--- row `index` of a table of rows of that width, of which the kinds with a text are known; 90 past the table
-unfoldable pub spanOf : ℕ → (ℕ → Bool) → ℕ → List ℕ → ℕ → Span
-spanOf width hasText n rows index =
-    cond (ltb index (length rows / width)) (rowSpan (hasText (getD rows (width * index) 0)) n rows (width * index)) noText
+-- row `index` of a table of so many rows, by its numbers: kind, start, length; 90 past the table
+unfoldable pub spanOf : (ℕ → Bool) → ℕ → ℕ → (ℕ → ℕ) → ℕ → Span
+spanOf hasText n count number index = cond (ltb index count) (textSpan (hasText (number 0)) n (number 1) (number 2)) noText
 
+-- symbology rows stand by column, layout rows one after the other
 abbrev pub symbologySpan : ℕ → List ℕ → ℕ → Span
-symbologySpan n rows index = spanOf 6 symbolText n rows index
+symbologySpan n table index = spanOf symbolText n (length table / 6) (cell 6 table index) index
 
 abbrev pub layoutSpan : ℕ → List ℕ → ℕ → Span
-layoutSpan n rows index = spanOf 9 itemText n rows index
+layoutSpan n rows index = spanOf itemText n (length rows / 9) (rowCell 9 rows index) index
 
 -- the bytes of a span, and none for a refusal
 unfoldable pub partIn : List ℕ → Span → List ℕ

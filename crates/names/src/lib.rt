@@ -1,9 +1,9 @@
 // The text of a row, by its kind, start and length: a part of the bytes that the row was read from.
 use refusal::Refusal;
 ghost use mathlib.Core.Path.{_≡_};
-ghost use Prim.Native.Nat.{_+_, _≤_, _<_};
+ghost use Prim.Native.Nat.{_<_};
 ghost use lib.ListN.{length};
-ghost use Rattle.names.specs.Names.{noText, symbolText, itemText, rowSpan, symbologySpan, layoutSpan, partIn};
+ghost use Rattle.names.specs.Names.{noText, symbolText, itemText, textSpan, symbologySpan, layoutSpan, partIn};
 
 // A part of a slice by start and length; or the refusal, which is about no byte.
 pub enum Span {
@@ -11,22 +11,30 @@ pub enum Span {
     Refused(Refusal),
 }
 
-// Where the text of a symbology row stands in its block; 90 for an index past the table, a row without a text, or a span outside.
-pub fn symbology_span(block: &[u8], rows: &[u32], index: usize) -> Span
-    ensures { λ r. ⌜ r ≡ symbologySpan (length (now (block .entry))) (now (rows .entry)) index ⌝ }
+// Where the text of a symbology row stands in its block. The table is as it was lent, by column. 90 for an index past its height, a row
+// without a text, or a span outside.
+pub fn symbology_span(block: &[u8], table: &[u32], index: usize) -> Span
+    ensures { λ r. ⌜ r ≡ symbologySpan (length (now (block .entry))) (now (table .entry)) index ⌝ }
 {
-    if index < rows.len() / 6 {
-        let at = 6 * index;
-        return row_span(symbol_text(rows[at]), block.len(), rows, at);
+    let height = table.len() / 6;
+    if index < height {
+        let second = index + height;
+        let third = second + height;
+        return text_span(
+            symbol_text(table[index]),
+            block.len(),
+            table[second],
+            table[third],
+        );
     }
     no_text()
 }
 
 // The text of a symbology row as a part of the caller's own block; empty where there is none.
-pub fn symbology_name<'a>(block: &'a [u8], rows: &[u32], index: usize) -> &'a [u8]
-    ensures { λ r. ⌜ now r ≡ partIn (now (block .entry)) (symbologySpan (length (now (block .entry))) (now (rows .entry)) index) ⌝ }
+pub fn symbology_name<'a>(block: &'a [u8], table: &[u32], index: usize) -> &'a [u8]
+    ensures { λ r. ⌜ now r ≡ partIn (now (block .entry)) (symbologySpan (length (now (block .entry))) (now (table .entry)) index) ⌝ }
 {
-    part(block, symbology_span(block, rows, index))
+    part(block, symbology_span(block, table, index))
 }
 
 // Where the text of a layout row stands in its layout; 90 as for a symbology row. A field has none.
@@ -35,7 +43,12 @@ pub fn layout_span(layout: &[u8], rows: &[u32], index: usize) -> Span
 {
     if index < rows.len() / 9 {
         let at = 9 * index;
-        return row_span(item_text(rows[at]), layout.len(), rows, at);
+        return text_span(
+            item_text(rows[at]),
+            layout.len(),
+            rows[at + 1],
+            rows[at + 2],
+        );
     }
     no_text()
 }
@@ -86,14 +99,13 @@ fn item_text(kind: u32) -> bool
     kind <= 15
 }
 
-// Start and length of the row at `at`, where it has a text and they lie in n bytes.
-fn row_span(has: bool, n: usize, rows: &[u32], at: usize) -> Span
-    requires { ⌜ at + 3 ≤ length (now rows) ⌝ }
-    ensures { λ r. ⌜ r ≡ rowSpan has n (now (rows .entry)) at ⌝ }
+// This start and length, where the row has a text and they lie in n bytes.
+fn text_span(has: bool, n: usize, start: u32, len: u32) -> Span
+    ensures { λ r. ⌜ r ≡ textSpan has n start len ⌝ }
 {
     if has {
-        let start = wide(rows[at + 1]);
-        let len = wide(rows[at + 2]);
+        let start = wide(start);
+        let len = wide(len);
         if start + len <= n {
             return Span::Part { start, len };
         }

@@ -93,7 +93,7 @@ fn store_space() -> [u8; 1048576]
     [0; 1048576]
 }
 
-// A table of 16,384 rows of six.
+// A table of 16,384 rows of six, by column.
 fn symbology_table() -> [u32; 98304]
     ensures { λ r. ⌜ 98304 ≡ length r ⌝ }
 {

@@ -15,14 +15,14 @@ pub(crate) fn show(block: &[u8], rows: &[u32], n: usize) {
 
 // Row i: what its kind is, an interval's dates, and its text.
 fn row(block: &[u8], rows: &[u32], i: usize) {
-    let kind = cell(rows, i, 0);
+    let kind = table::number_at(rows, i, 0);
     words::say(
         STDOUT_FILENO,
         b"\n00symbol: \n01partial: \n02not found: \n03mapping: \n04  ",
         kind as u64,
     );
     if kind == 4 {
-        dates(cell(rows, i, 3), cell(rows, i, 4));
+        dates(table::number_at(rows, i, 3), table::number_at(rows, i, 4));
     }
     print::name(names::symbology_name(block, rows, i));
 }
@@ -33,14 +33,4 @@ fn dates(start: u32, end: u32) {
     print::text(b" to ");
     print::date(end);
     print::text(b": ");
-}
-
-// Number j of row i; 0 past the table.
-fn cell(rows: &[u32], i: usize, j: usize) -> u32
-    requires { ⌜ j < 6 ⌝ }
-{
-    if i < rows.len() / 6 {
-        return rows[6 * i + j];
-    }
-    0
 }

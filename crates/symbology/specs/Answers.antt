@@ -1,13 +1,13 @@
 -- What the reader answers, and what it leaves in the table.
 -- Assumes nothing.
-use Prim.Native.Nat.{ℕ, _*_, _/_}
+use Prim.Native.Nat.{ℕ, _/_}
 use mathlib.Core.Path.{_≡_}
 use mathlib.Core.Bool.{Bool, _&&_, cond}
-use mathlib.Core.List.{List, [], _∷_, _++_}
-use lib.ListN.{length, drop}
+use mathlib.Core.List.{List, [], _∷_}
+use lib.ListN.{length}
 use lib.Dec.{leb}
 use Rattle.codec.specs.Codec.{Res, ok, refuse}
-use Rattle.table.specs.Table.{flat}
+use Rattle.table.specs.Columns.{columns}
 use Rattle.symbology.specs.Symbology.{Symbology}
 use Rattle.symbology.specs.SymbologyRows.{symbologyRows}
 use Rattle.symbology.specs.declared.Found.{Found}
@@ -32,9 +32,9 @@ unfoldable pub sectionAnswer : Bool → ℕ → Res Symbology → SectionAnswer
 sectionAnswer write cap (ok t j) = cond (write && leb (length (symbologyRows t)) cap) (SectionAnswer'.Read (length (symbologyRows t)) j) (SectionAnswer'.Counted (length (symbologyRows t)))
 sectionAnswer write cap (refuse k) = SectionAnswer'.Refused k
 
--- then the rows stand at the front of the table, and the rest of it is as it was
+-- then the rows stand in the table by column, and the rest of it is as it was
 unfoldable pub sectionTable : Bool → List ℕ → Res Symbology → List ℕ
-sectionTable write t (ok l j) = cond (write && leb (length (symbologyRows l)) (length t / 6)) (flat (symbologyRows l) ++ drop (6 * length (symbologyRows l)) t) t
+sectionTable write t (ok l j) = cond (write && leb (length (symbologyRows l)) (length t / 6)) (columns 6 (symbologyRows l) t) t
 sectionTable write t (refuse k) = t
 
 -- what reading z into the table t answers and leaves, where the rows are to be written only if `write` holds

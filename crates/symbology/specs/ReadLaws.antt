@@ -1,5 +1,5 @@
 -- What a caller may use of the symbology's definitions. Assumes nothing.
-use Prim.Native.Nat.{ℕ, _+_, _*_, _/_, _≤_}
+use Prim.Native.Nat.{ℕ, _+_, _/_, _≤_}
 use mathlib.Core.Path.{_≡_, refl, sym, ap, _∙_, subst}
 use mathlib.Core.Bool.{Bool, true, false, _&&_, cond}
 use mathlib.Core.List.{List, [], _∷_, _++_}
@@ -11,8 +11,8 @@ use Rattle.codec.specs.Codec.{Res, ok, refuse, moved, shifted, _>>=_, need, isN
 use Rattle.text.specs.Utf8.{utf8}
 use Rattle.text.specs.Padded.{nulPadded}
 use Rattle.dates.specs.Date.{isDate}
-use Rattle.table.specs.Table.{flat}
-use Rattle.table.specs.TableLaws.{Wide, wide-append, wide-map, wide-from, flat-length}
+use Rattle.table.specs.Columns.{columns}
+use Rattle.table.specs.TableLaws.{Wide, wide-append, wide-map, wide-from}
 use Rattle.symbology.specs.Symbology
 use Rattle.symbology.specs.Symbology.{Symbol, Symbology, unspanned}
 use Rattle.symbology.specs.SymbologyRows.{symbologyRows, listRow, listRows, mappingRows, intervalRow}
@@ -43,10 +43,6 @@ rows-of-six t = lists 0 (t .symbols) 0 _ (lists 1 (t .partial) _ _ (lists 2 (t .
     lists : (kind : ℕ) (xs : List Symbol) (n : ℕ) (rest : List (List ℕ)) → Wide 6 rest → Wide 6 (listRows kind xs n ++ rest)
     lists kind xs n rest h = wide-append 6 (listRows kind xs n) rest (wide-from 6 (λ s n. listRow kind s n ∷ []) (λ s n. (refl, tt)) xs n) h
 
--- the rows, one after the other, are six numbers each
-pub symbology-flat : (t : Symbology) → length (flat (symbologyRows t)) ≡ 6 * length (symbologyRows t)
-symbology-flat t = flat-length 6 (symbologyRows t) (rows-of-six t)
-
 -- ---- what an answer says
 
 -- what was read has n rows, and whether they were written
@@ -56,7 +52,7 @@ pub record Was (written write : Bool) (z : Res Symbology) (t t′ : List ℕ) (n
   pub is : z ≡ ok tree next
   pub many : length (symbologyRows tree) ≡ n
   pub room : (write && leb (length (symbologyRows tree)) (length t / 6)) ≡ written
-  pub leaves : t′ ≡ cond written (flat (symbologyRows tree) ++ drop (6 * length (symbologyRows tree)) t) t
+  pub leaves : t′ ≡ cond written (columns 6 (symbologyRows tree) t) t
 
 data Says (write : Bool) (z : Res Symbology) (t t′ : List ℕ) : SectionAnswer → Type 0 where
   read : {n j : ℕ} → Was true write z t t′ n → Says write z t t′ (SectionAnswer'.Read n j)
@@ -68,7 +64,7 @@ module _ {write : Bool} {z : Res Symbology} {t t′ : List ℕ} {r r′ : Sectio
   unfolding sectionAnswer sectionTable
   says = subst (Says write z t t′) (sym (f .is) ∙ e) (go z (f .leaves))
     where
-      by : (x : Symbology) (j : ℕ) (b : Bool) → (write && leb (length (symbologyRows x)) (length t / 6)) ≡ b → t′ ≡ cond b (flat (symbologyRows x) ++ drop (6 * length (symbologyRows x)) t) t
+      by : (x : Symbology) (j : ℕ) (b : Bool) → (write && leb (length (symbologyRows x)) (length t / 6)) ≡ b → t′ ≡ cond b (columns 6 (symbologyRows x) t) t
           → Says write (ok x j) t t′ (cond b (SectionAnswer'.Read (length (symbologyRows x)) j) (SectionAnswer'.Counted (length (symbologyRows x))))
       by x j true q l = read {j = j} (record { tree = x; next = j; is = refl; many = refl; room = q; leaves = l })
       by x j false q l = short (record { tree = x; next = j; is = refl; many = refl; room = q; leaves = l })

@@ -4,7 +4,7 @@ use Prim.Native.Nat.{ℕ, _+_, _*_, _/_, _≤_, _<_, _^_}
 use mathlib.Core.Path.{_≡_}
 use mathlib.Core.Bool.{cond}
 use mathlib.Core.List.{List, [], _∷_, _++_, map}
-use lib.ListN.{length}
+use lib.ListN.{length, set}
 use lib.Seq.{sets}
 use lib.Dec.{ltb}
 use Rattle.refusal.specs.declared.Refusal.{Refusal}
@@ -59,23 +59,36 @@ abbrev pub onGot : Got → (ℕ → ℕ → Out) → Out
 onGot (Value v p) f = f v p
 onGot (Refused k) f = refuse k
 
--- row n of a table of rows of w numbers, where the table has it
-unfoldable pub putRow : ℕ → List ℕ → ℕ → List ℕ → List ℕ
+-- how row n goes into a table
+abbrev pub Putter : Type 0
+Putter = List ℕ → ℕ → List ℕ → List ℕ
+
+-- into a table of rows of w numbers, one after the other, where the table has the row
+unfoldable pub putRow : ℕ → Putter
 putRow w t n r = cond (ltb n (length t / w)) (sets t (w * n) r) t
 
+-- numbers at place i, at i + h, and so on
+abbrev pub spread : ℕ → List ℕ → ℕ → List ℕ → List ℕ
+spread h t i [] = t
+spread h t i (x ∷ xs) = spread h (set t i x) (i + h) xs
+
+-- into a table of w columns, each as high as the table can hold rows: number c of row n stands at c * height + n
+unfoldable pub putColumns : ℕ → Putter
+putColumns w t n r = cond (ltb n (length t / w)) (spread (length t / w) t n r) t
+
 -- the table after row n is stored
-pub record Put (w : ℕ) (t : List ℕ) (n : ℕ) (r t′ : List ℕ) : Type 0 where
-  pub is : t′ ≡ putRow w t n r
+pub record Put (put : Putter) (t : List ℕ) (n : ℕ) (r t′ : List ℕ) : Type 0 where
+  pub is : t′ ≡ put t n r
 
 -- the table after the rows from row n on
-abbrev pub fill : ℕ → List ℕ → ℕ → List (List ℕ) → List ℕ
-fill w t n [] = t
-fill w t n (r ∷ rs) = fill w (putRow w t n r) (n + 1) rs
+abbrev pub fill : Putter → List ℕ → ℕ → List (List ℕ) → List ℕ
+fill put t n [] = t
+fill put t n (r ∷ rs) = fill put (put t n r) (n + 1) rs
 
 -- the same, of a reader: a refusal says nothing of the table
-abbrev pub Fills : ℕ → List ℕ → ℕ → Out → List ℕ → Type 0
-Fills w t n (ok rs p) t′ = t′ ≡ fill w t n rs
-Fills w t n (refuse k) t′ = Unit {0}
+abbrev pub Fills : Putter → List ℕ → ℕ → Out → List ℕ → Type 0
+Fills put t n (ok rs p) t′ = t′ ≡ fill put t n rs
+Fills put t n (refuse k) t′ = Unit {0}
 
 -- the next row's index and the next place, or the refusal
 abbrev pub answer : ℕ → Out → Got
@@ -94,7 +107,7 @@ pub record Room (base : ℕ) (s : List ℕ) (at n : ℕ) : Type 0 where
   pub inside : at ≤ length s
 
 -- what it does: answer and table are those of `o`
-pub record Ran (w base : ℕ) (s : List ℕ) (o : Out) (n : ℕ) (t t′ : List ℕ) (r : Got) : Type 0 where
+pub record Ran (put : Putter) (base : ℕ) (s : List ℕ) (o : Out) (n : ℕ) (t t′ : List ℕ) (r : Got) : Type 0 where
   pub answered : r ≡ answer n o
-  pub filled : Fills w t n o t′
+  pub filled : Fills put t n o t′
   pub within : Within base s r

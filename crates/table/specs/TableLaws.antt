@@ -40,7 +40,7 @@ module _ (w : ℕ) (zero : w * 0 ≡ 0) (step : (n : ℕ) → w * (n + 1) ≡ w 
       let k : w * n + length r ≡ length a + w = omega arith in
       rw (lt-ltb n (length (a ++ t) / w) i, sets-eq r (a ++ t) (w * n) j, take-at a t (w * n) e, k, drop-append-add a t w)
 
-  fill-front : (rs : List (List ℕ)) (a t : List ℕ) (n : ℕ) → Wide w rs → length a ≡ w * n → w * length rs ≤ length t → fill w (a ++ t) n rs ≡ a ++ (flat rs ++ drop (w * length rs) t)
+  fill-front : (rs : List (List ℕ)) (a t : List ℕ) (n : ℕ) → Wide w rs → length a ≡ w * n → w * length rs ≤ length t → fill (putRow w) (a ++ t) n rs ≡ a ++ (flat rs ++ drop (w * length rs) t)
   fill-front [] a t n z e h = rw zero
   fill-front (r ∷ rs) a t n z e h =
       let l = z .0 in
@@ -69,7 +69,7 @@ row-is {w} {m} {n} p h =
     omega arith
 
 -- all rows of a table that has room for them
-pub fill-rows : (w : ℕ) → 0 < w → (rs : List (List ℕ)) (t : List ℕ) → Wide w rs → length rs ≤ length t / w → fill w t 0 rs ≡ flat rs ++ drop (w * length rs) t
+pub fill-rows : (w : ℕ) → 0 < w → (rs : List (List ℕ)) (t : List ℕ) → Wide w rs → length rs ≤ length t / w → fill (putRow w) t 0 rs ≡ flat rs ++ drop (w * length rs) t
 fill-rows w p rs t z h = fill-front w (mul-zero w) (λ n. rw add-one (mul-suc w n)) (λ m n g. row-is p g) rs [] t 0 z (sym (mul-zero w)) room
   where
     room : w * length rs ≤ length t

@@ -1,6 +1,9 @@
 -- A row of the table has the span that its numbers say; past the table there is none.
 -- Assumes nothing.
-use mathlib.Core.Path.{_∙_}
+use mathlib.Core.Path.{refl, ap, _∙_}
+use native.Mathlib.Omega.{arith}
+use lib.ListN.{getD}
+use Rattle.table.specs.Columns.{rowCell}
 use Rattle.names.specs.Names.{itemText}
 use Rattle.names.proofs.NameLaws.{row-past, row-there}
 use borrow.Author.Needs.{needs}
@@ -9,13 +12,14 @@ use Rattle.names.proofs.layout_span.Tie as tie
 
 returns : tie.Need-returns
 returns c =
-    let args = c .before .before .before .before .before .before .args in
-    (rw (c .before .item-text .ensures) at (c .row-span .ensures)) ∙ row-there 9 itemText _ (args .rows .now) (args .index) (c .before .before .before .if1 .taken)
+    let args = c .before .before .before .before .before .before .before .before .args in
+    (rw (c .before .before .before .item-text .ensures) at (c .text-span .ensures))
+    ∙ row-there itemText _ _ (rowCell 9 (args .rows .now) (args .index)) (args .index) (c .before .before .before .before .before .if1 .taken) (ap (λ i. getD (args .rows .now) i 0) (omega arith)) refl refl
 
 returns-2 : tie.Need-returns-2
 returns-2 c =
     let args = c .before .before .before .before .args in
-    c .no-text .ensures ∙ row-past 9 itemText _ (args .rows .now) (args .index) (c .before .if1 .left)
+    c .no-text .ensures ∙ row-past itemText _ _ (rowCell 9 (args .rows .now) (args .index)) (args .index) (c .before .if1 .left)
 
 pub layout-span-spec : {M : Type 1} → statement M
 layout-span-spec =
@@ -25,6 +29,12 @@ layout-span-spec =
     (λ c. search needs)
     (λ c. search needs)
     (λ c κs. search needs)
+    (λ c. search needs)
+    (λ c. search needs)
+    (λ c. search needs)
+    (λ c. search needs)
+    (λ c. search needs)
+    (λ c. search needs)
     (λ c κs. search needs)
     returns
     (λ c κs. search needs)

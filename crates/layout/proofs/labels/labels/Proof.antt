@@ -5,7 +5,7 @@ use mathlib.Core.Path.{sym, _∙_}
 use mathlib.Core.List.{[]}
 use Rattle.numbers.specs.NumberLaws.{past-at}
 use Rattle.layout.proofs.Laws.{labels-row, labels-no, labels-no2, labels-55, labels-end}
-use Rattle.table.specs.ReadingLaws.{put-as, going, going-row, going-no, going-end}
+use Rattle.table.specs.ReadingLaws.{put-row-as, going, going-row, going-no, going-end}
 use Rattle.marks.specs.MarkLaws.{marks-more}
 use Rattle.layout.proofs.Labelling.{Labelling, label-place, trail, trail-next, trail-end}
 use Rattle.layout.proofs.labels.labels.Statement.{statement}
@@ -67,7 +67,7 @@ loop-again c =
     record {
       seen = _;
       going = going-row (inv .going) (labels-row _ _ _ _ _ (loop-test .taken) (sym (u16-at .0) ∙ x .1) (sym (name-at .0) ∙ l .1) free)
-          (put-as (c .before .before .before .before .before .label-row .ensures) (c .before .before .put-row .ensures)) (c .before .before .put-row .kept .0) (omega (arith, past-at (u16-at .1) (x .1), past-at (name-at .1) (l .1), inv .going));
+          (put-row-as (c .before .before .before .before .before .label-row .ensures) (c .before .before .put-row .ensures)) (c .before .before .put-row .kept .0) (omega (arith, past-at (u16-at .1) (x .1), past-at (name-at .1) (l .1), inv .going));
       marks = rw (c .before .before .before .before .before .before .mark .ensures) (marks-more _ _ _ (past-at (u16-at .1) (x .1) .2) (inv .marks));
       trail = trail-next _ (inv .trail) (loop-test .taken) (w .0) (w .1) (past-at (name-at .1) (l .1) .1);
     }

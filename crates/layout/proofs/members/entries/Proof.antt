@@ -3,18 +3,19 @@ use borrow.Author.Needs.{needs}
 use native.Mathlib.Omega.{arith}
 use Prim.Native.Nat.{ℕ}
 use mathlib.Core.List.{List}
+use Rattle.table.specs.Table.{putRow}
 use Rattle.layout.specs.Rows.{headRow}
 use Rattle.layout.specs.LayoutOf.{D-is}
 use mathlib.Core.Path.{sym, ap, _∙_}
 use Rattle.layout.specs.Reader.{entriesAt}
 use Rattle.numbers.specs.NumberLaws.{past-at}
 use Rattle.layout.proofs.Laws.{entries-row, entries-no, entries-end}
-use Rattle.table.specs.ReadingLaws.{put-as, Going, going, going-row, going-no, going-end}
+use Rattle.table.specs.ReadingLaws.{put-row-as, Going, going, going-row, going-no, going-end}
 use Rattle.layout.proofs.members.entries.Statement.{statement}
 use Rattle.layout.proofs.members.entries.Tie as tie
 
 abbrev Inv-loop : tie.InvT-loop
-Inv-loop s at count base table₀ n todo₀ p₀ k₀ table todo p k = Going 9 base s (entriesAt base count s at) n table₀ (entriesAt base todo s p) p k table
+Inv-loop s at count base table₀ n todo₀ p₀ k₀ table todo p k = Going (putRow 9) base s (entriesAt base count s at) n table₀ (entriesAt base todo s p) p k table
 
 abbrev μ-loop : tie.MeasureT-loop
 μ-loop s at count base table₀ n todo₀ p₀ k₀ table todo p k = todo
@@ -30,7 +31,7 @@ loop-again c =
     let take = c .before .before .before .before .before .before .before .before .before .before .take .ensures in
     let next = c .before .before .before .before .before .before .before .before .next .given in
     going-row (c .before .before .before .before .before .before .before .before .before .before .before .before .loop .inv) (entries-row _ _ _ _ (sym D-is) (c .before .before .before .before .before .before .before .before .before .before .before .loop-test .taken) (sym (take .0) ∙ next .1))
-    (put-as (c .before .before .before .before .before .entry-row .ensures ∙ ap (λ (b : List ℕ). headRow b) (c .before .before .before .before .before .before .entry-bytes .ensures)) (c .before .before .put-row .ensures)) (c .before .before .put-row .kept .0) (omega (arith, past-at (take .1) (next .1)))
+    (put-row-as (c .before .before .before .before .before .entry-row .ensures ∙ ap (λ (b : List ℕ). headRow b) (c .before .before .before .before .before .before .entry-bytes .ensures)) (c .before .before .put-row .ensures)) (c .before .before .put-row .kept .0) (omega (arith, past-at (take .1) (next .1)))
 
 same-length : tie.Need-same-length Inv-loop μ-loop
 same-length c = c .before .before .before .before .before .loop .inv .wide

@@ -2,15 +2,16 @@
 use borrow.Author.Needs.{needs}
 use native.Mathlib.Omega.{arith}
 use mathlib.Core.Path.{sym, _∙_}
+use Rattle.table.specs.Table.{putRow}
 use Rattle.layout.specs.Reader.{namesAt}
 use Rattle.numbers.specs.NumberLaws.{past-at}
 use Rattle.layout.proofs.Laws.{names-row, names-no, names-end}
-use Rattle.table.specs.ReadingLaws.{put-as, Going, going, going-row, going-no, going-end}
+use Rattle.table.specs.ReadingLaws.{put-row-as, Going, going, going-row, going-no, going-end}
 use Rattle.layout.proofs.members.names.Statement.{statement}
 use Rattle.layout.proofs.members.names.Tie as tie
 
 abbrev Inv-loop : tie.InvT-loop
-Inv-loop s at count base table₀ n todo₀ p₀ k₀ table todo p k = Going 9 base s (namesAt base count s at) n table₀ (namesAt base todo s p) p k table
+Inv-loop s at count base table₀ n todo₀ p₀ k₀ table todo p k = Going (putRow 9) base s (namesAt base count s at) n table₀ (namesAt base todo s p) p k table
 
 abbrev μ-loop : tie.MeasureT-loop
 μ-loop s at count base table₀ n todo₀ p₀ k₀ table todo p k = todo
@@ -35,7 +36,7 @@ loop-again c =
     let name-at = c .before .before .before .before .before .before .before .before .before .name-at .ensures in
     let value = c .before .before .before .before .before .before .before .value .given in
     going-row (c .before .before .before .before .before .before .before .before .before .before .before .loop .inv) (names-row _ _ _ _ (c .before .before .before .before .before .before .before .before .before .before .loop-test .taken) (sym (name-at .0) ∙ value .1))
-    (put-as (c .before .before .before .before .before .name-row .ensures) (c .before .before .put-row .ensures)) (c .before .before .put-row .kept .0) (omega (arith, past-at (name-at .1) (value .1)))
+    (put-row-as (c .before .before .before .before .before .name-row .ensures) (c .before .before .put-row .ensures)) (c .before .before .put-row .kept .0) (omega (arith, past-at (name-at .1) (value .1)))
 
 same-length : tie.Need-same-length Inv-loop μ-loop
 same-length c = c .before .before .before .before .before .loop .inv .wide

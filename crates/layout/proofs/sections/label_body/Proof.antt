@@ -1,7 +1,7 @@
 -- A name, a count, then the labels. Assumes nothing.
 use native.Mathlib.Omega.{arith}
 use mathlib.Core.Path.{sym, _∙_}
-use Rattle.table.specs.ReadingLaws.{ran-is, ran-on, ran-on-no, ran-row, put-as}
+use Rattle.table.specs.ReadingLaws.{ran-is, ran-on, ran-on-no, ran-row, put-row-as}
 use Rattle.numbers.specs.NumberLaws.{past-at}
 use Rattle.layout.proofs.Laws.{label-is}
 use borrow.Author.Needs.{needs}
@@ -19,7 +19,7 @@ labels-requires c κs =
 returns : tie.Need-returns
 returns c = (
   ran-is (label-is _ _) (ran-on _ (sym (c .before .before .before .before .before .before .before .before .before .before .before .before .before .before .before .before .before .before .name-at .ensures .0) ∙ c .before .before .before .before .before .before .before .before .before .before .before .before .before .before .before .before .len .given .1) (ran-on _ (sym (c .before .before .before .before .before .before .before .before .before .before .before .before .before .before .u16-at .ensures .0) ∙ c .before .before .before .before .before .before .before .before .before .before .before .before .count .given .1)
-      (ran-row (put-as (c .before .before .before .before .before .before .before .before .before .before .label-def-row .ensures) (c .before .before .before .before .before .before .before .put-row .ensures)) (c .before .before .labels .ensures .0)))),
+      (ran-row (put-row-as (c .before .before .before .before .before .before .before .before .before .before .label-def-row .ensures) (c .before .before .before .before .before .before .before .put-row .ensures)) (c .before .before .labels .ensures .0)))),
   c .before .before .labels .ensures .1,
 )
 

@@ -2,7 +2,7 @@
 use native.Mathlib.Omega.{arith}
 use borrow.Author.Needs.{needs}
 use mathlib.Core.Path.{sym, _∙_}
-use Rattle.table.specs.ReadingLaws.{ran-is, ran-on, ran-on-no, ran-row, put-as}
+use Rattle.table.specs.ReadingLaws.{ran-is, ran-on, ran-on-no, ran-row, put-row-as}
 use Rattle.numbers.specs.NumberLaws.{past-at}
 use Rattle.layout.proofs.Laws.{record-is}
 use Rattle.layout.proofs.sections.record_body.Statement.{statement}
@@ -25,7 +25,7 @@ returns c =
     ran-is (record-is _ _) (ran-on _ (sym (c .before .before .before .before .before .before .before .before .before .before .before .before .before .before .before .before .before .before .before .before .before .record-head .ensures .0) ∙ c .before .before .before .before .before .before .before .before .before .before .before .before .before .before .before .before .before .before .before .p .given .1)
     (ran-on _ (sym (c .before .before .before .before .before .before .before .before .before .before .before .before .before .before .before .before .before .name-at .ensures .0) ∙ c .before .before .before .before .before .before .before .before .before .before .before .before .before .before .before .len .given .1)
     (ran-on _ (sym (c .before .before .before .before .before .before .before .before .before .before .before .before .before .u16-at .ensures .0) ∙ c .before .before .before .before .before .before .before .before .before .before .before .count .given .1)
-    (ran-row (put-as (c .before .before .before .before .before .before .before .before .before .record-row .ensures) (c .before .before .before .before .before .before .put-row .ensures)) (c .before .before .fields .ensures)))))
+    (ran-row (put-row-as (c .before .before .before .before .before .before .before .before .before .record-row .ensures) (c .before .before .before .before .before .before .put-row .ensures)) (c .before .before .fields .ensures)))))
 
 returns-2 : tie.Need-returns-2
 returns-2 c = ran-is (record-is _ _) (ran-on _ (sym (c .before .before .before .before .before .before .before .before .before .before .before .record-head .ensures .0) ∙ c .before .before .before .before .before .before .before .before .before .p .given .1) (ran-on _ (sym (c .before .before .before .before .before .before .before .name-at .ensures .0) ∙ c .before .before .before .before .before .len .given .1) (ran-on-no _ (sym (c .before .before .before .u16-at .ensures .0) ∙ c .before .why .given .1))))

@@ -3,6 +3,7 @@ use native.Mathlib.Omega.{arith}
 use borrow.Author.Needs.{needs}
 use mathlib.Core.Path.{refl, sym, _∙_}
 use mathlib.Core.List.{[]}
+use Rattle.table.specs.Table.{putRow}
 use Rattle.numbers.specs.NumberLaws.{part-place}
 use Rattle.wire.specs.SectionLaws.{lies-at}
 use Rattle.table.specs.PartLaws.{part-room, part-few}
@@ -15,7 +16,7 @@ use Rattle.layout.proofs.sections.sections.Statement.{statement}
 use Rattle.layout.proofs.sections.sections.Tie as tie
 
 abbrev Inv-loop : tie.InvT-loop
-Inv-loop kind s at count table₀ n marks₀ todo₀ p₀ k₀ table marks todo p k = Going 9 0 s (sectionsAt kind count s at) n table₀ (sectionsAt kind todo s p) p k table × Marks marks []
+Inv-loop kind s at count table₀ n marks₀ todo₀ p₀ k₀ table marks todo p k = Going (putRow 9) 0 s (sectionsAt kind count s at) n table₀ (sectionsAt kind todo s p) p k table × Marks marks []
 
 abbrev μ-loop : tie.MeasureT-loop
 μ-loop kind s at count table₀ n marks₀ todo₀ p₀ k₀ table marks todo p k = todo

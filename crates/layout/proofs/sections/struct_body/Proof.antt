@@ -3,7 +3,7 @@ use native.Mathlib.Omega.{arith}
 use mathlib.Core.Path.{sym, _∙_}
 use Rattle.numbers.specs.NumberLaws.{past-at}
 use Rattle.layout.proofs.Laws.{struct-is}
-use Rattle.table.specs.ReadingLaws.{ran-is, ran-on, ran-on-no, ran-row, put-as}
+use Rattle.table.specs.ReadingLaws.{ran-is, ran-on, ran-on-no, ran-row, put-row-as}
 use borrow.Author.Needs.{needs}
 use Rattle.layout.proofs.sections.struct_body.Statement.{statement}
 use Rattle.layout.proofs.sections.struct_body.Tie as tie
@@ -25,7 +25,7 @@ returns c =
     ran-is (struct-is _ _) (ran-on _ (sym (c .before .before .before .before .before .before .before .before .before .before .before .before .before .before .before .before .before .before .before .before .before .u16-at .ensures .0) ∙ c .before .before .before .before .before .before .before .before .before .before .before .before .before .before .before .before .before .before .before .size .given .1)
     (ran-on _ (sym (c .before .before .before .before .before .before .before .before .before .before .before .before .before .before .before .before .before .name-at .ensures .0) ∙ c .before .before .before .before .before .before .before .before .before .before .before .before .before .before .before .len .given .1)
     (ran-on _ (sym (c .before .before .before .before .before .before .before .before .before .before .before .before .before .u16-at2 .ensures .0) ∙ c .before .before .before .before .before .before .before .before .before .before .before .count .given .1)
-    (ran-row (put-as (c .before .before .before .before .before .before .before .before .before .struct-row .ensures) (c .before .before .before .before .before .before .put-row .ensures)) (c .before .before .fields .ensures)))))
+    (ran-row (put-row-as (c .before .before .before .before .before .before .before .before .before .struct-row .ensures) (c .before .before .before .before .before .before .put-row .ensures)) (c .before .before .fields .ensures)))))
 
 returns-2 : tie.Need-returns-2
 returns-2 c = ran-is (struct-is _ _) (ran-on _ (sym (c .before .before .before .before .before .before .before .before .before .before .before .u16-at .ensures .0) ∙ c .before .before .before .before .before .before .before .before .before .size .given .1) (ran-on _ (sym (c .before .before .before .before .before .before .before .name-at .ensures .0) ∙ c .before .before .before .before .before .len .given .1) (ran-on-no _ (sym (c .before .before .before .u16-at2 .ensures .0) ∙ c .before .why .given .1))))

@@ -5,7 +5,7 @@ use Prim.Native.Nat.{_/_}
 use borrow.Author.Needs.{needs}
 use Rattle.dates.specs.Months.{Right, monthsAfter}
 use Rattle.dates.specs.MonthLaws.{day-right, right-after}
-use Rattle.table.specs.ReadingLaws.{put-as, put-not}
+use Rattle.table.specs.ReadingLaws.{put-as, columns-not}
 use Rattle.text.specs.Trim.{trimmedLen}
 use Rattle.symbology.specs.SymbologyRows.{row6}
 use Rattle.symbology.proofs.mappings.put_interval.Statement.{statement}
@@ -21,7 +21,7 @@ returns c =
     )
 
 returns-2 : tie.Need-returns-2
-returns-2 c = (record { is = put-not _ _ _ _ (c .if1 .left) }, c .before .before .before .pre .1)
+returns-2 c = (record { is = columns-not _ _ _ _ (c .if1 .left) }, c .before .before .before .pre .1)
 
 pub put-interval-spec : {M : Type 1} → statement M
 put-interval-spec =
