@@ -13,9 +13,9 @@
  * writing (store, symbology, layout, rows, output, out, where they are not const) overlaps no other buffer of the call; two that are
  * only read may. size_t has 64 bits. Nothing is kept after a call, nothing is allocated, and any number of threads may call at once.
  *
- * What is written. Rows past the last one, output past the written length and the store past the bytes held are untouched. `out` is
- * written only as said here, and what is not named keeps its value. A refusal leaves tables and output as they were; only the
- * store of dbn_feed and of dbn_frame keeps the bytes it took, and a refusal by 3 tells the rows needed.
+ * What is written. Cells of a table that are none of its rows', output past the written length and the store past the bytes held are
+ * untouched. `out` is written only as said here, and what is not named keeps its value. A refusal leaves tables and output as they were;
+ * only the store of dbn_feed and of dbn_frame keeps the bytes it took, and a refusal by 3 tells the rows needed.
  *
  * Names. A dataset or symbol comes without the NULs that fill its width, and holds none: after a NUL only NULs may follow. One that is as
  * long as its width has no NUL after it, so go by its length and not to the next NUL. A layout's names hold no NUL, and one follows each.
@@ -47,7 +47,7 @@
 
 /* The version of this header, major x 10000 + minor x 100 + patch. */
 #define DBN_START_VERSION_MAJOR 0
-#define DBN_START_VERSION_MINOR 8
+#define DBN_START_VERSION_MINOR 9
 #define DBN_START_VERSION_PATCH 0
 #define DBN_START_VERSION (DBN_START_VERSION_MAJOR * 10000 + DBN_START_VERSION_MINOR * 100 + DBN_START_VERSION_PATCH)
 
@@ -171,12 +171,42 @@ enum dbn_sheet {
 };
 
 /* Numbers in a row, and the kinds of rows, which are a row's first number. Unused numbers are 0. Starts count from the block for
- * symbology rows and from the layout for layout rows. A table of n numbers has room for n / DBN_SYMBOLOGY_ROW or n / DBN_LAYOUT_ROW rows. */
+ * symbology rows and from the layout for layout rows. A table of n numbers has room for n / DBN_SYMBOLOGY_ROW or n / DBN_LAYOUT_ROW rows,
+ * rounded down; n need not be a multiple. Layout rows stand one after the other, and symbology rows in columns. */
 enum dbn_row { DBN_SYMBOLOGY_ROW = 6, DBN_LAYOUT_ROW = 9 };
 
-/* The kinds of symbology rows, and the numbers after the kind. The sixth number, row[5], is the row's owner: of an interval the index of its
- * mapping's row, of every other row its own index. Indexes count from 0 in the table. So an interval's mapping is found at once, and only
- * intervals of that mapping stand between the two. */
+/* The columns of a symbology table: first every kind, then every start, and so on. Each is h cells high, where h is the rows that the
+ * table has room for, and not those that were read. A table of 26 numbers has h = 4, and three rows in it stand at these indexes:
+ *
+ *                 kind   start  length       x       y   owner
+ *             +-------+-------+-------+-------+-------+-------+
+ *     row 0   |     0 |     4 |     8 |    12 |    16 |    20 |
+ *     row 1   |     1 |     5 |     9 |    13 |    17 |    21 |   written
+ *     row 2   |     2 |     6 |    10 |    14 |    18 |    22 |
+ *             + - - - + - - - + - - - + - - - + - - - + - - - +
+ *             |     3 |     7 |    11 |    15 |    19 |    23 |   untouched: past the last row of each column
+ *             +-------+-------+-------+-------+-------+-------+
+ *                  24      25                                     untouched: after the six columns
+ *
+ * So number c of row r stands at c * h + r, which dbn_symbology_cell gives, and every start stands from symbology + DBN_COLUMN_START * h on, in
+ * the order of the rows. */
+enum dbn_symbology_column {
+    DBN_COLUMN_KIND = 0,
+    DBN_COLUMN_START = 1,
+    DBN_COLUMN_LENGTH = 2,
+    DBN_COLUMN_X = 3,
+    DBN_COLUMN_Y = 4,
+    DBN_COLUMN_OWNER = 5
+};
+
+/* Where a number of a row stands in a symbology table of n numbers, for a row that the table has room for. */
+static inline size_t dbn_symbology_cell(size_t n, size_t row, enum dbn_symbology_column column) {
+    return (size_t)column * (n / DBN_SYMBOLOGY_ROW) + row;
+}
+
+/* The kinds of symbology rows, and the numbers after the kind: start, length, x, y and owner. The owner of an interval is the index of its
+ * mapping's row, and of every other row its own index. Indexes count from 0. So an interval's mapping is found at once, and only intervals
+ * of that mapping stand between the two. */
 enum dbn_symbology_kind {
     DBN_KIND_SYMBOL = 0,    /* start, length, 0, 0, owner */
     DBN_KIND_PARTIAL = 1,   /* start, length, 0, 0, owner */
@@ -263,9 +293,9 @@ uint32_t dbn_day(uint32_t day, uint64_t out[1]);
  * and out = {0, version, block length, 0}. Bytes past the eighth are not looked at. */
 uint32_t dbn_prelude(const uint8_t *s, size_t n, uint64_t out[4]);
 
-/* Reads a block given whole (the bytes after the prelude), its rows into the tables of sn and ln numbers. 0: out[0] to out[12] as enum
- * dbn_out names them, and out[13] to out[15] are 0. 3: out[DBN_OUT_SYMBOLOGY_ROWS] and out[DBN_OUT_LAYOUT_ROWS] are the rows needed.
- * 20 to 55: out[DBN_OUT_PLACE] is the place in the block. 11: it is 3, where a prelude has the version. */
+/* Reads a block given whole (the bytes after the prelude), its rows into the tables of sn and ln numbers, those of symbology in columns. 0:
+ * out[0] to out[12] as enum dbn_out names them, and out[13] to out[15] are 0. 3: out[DBN_OUT_SYMBOLOGY_ROWS] and out[DBN_OUT_LAYOUT_ROWS] are
+ * the rows needed. 20 to 55: out[DBN_OUT_PLACE] is the place in the block. 11: it is 3, where a prelude has the version. */
 uint32_t dbn_block(uint8_t version, const uint8_t *block, size_t n, const uint16_t sheet[520], uint32_t *symbology, size_t sn,
                    uint32_t *layout, size_t ln, uint64_t out[16]);
 
@@ -301,7 +331,10 @@ uint32_t dbn_layout_plain(const uint8_t *layout, size_t n, uint16_t width, const
 uint32_t dbn_write_layout(const uint32_t *rows, size_t rn, const uint8_t *text, size_t tn, uint16_t version, uint16_t width,
                           const uint16_t sheet[520], uint8_t *output, size_t on, uint64_t out[16]);
 
-/* The text of symbology row `index`, as a part of the block. 0: out = {start, length}. 90: out = {0, 0}. */
+/* The text of symbology row `index`, as a part of the block. `rows` is the table as it was lent and rn its whole length, which tells the
+ * height of its columns: a front part of it is another table. 0: out = {start, length}. 90: out = {0, 0}, for a row that the table has no room
+ * for, what is no kind, or a span outside the block. The function is not told how many rows were read: a row past the last is what the caller's
+ * table held. */
 uint32_t dbn_symbology_name(const uint8_t *block, size_t n, const uint32_t *rows, size_t rn, uint64_t index, uint64_t out[2]);
 
 /* The text of layout row `index`, as a part of the layout. 0: out = {start, length}. 90: out = {0, 0}. */

@@ -15,12 +15,12 @@
 #define MOST_BYTES ((size_t)1 << 24)
 #define MOST_ROWS ((uint64_t)1 << 20)
 
-/* A stream start as it comes: the bytes held, and the table of its rows. It has no layout below version 4. */
+/* A stream start as it comes: the bytes held, and the symbology table, of so many numbers. It has no layout below version 4. */
 struct start {
     uint8_t *store;
     size_t length;
     uint64_t held;
-    uint32_t *rows;
+    uint32_t *table;
     size_t numbers;
     uint64_t out[20];
 };
@@ -28,7 +28,7 @@ struct start {
 static const uint16_t no_types[DBN_SHEET] = {0};
 
 static uint32_t feed(struct start *s, const uint8_t *piece, size_t n) {
-    uint32_t number = dbn_feed(s->held, s->store, s->length, piece, n, no_types, s->rows, s->numbers, NULL, 0, s->out);
+    uint32_t number = dbn_feed(s->held, s->store, s->length, piece, n, no_types, s->table, s->numbers, NULL, 0, s->out);
     s->held = s->out[DBN_OUT_HELD];
     return number;
 }
@@ -59,11 +59,11 @@ static uint32_t longer_store(struct start *s) {
 static uint32_t longer_table(struct start *s) {
     uint64_t rows = s->out[DBN_OUT_SYMBOLOGY_ROWS];
     size_t numbers = (size_t)rows * DBN_SYMBOLOGY_ROW;
-    uint32_t *table = rows <= MOST_ROWS ? (uint32_t *)realloc(s->rows, numbers * sizeof *table) : NULL;
+    uint32_t *table = rows <= MOST_ROWS ? (uint32_t *)realloc(s->table, numbers * sizeof *table) : NULL;
     if (table == NULL) {
         return DBN_REFUSED_TABLE_SHORT;
     }
-    s->rows = table;
+    s->table = table;
     s->numbers = numbers;
     return DBN_ACCEPTED;
 }
@@ -108,6 +108,11 @@ static unsigned date(uint32_t day) {
     return (unsigned)out[DBN_DAY_DATE];
 }
 
+/* A number of a row, from its column. */
+static uint32_t cell(const struct start *s, size_t row, enum dbn_symbology_column column) {
+    return s->table[dbn_symbology_cell(s->numbers, row, column)];
+}
+
 static void show(const struct start *s) {
     const uint8_t *block = s->store + 8;
     size_t n = (size_t)s->held - 8;
@@ -115,15 +120,15 @@ static void show(const struct start *s) {
     text(block, (size_t)s->out[DBN_OUT_DATASET_LENGTH]);
     printf(", %llu rows\n", (unsigned long long)s->out[DBN_OUT_SYMBOLOGY_ROWS]);
     static const char *const kinds[] = {"symbol ", "partial ", "not found ", "mapping ", "  "};
-    for (uint64_t i = 0; i < s->out[DBN_OUT_SYMBOLOGY_ROWS]; i++) {
-        const uint32_t *row = s->rows + i * DBN_SYMBOLOGY_ROW;
+    for (size_t row = 0; row < s->out[DBN_OUT_SYMBOLOGY_ROWS]; row++) {
+        uint32_t kind = cell(s, row, DBN_COLUMN_KIND);
         uint64_t name[2];
-        if (dbn_symbology_name(block, n, s->rows, s->numbers, i, name) != DBN_ACCEPTED) {
+        if (dbn_symbology_name(block, n, s->table, s->numbers, row, name) != DBN_ACCEPTED) {
             abort(); /* every row of an accepted block has a name */
         }
-        printf("%s", kinds[row[0]]);
-        if (row[0] == DBN_KIND_INTERVAL) {
-            printf("%u to %u: ", date(row[3]), date(row[4]));
+        printf("%s", kinds[kind]);
+        if (kind == DBN_KIND_INTERVAL) {
+            printf("%u to %u: ", date(cell(s, row, DBN_COLUMN_X)), date(cell(s, row, DBN_COLUMN_Y)));
         }
         text(block + name[DBN_NAME_START], (size_t)name[DBN_NAME_LENGTH]);
         putchar('\n');
@@ -209,6 +214,6 @@ int main(int argc, char **argv) {
     setvbuf(file, NULL, _IONBF, 0);
     int status = run(file, &s);
     free(s.store);
-    free(s.rows);
+    free(s.table);
     return status;
 }

@@ -1,6 +1,6 @@
 //! The comparison: generated, damaged and cut inputs, the C functions' answers beside the crate's.
 use crate::{
-    after_nul, aimed, calls,
+    after_nul, aimed, calls, columns,
     gen::{self, Rng, Sheet},
     of_crate::{Answer, Build, BUILDS},
     ours,
@@ -482,15 +482,14 @@ fn feed_paper(wanted: &mut calls::FeedAnswer, held: u64, piece: &[u8], sheet: &S
 /// Puts what a whole start comes to into the answer that is wanted: its values and rows, or 3 and the rows needed.
 fn read_rows(wanted: &mut calls::FeedAnswer, held: usize) -> Answer {
     let values = crate::walk::block(wanted.store[3], &wanted.store[8..held]);
-    let (s, l) = (values.symbology.concat(), values.layout.concat());
     if wanted.symbology.len() / ROW < values.symbology.len() || wanted.layout.len() / 9 < values.layout.len() {
         wanted.number = 3;
         wanted.out[10..12].copy_from_slice(&[values.symbology.len() as u64, values.layout.len() as u64]);
         return Answer::Refused(3, None);
     }
     wanted.out[..16].copy_from_slice(&values.out());
-    wanted.symbology[..s.len()].copy_from_slice(&s);
-    wanted.layout[..l.len()].copy_from_slice(&l);
+    wanted.symbology = columns::filled(&wanted.symbology, &values.symbology);
+    wanted.layout[..9 * values.layout.len()].copy_from_slice(values.layout.as_flattened());
     Answer::Accepted(Box::default())
 }
 

@@ -17,6 +17,8 @@ mod walk;
 mod bench_shapes;
 #[path = "../../relay/fuzz/calls.rs"]
 mod calls;
+#[path = "../../relay/fuzz/columns.rs"]
+mod columns;
 #[path = "../../relay/fuzz/gen.rs"]
 mod gen;
 

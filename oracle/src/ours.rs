@@ -1,6 +1,6 @@
 //! What the C functions answer, held to their own form: what a refusal leaves, what `out` names, where rows end.
 use crate::{
-    calls,
+    calls, columns,
     gen::{Rng, Sheet},
     of_crate::Answer,
     walk::{Values, ROW},
@@ -46,7 +46,7 @@ fn values(out: &[u64], symbology: &[u32], layout: &[u32]) -> Values {
         ts_out: out[7] != 0,
         width: out[8] as usize,
         layout_version: out[9] as u16,
-        symbology: symbology[..out[10] as usize * ROW].chunks(ROW).map(|row| row.try_into().unwrap()).collect(),
+        symbology: columns::rows(symbology, out[10] as usize),
         layout: layout[..out[11] as usize * 9].chunks(9).map(|row| row.try_into().unwrap()).collect(),
     }
 }
@@ -72,7 +72,7 @@ pub fn feed(r: &mut Rng, stream: &[u8], cuts: &[usize], sheet: &Sheet) -> Vec<An
         };
         if let Answer::Accepted(values) = &answer {
             let block = &stream[8..8 + declared];
-            if let Err(text) = names(r, block, values) {
+            if let Err(text) = names(r, block, &fed.symbology, values) {
                 answers.push(Answer::Odd(text));
                 break;
             }
@@ -99,7 +99,7 @@ pub fn block(r: &mut Rng, version: u8, block: &[u8], sheet: &Sheet) -> Answer {
         return if kept { refused(a.number, &a.out) } else { Answer::Odd("tables or out after a refusal".into()) };
     }
     let [s, l] = rows;
-    let past = a.symbology[s * ROW..] == symbology[s * ROW..] && a.layout[l * 9..] == layout[l * 9..];
+    let past = columns::kept(&a.symbology, &symbology, s) && a.layout[l * 9..] == layout[l * 9..];
     let values = values(&a.out, &a.symbology, &a.layout);
     if !past || a.out[10..12] != [s as u64, l as u64] || values.out() != a.out {
         return Answer::Odd("rows needed and given, past the last row, or numbers of what is absent".into());
@@ -128,7 +128,7 @@ fn fed_answer(
     if fed.number == 0 && needed == 0 {
         let [s, l] = rows;
         need(fed.out[10..12] == [s as u64, l as u64], "the rows needed and the rows given")?;
-        need(fed.symbology[s * ROW..] == symbology[s * ROW..], "past the last symbology row")?;
+        need(columns::kept(&fed.symbology, symbology, s), "past the last row of a column, or after the columns")?;
         need(fed.layout[l * 9..] == layout[l * 9..], "past the last layout row")?;
         let values = values(&fed.out, &fed.symbology, &fed.layout);
         need(values.out() == fed.out[..16], "numbers of what is absent")?;
@@ -145,25 +145,27 @@ fn fed_answer(
     }
 }
 
-/// Names of some rows: the span that the row has, in the block or in its layout.
-fn names(r: &mut Rng, block: &[u8], values: &Values) -> Result<(), String> {
-    let symbology: Vec<u32> = values.symbology.concat();
+/// Names of some rows: the span that the row has, in the block or in its layout. The symbology table is the one that was lent.
+fn names(r: &mut Rng, block: &[u8], symbology: &[u32], values: &Values) -> Result<(), String> {
     let layout: Vec<u32> = values.layout.concat();
     let part =
         if values.layout_version == 0 && layout.is_empty() { &[][..] } else { crate::of_crate::layout_of(block) };
-    for (bytes, rows, width) in [(block, &symbology, ROW), (part, &layout, 9)] {
-        let count = rows.len() / width;
-        for _ in 0..2.min(count) {
-            let index = r.below(count);
-            let row = &rows[index * width..][..width];
-            let wanted = if row[0] == 11 { (90, [0, 0]) } else { (0, [row[1] as u64, row[2] as u64]) };
-            if calls::name(bytes, rows, width, index as u64) != wanted {
-                return Err(format!("the name of row {index}"));
-            }
+    names_of(r, block, symbology, &values.symbology)?;
+    names_of(r, part, &layout, &values.layout)
+}
+
+/// Names of some of the rows that a table has, each of N numbers, and of the first that it cannot hold.
+fn names_of<const N: usize>(r: &mut Rng, bytes: &[u8], table: &[u32], rows: &[[u32; N]]) -> Result<(), String> {
+    for _ in 0..2.min(rows.len()) {
+        let index = r.below(rows.len());
+        let row = &rows[index];
+        let wanted = if row[0] == 11 { (90, [0, 0]) } else { (0, [row[1] as u64, row[2] as u64]) };
+        if calls::name(bytes, table, N, index as u64) != wanted {
+            return Err(format!("the name of row {index}"));
         }
-        if calls::name(bytes, rows, width, count as u64) != (90, [0, 0]) {
-            return Err("a name past the table".into());
-        }
+    }
+    if calls::name(bytes, table, N, (table.len() / N) as u64) != (90, [0, 0]) {
+        return Err("a name past the table".into());
     }
     Ok(())
 }

@@ -202,15 +202,15 @@ pub fn write(
     WriteAnswer { number, out: values.content("out").try_into().unwrap(), output: bytes.content("the output").to_vec() }
 }
 
-/// The number and {start, length} for the name of a row: of symbology or of a layout, by how many numbers a row has.
-pub fn name(bytes: &[u8], rows: &[u32], width: usize, index: u64) -> (u32, [u64; 2]) {
-    let (lent, table) = (Lent::new(bytes), Lent::new(rows));
+/// The number and {start, length} for the name of a row in a whole table: of symbology or of a layout, by how many numbers a row has.
+pub fn name(bytes: &[u8], table: &[u32], width: usize, index: u64) -> (u32, [u64; 2]) {
+    let (lent, rows) = (Lent::new(bytes), Lent::new(table));
     let mut values = Lent::new(&[77u64, 78]);
     let call = if width == ffi::SYMBOLOGY_ROW { ffi::dbn_symbology_name } else { ffi::dbn_layout_name };
     // SAFETY: every pointer is to a buffer of the given length, and no two overlap.
-    let number = unsafe { call(lent.at(), bytes.len(), table.at(), rows.len(), index, values.at_mut().cast()) };
+    let number = unsafe { call(lent.at(), bytes.len(), rows.at(), table.len(), index, values.at_mut().cast()) };
     lent.unchanged("the bytes", bytes);
-    table.unchanged("the rows", rows);
+    rows.unchanged("the table", table);
     (number, values.content("out").try_into().unwrap())
 }
 

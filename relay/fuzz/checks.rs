@@ -1,9 +1,9 @@
 //! What must hold of every answer.
 use super::{
     calls::{self, FeedAnswer},
-    days,
+    columns, days,
     gen::{self, Rng, Sheet},
-    owners, texts, Count,
+    names, owners, texts, Count,
 };
 use dbn_start::ffi::SYMBOLOGY_ROW;
 
@@ -76,7 +76,7 @@ fn tables(r: &mut Rng, rows: (usize, usize)) -> (usize, usize, bool) {
         0 if s > 0 => (s - 1 - r.below(SYMBOLOGY_ROW), l + r.below(20), false),
         1 if l > 0 => (s + r.below(20), l - 1 - r.below(l.min(9)), false),
         2 => (s, l, true),
-        _ => (s + r.below(12), l + r.below(20), true),
+        _ => (s + r.below(40), l + r.below(20), true),
     }
 }
 
@@ -108,9 +108,6 @@ pub fn stream(r: &mut Rng, sheet: &Sheet, count: &mut Count) {
     other_tables(&bare, &whole, enough);
     if (whole.number, whole.out[18]) == (0, 0) {
         assert_eq!((whole.out[10] as usize, whole.out[11] as usize), rows, "rows given are the rows needed");
-        let last = rows.0 * SYMBOLOGY_ROW;
-        assert_eq!(whole.symbology[last..], symbology[last..], "past the last symbology row");
-        assert_eq!(whole.layout[rows.1 * 9..], layout[rows.1 * 9..], "past the last layout row");
     }
     cut(r, &bytes, sheet, &store, &symbology, &layout, &whole, count);
     if bytes.len() >= 8 && room >= 8 {
@@ -161,12 +158,21 @@ fn fed(a: &FeedAnswer, held: usize, store: &[u8], piece: &[u8], symbology: &[u32
     if a.number != 0 || waits {
         assert_eq!(a.symbology, symbology, "symbology table after {}", a.number);
         assert_eq!(a.layout, layout, "layout table after {}", a.number);
+    } else {
+        only_rows(&a.out, [&a.symbology, symbology], [&a.layout, layout]);
     }
     let named = if waits { 0..0 } else { named(a.number) };
     for i in (0..16).filter(|i| !named.contains(i)) {
         assert_eq!(a.out[i], out[i], "out[{i}] after {}", a.number);
     }
     placed(a.number, a.out[PLACE], now.saturating_sub(8), a.store.get(3).copied().filter(|_| now >= 8));
+}
+
+/// The tables of an accepted block, each beside what was lent: no cell was written that is none of its rows'.
+fn only_rows(out: &[u64], [symbology, lent]: [&[u32]; 2], [layout, before]: [&[u32]; 2]) {
+    let (count, end) = (out[10] as usize, out[11] as usize * 9);
+    assert!(columns::kept(symbology, lent, count), "past the last row of a column, or after the columns");
+    assert_eq!(layout[end..], before[end..], "past the last layout row");
 }
 
 /// The same stream in pieces: the end is the same, and every count needed is the least.
@@ -304,13 +310,14 @@ fn block(
         texts::refused(version, block, a.number, a.out[PLACE]);
         return within(version, block, sheet, &out, a.number, a.out[PLACE]);
     }
-    texts::accepted(r, version, block, sheet, &a);
-    let (sn, ln) = (a.out[10] as usize * SYMBOLOGY_ROW, a.out[11] as usize * 9);
-    days::accepted(block, &a.symbology[..sn]);
-    owners::accepted(&a.symbology[..sn]);
-    names(r, block, &a.symbology[..sn], SYMBOLOGY_ROW);
+    let [count, items] = [10, 11].map(|place| a.out[place] as usize);
+    let rows = columns::rows(&a.symbology, count);
+    texts::accepted(r, version, block, sheet, &a, &rows);
+    days::accepted(block, &rows);
+    owners::accepted(&rows);
+    names::accepted(r, block, &a.symbology, SYMBOLOGY_ROW, count);
     if version < 4 {
-        assert_eq!((a.out[9], ln), (0, 0), "no layout below version 4");
+        assert_eq!((a.out[9], items), (0, 0), "no layout below version 4");
         return;
     }
     let length = u32::from_le_bytes(block[100..104].try_into().unwrap()) as usize;
@@ -318,7 +325,7 @@ fn block(
     let b = calls::layout(inner, a.out[8] as u16, &sheet.0, layout, &out);
     assert_eq!((b.number, b.out[9], b.out[11]), (0, a.out[9], a.out[11]), "a block's layout");
     assert_eq!(b.rows, a.layout, "the rows of a block's layout");
-    names(r, inner, &a.layout[..ln], 9);
+    names::accepted(r, inner, &a.layout, 9, items);
 }
 
 /// A layout that is refused in a block is refused by itself at the same byte, counted from the layout.
@@ -328,26 +335,6 @@ fn within(version: u8, block: &[u8], sheet: &Sheet, out: &[u64; 16], number: u32
     let width = u16::from_le_bytes([block[67], block[68]]);
     let alone = calls::layout(&block[104..104 + length], width, &sheet.0, &[], out);
     assert_eq!((alone.number, alone.out[PLACE] + 104), (number, place), "a layout in a block and by itself");
-}
-
-/// Every name asked for lies in the bytes and is a text; a row without one, and any other index, gives 90.
-fn names(r: &mut Rng, bytes: &[u8], rows: &[u32], width: usize) {
-    let (count, most) = ((rows.len() / width) as u64, u64::MAX / width as u64);
-    for _ in 0..3 {
-        let beyond = [count, count + 1, u64::MAX, most, most + 1];
-        let index = if r.one_in(4) { r.pick(&beyond) } else { r.next() % (count + 1) };
-        let (number, [start, length]) = calls::name(bytes, rows, width, index);
-        let row = rows.get(index.min(count) as usize * width..).and_then(|x| x.get(..width));
-        match row {
-            Some(row) if row[0] != 11 => {
-                assert_eq!(number, 0, "the name of row {index}");
-                assert_eq!([start, length], [row[1] as u64, row[2] as u64], "the span of row {index}");
-                let text = &bytes[start as usize..(start + length) as usize];
-                assert!(dbn_start::is_text(text) && std::str::from_utf8(text).is_ok(), "a name that is no text");
-            }
-            _ => assert_eq!((number, [start, length]), (90, [0, 0]), "row {index} has no name"),
-        }
-    }
 }
 
 /// One layout: read, written back, and its rows bent and written.
@@ -379,7 +366,7 @@ pub fn layout(r: &mut Rng, sheet: &Sheet, count: &mut Count) {
     assert_eq!(a.rows[rows * 9..], table[rows * 9..], "past the last row");
     let version = a.out[9] as u16;
     let read = &a.rows[..rows * 9];
-    names(r, &bytes, read, 9);
+    names::accepted(r, &bytes, &a.rows, 9, rows);
     write_back(r, sheet, read, &bytes, version, width, count);
     let mut bent = read.to_vec();
     for _ in 0..1 + r.below(2) {
@@ -525,7 +512,7 @@ pub fn anything(r: &mut Rng, sheet: &Sheet, count: &mut Count) {
 
     let version = r.byte() % 7;
     any_block(r, version, &store, sheet, &symbology, &layout, count);
-    any_names(r, &store, count);
+    names::any(r, &store, count);
     let length = r.pick(&[0, 9, 18, 27, 26]);
     let rows = marked(r, length, |x| (x >> 40) as u32 % [3, 16, 300][x as usize % 3]);
     write_any(r, sheet, &rows, &store, version as u16, piece.len() as u16, count);
@@ -556,27 +543,8 @@ fn any_block(
             assert_eq!(b.out[i], out[i], "out[{i}] of a block after {}", b.number);
         }
         placed(b.number, b.out[PLACE], block.len(), Some(version));
+    } else {
+        only_rows(&b.out, [&b.symbology, symbology], [&b.layout, layout]);
     }
     texts::refused(version, block, b.number, b.out[PLACE]);
-}
-
-/// Rows of anything: a span outside gives 90.
-fn any_names(r: &mut Rng, bytes: &[u8], count: &mut Count) {
-    let n = r.below(5);
-    for width in [SYMBOLOGY_ROW, 9] {
-        let length = n * width + r.below(width);
-        let rows = marked(r, length, |x| (x >> 32) as u32 % [20, 200, u32::MAX][x as usize % 3]);
-        let index = r.below(n + 2) as u64;
-        let (number, [start, length]) = calls::name(bytes, &rows, width, index);
-        count.calls += 1;
-        let inside = start.checked_add(length).is_some_and(|end| end <= bytes.len() as u64);
-        assert!(inside && (number == 0 || (number, start, length) == (90, 0, 0)), "a name of any rows");
-        if number == 0 {
-            assert!(index < n as u64, "a name past the table");
-            let row = &rows[index as usize * width..];
-            assert_eq!([start, length], [row[1] as u64, row[2] as u64], "the span of a row");
-            let kinds: &[u32] = if width == SYMBOLOGY_ROW { &[0, 1, 2, 3, 4] } else { &[10, 12, 13, 14, 15] };
-            assert!(kinds.contains(&row[0]), "a name of a row without a text");
-        }
-    }
 }

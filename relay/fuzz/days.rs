@@ -2,13 +2,14 @@
 use super::{
     calls,
     checks::marked_out,
+    columns::Row,
     gen::{self, Rng},
 };
-use dbn_start::ffi::{DAY_LAST, SYMBOLOGY_ROW};
+use dbn_start::ffi::DAY_LAST;
 
 /// The two dates of an interval stand before its symbol. Its row has their numbers, which give the dates back.
-pub fn accepted(block: &[u8], rows: &[u32]) {
-    for row in rows.chunks(SYMBOLOGY_ROW).filter(|row| row[0] == 4) {
+pub fn accepted(block: &[u8], rows: &[Row]) {
+    for row in rows.iter().filter(|row| row[0] == 4) {
         let symbol = row[1] as usize;
         for (place, day) in [(symbol - 8, row[3]), (symbol - 4, row[4])] {
             let date = u32::from_le_bytes(block[place..place + 4].try_into().unwrap());

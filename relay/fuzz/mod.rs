@@ -3,14 +3,17 @@
 //! What is checked needs no second reader: nothing outside what is lent is read or written; a refusal is a number of the table, and leaves tables
 //! and output as they were, and `out` too but for what is named; it has a place where its number has one, within what was given; the answer is the
 //! same however a stream is cut; the count needed is the least that ends the stage; a block, its stream and its layout get the
-//! same answer; names lie within the bytes and hold no NUL, and the rest of their width is NULs, or the text is refused; what is read is
-//! written back, and what is written is read back; an interval has the day numbers of its stored dates, and days and dates turn into each other; an interval
-//! has the row of its mapping, and every other row its own; records stand one after the other, each as long as its first byte says.
+//! same answer; a table is written in the cells of the rows and nowhere else; a name is the span that its row tells, and lies within the bytes; it
+//! holds no NUL, and the rest of its width is NULs, or the text is refused; what is read is written back, and what is written is read back; an
+//! interval has the day numbers of its stored dates, and days and dates turn into each other; an interval has the row of its mapping, and every
+//! other row its own; records stand one after the other, each as long as its first byte says.
 pub mod calls;
 mod checks;
+mod columns;
 mod days;
 mod frames;
 pub mod gen;
+mod names;
 mod owners;
 mod texts;
 

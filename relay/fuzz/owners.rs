@@ -1,10 +1,9 @@
 //! Owners: a row's last number is its own index, but for an interval, which has its mapping's.
-use dbn_start::ffi::SYMBOLOGY_ROW;
+use super::columns::Row;
 
 /// An interval's owner is a mapping before it that has so many intervals, and only intervals of that one stand between. Every other row
 /// owns itself, and a mapping's last interval is the last row that it owns.
-pub fn accepted(rows: &[u32]) {
-    let rows: Vec<&[u32]> = rows.chunks(SYMBOLOGY_ROW).collect();
+pub fn accepted(rows: &[Row]) {
     for (at, row) in rows.iter().enumerate() {
         let (kind, owner) = (row[0], row[5] as usize);
         if kind != 4 {

@@ -1,9 +1,10 @@
 //! The texts of a block: after a NUL only NULs follow, and a text that breaks this is refused at its first byte, by its own number.
 use super::{
     calls::{self, BlockAnswer},
+    columns::Row,
     gen::{Rng, Sheet},
 };
-use dbn_start::ffi::{PLACE, SYMBOLOGY_ROW};
+use dbn_start::ffi::PLACE;
 
 /// A text of an accepted block: its first byte, the length of its name, its width, and the two numbers that refuse it, as no UTF-8
 /// and for what comes after a NUL.
@@ -38,11 +39,11 @@ pub fn refused(version: u8, block: &[u8], number: u32, place: u64) {
 }
 
 /// Every name of an accepted block holds no NUL, and the rest of its width is NULs. One of its texts is then spoiled.
-pub fn accepted(r: &mut Rng, version: u8, block: &[u8], sheet: &Sheet, a: &BlockAnswer) {
+pub fn accepted(r: &mut Rng, version: u8, block: &[u8], sheet: &Sheet, a: &BlockAnswer, rows: &[Row]) {
     let [dataset, symbol] = widths(version, block);
     assert_eq!(a.out[8] as usize, symbol, "the symbol width");
     let mut texts = vec![Text { start: 0, length: a.out[0] as usize, width: dataset, numbers: [20, 29] }];
-    for row in a.symbology[..a.out[10] as usize * SYMBOLOGY_ROW].chunks(SYMBOLOGY_ROW) {
+    for row in rows {
         let numbers = [[32, 41], [32, 41], [32, 41], [36, 42], [40, 43]][row[0] as usize];
         texts.push(Text { start: row[1] as usize, length: row[2] as usize, width: symbol, numbers });
     }

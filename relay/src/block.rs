@@ -1,8 +1,8 @@
 use crate::{
-    ffi::{self, LAYOUT_ROW, SYMBOLOGY_ROW},
+    ffi::{self, LAYOUT_ROW},
     promise,
     symbology::Symbology,
-    text, Day, Interval, Layout, Mapping, Refusal, RefusalKind, Sheet, Tables,
+    text, Columns, Day, Interval, Layout, Mapping, Refusal, RefusalKind, Sheet, Tables,
 };
 use std::fmt;
 
@@ -103,7 +103,7 @@ impl<'a> Block<'a> {
             bytes,
             fields,
             dataset: text(&bytes[..dataset]),
-            symbology: Symbology::accepted(bytes, &tables.symbology[..symbology * SYMBOLOGY_ROW]),
+            symbology: Symbology::accepted(bytes, &tables.symbology, symbology),
             layout: &tables.layout[..layout * LAYOUT_ROW],
         }
     }
@@ -128,9 +128,27 @@ impl<'a> Block<'a> {
         self.dataset
     }
 
-    /// The symbology rows, six numbers each. The last is the row's owner: of an interval the index of its mapping's row, of every other
-    /// row its own index.
-    pub fn rows(&self) -> impl ExactSizeIterator<Item = &'a [u32; 6]> + use<'a> {
+    /// The symbology by column, as the library stores it: every kind, every start, every length, and so on. Nothing is copied.
+    ///
+    /// ```
+    /// use dbn_start::{Block, Tables};
+    /// // A block of version 3 with symbols of 6 bytes: two that were asked for, two empty lists and no mappings.
+    /// let mut bytes = vec![0; 104];
+    /// bytes[45] = 6;
+    /// bytes.extend(b"\x02\0\0\0ES.c.0ESH3\0\0");
+    /// bytes.extend([0; 12]);
+    /// let mut tables = Tables::default();
+    /// let block = Block::read(3, &bytes, None, &mut tables).expect("an accepted block");
+    /// let columns = block.columns();
+    /// assert_eq!((columns.starts, columns.lengths), (&[108, 114][..], &[6, 4][..]));
+    /// assert_eq!(block.rows().next(), Some([0, 108, 6, 0, 0, 0]));
+    /// ```
+    pub fn columns(&self) -> Columns<'a> {
+        self.symbology.columns()
+    }
+
+    /// The symbology rows, put together from the [columns](Self::columns): kind, start, length, x, y and owner of each.
+    pub fn rows(&self) -> impl ExactSizeIterator<Item = [u32; 6]> + use<'a> {
         self.symbology.rows()
     }
 

@@ -9,9 +9,12 @@ pub const SHEET: usize = 520;
 
 /// Numbers in one row of symbology: kind, start, length, x, y and owner. The owner of an interval is the index of its mapping's row, and
 /// of every other row its own index.
+///
+/// A table of n numbers has six columns, each n / 6 rows high: number c of row r stands at c * (n / 6) + r. A call writes no cell past the
+/// last row of a column, nor any after the six columns.
 pub const SYMBOLOGY_ROW: usize = 6;
 
-/// Numbers in one row of a layout.
+/// Numbers in one row of a layout. The rows of a table stand one after the other.
 pub const LAYOUT_ROW: usize = 9;
 
 /// Where `out` has the place of a refusal that has one, 10 to 12 and 20 to 55. After any other refusal it keeps its value.
@@ -116,7 +119,8 @@ extern "C" {
         out: *mut [u64; 16],
     ) -> u32;
 
-    /// 0: `out` = {start, length} in the block. 90: {0, 0}.
+    /// 0: `out` = {start, length} in the block. 90: {0, 0}. `rows` and `rn` are the table as it was lent, whose length tells its columns; how
+    /// many rows were read into it is not known here.
     pub fn dbn_symbology_name(
         block: *const u8,
         n: usize,

@@ -3,7 +3,7 @@
 //! The reading itself is done by the C functions of the library `dbn_c` ([`ffi`]), whose promises are proved. This package lends
 //! them their buffers and gives back names as parts of the caller's own bytes. [`Feed`] takes a stream's start in pieces
 //! and [`Frames`] the records after it, [`Block`] and [`Layout`] take what is already whole, and [`Refusal`] tells what was refused, and at which byte.
-//! The dates of an interval are [`Day`]s, which can be subtracted, and an interval tells its [`Mapping`].
+//! The dates of an interval are [`Day`]s, which can be subtracted, and an interval tells its [`Mapping`]. [`Columns`] has the symbology by column.
 //!
 //! Nothing here stands in for what is missing: where the library broke its promise, the call panics and says which promise.
 #![warn(missing_docs)]
@@ -34,7 +34,7 @@ pub use frames::Frames;
 pub use layout::{check_layout_plain, write_layout, Field, Label, LabelDef, Layout, RecordLayout, StructLayout};
 pub use refusal::{Refusal, RefusalKind};
 pub use sheet::{Sheet, SheetIds};
-pub use symbology::{Interval, Mapping};
+pub use symbology::{Columns, Interval, Mapping};
 pub use tables::{Limits, Tables};
 
 /// What the first bytes of a stream say.

@@ -1,10 +1,8 @@
 use crate::{
     ffi::{self, SYMBOLOGY_ROW as ROW},
-    named, part,
-    tables::{row, rows},
-    Day, Refusal,
+    named, part, Day, Refusal, RefusalKind,
 };
-use std::{fmt, ops::Range};
+use std::{array, fmt, ops::Range};
 
 /// The kinds of rows that mappings are made of. The kinds below them are those of the three lists of symbols.
 const MAPPING: u32 = 3;
@@ -24,8 +22,7 @@ impl<'a> Mapping<'a> {
     /// The mapping's intervals, in the stream's order.
     pub fn intervals(&self) -> impl Iterator<Item = Interval<'a>> + use<'a> {
         let symbology = self.symbology;
-        let own = &symbology.rows[self.first * ROW..][..self.count * ROW];
-        (self.first..).zip(rows(own)).map(move |(at, row)| symbology.interval(at, row))
+        self.rows().map(move |at| symbology.interval(at))
     }
 
     /// Which rows its intervals have.
@@ -90,73 +87,120 @@ impl fmt::Debug for Interval<'_> {
     }
 }
 
-/// The symbology of an accepted block: its rows, and the block's bytes, which their names are parts of.
+/// The symbology of a block by column: each slice has one number of every row, in the order of the rows.
+///
+/// The numbers of row `r` are `kinds[r]`, `starts[r]` and so on, and all six slices are as long as the block has rows.
+#[derive(Debug, Clone, Copy, PartialEq, Eq)]
+pub struct Columns<'a> {
+    /// What each row is: a symbol that was asked for (0), that resolved for a part of the time (1) or that did not resolve (2), a mapping
+    /// (3), or an interval (4).
+    pub kinds: &'a [u32],
+    /// Where each row's name starts in the block's bytes.
+    pub starts: &'a [u32],
+    /// How many bytes each row's name has.
+    pub lengths: &'a [u32],
+    /// How many intervals a mapping has, the day number of an interval's first day, and 0 in every other row.
+    pub xs: &'a [u32],
+    /// The number of the day after an interval's last, and 0 in every other row.
+    pub ys: &'a [u32],
+    /// The index of the mapping's row for an interval, and the row's own index for every other.
+    pub owners: &'a [u32],
+}
+
+/// The symbology of an accepted block: the table that was lent, how many rows were read into its columns, and the block's bytes, which
+/// their names are parts of.
 #[derive(Clone, Copy)]
 pub(crate) struct Symbology<'a> {
     bytes: &'a [u8],
-    rows: &'a [u32],
+    table: &'a [u32],
+    rows: usize,
 }
 
 impl<'a> Symbology<'a> {
-    /// The symbology that these rows tell of.
-    pub fn accepted(bytes: &'a [u8], rows: &'a [u32]) -> Self {
-        Self { bytes, rows }
+    /// The symbology of so many rows that this table tells of. It is the table as it was lent, since its length is what tells its columns.
+    pub fn accepted(bytes: &'a [u8], table: &'a [u32], rows: usize) -> Self {
+        let symbology = Self { bytes, table, rows };
+        let height = symbology.height();
+        assert!(rows <= height, "the library dbn_c broke its promise: {rows} symbology rows in a table for {height}");
+        symbology
     }
 
-    pub fn rows(self) -> impl ExactSizeIterator<Item = &'a [u32; ROW]> + use<'a> {
-        rows(self.rows)
+    /// How many rows the table can hold, which is how far its columns stand apart.
+    fn height(self) -> usize {
+        self.table.len() / ROW
     }
 
-    /// The name of a row, or 90 where there is no such row.
+    pub fn columns(self) -> Columns<'a> {
+        let [kinds, starts, lengths, xs, ys, owners] =
+            array::from_fn(|number| &self.table[number * self.height()..][..self.rows]);
+        Columns { kinds, starts, lengths, xs, ys, owners }
+    }
+
+    pub fn rows(self) -> impl ExactSizeIterator<Item = [u32; ROW]> + use<'a> {
+        let Columns { kinds, starts, lengths, xs, ys, owners } = self.columns();
+        (0..self.rows).map(move |at| [kinds, starts, lengths, xs, ys, owners].map(|column| column[at]))
+    }
+
+    /// The name of a row, or 90 where there is no such row. The library is not told how many rows were read, and past them the table may
+    /// still hold those of another block.
     pub fn name(self, row: usize) -> Result<&'a str, Refusal> {
+        let Self { bytes, table, rows } = self;
+        if row >= rows {
+            return Err(Refusal::own(RefusalKind::RowsMalformed));
+        }
         let mut out = [0; 2];
-        let Self { bytes, rows } = self;
         // SAFETY: each pointer and length are those of a slice.
         let number = unsafe {
-            ffi::dbn_symbology_name(bytes.as_ptr(), bytes.len(), rows.as_ptr(), rows.len(), row as u64, &mut out)
+            ffi::dbn_symbology_name(bytes.as_ptr(), bytes.len(), table.as_ptr(), table.len(), row as u64, &mut out)
         };
         part(bytes, number, out)
     }
 
     /// The symbols of the list whose rows are of that kind.
     pub fn list(self, kind: u32) -> impl Iterator<Item = &'a str> + use<'a> {
-        self.of_kind(kind).map(move |(at, _)| named(self.name(at)))
+        self.of_kind(kind).map(move |at| named(self.name(at)))
     }
 
     pub fn mappings(self) -> impl Iterator<Item = Mapping<'a>> + use<'a> {
-        (0..self.rows().len()).filter_map(move |at| self.mapping(at))
+        self.of_kind(MAPPING).filter_map(move |at| self.mapping(at))
     }
 
     pub fn intervals(self) -> impl Iterator<Item = Interval<'a>> + use<'a> {
-        self.of_kind(INTERVAL).map(move |(at, row)| self.interval(at, row))
+        self.of_kind(INTERVAL).map(move |at| self.interval(at))
     }
 
-    /// The intervals that have that day. Only these are named.
+    /// The intervals that have that day. Only these are named, and of the others no more than the kinds and the days are looked at.
     pub fn intervals_on(self, day: Day) -> impl Iterator<Item = Interval<'a>> + use<'a> {
-        let on = self.of_kind(INTERVAL).filter(move |(_, row)| days(row).contains(&day));
-        on.map(move |(at, row)| self.interval(at, row))
+        let columns = self.columns();
+        let on = self.of_kind(INTERVAL).filter(move |&at| columns.days(at).contains(&day));
+        on.map(move |at| self.interval(at))
     }
 
-    fn of_kind(self, kind: u32) -> impl Iterator<Item = (usize, &'a [u32; ROW])> + use<'a> {
-        self.rows().enumerate().filter(move |(_, row)| row[0] == kind)
+    /// The indexes of the rows of that kind.
+    fn of_kind(self, kind: u32) -> impl Iterator<Item = usize> + use<'a> {
+        (0..).zip(self.columns().kinds).filter(move |(_, &own)| own == kind).map(|(at, _)| at)
     }
 
     /// The mapping that a row begins, or `None` where there is no such row or it is of another kind.
     fn mapping(self, at: usize) -> Option<Mapping<'a>> {
-        let &[MAPPING, _, _, count, ..] = row::<ROW>(self.rows, at)? else { return None };
-        Some(Mapping { symbology: self, raw_symbol: named(self.name(at)), first: at + 1, count: count as usize })
+        let Columns { kinds, xs, .. } = self.columns();
+        let &MAPPING = kinds.get(at)? else { return None };
+        Some(Mapping { symbology: self, raw_symbol: named(self.name(at)), first: at + 1, count: xs[at] as usize })
     }
 
-    /// The interval of a row, which stands at this index.
-    fn interval(self, at: usize, row: &[u32; ROW]) -> Interval<'a> {
-        let Range { start: start_date, end: end_date } = days(row);
-        Interval { symbology: self, at, owner: row[5] as usize, start_date, end_date, symbol: named(self.name(at)) }
+    /// The interval of the row at this index, which must be one that was read.
+    fn interval(self, at: usize) -> Interval<'a> {
+        let (symbol, columns) = (named(self.name(at)), self.columns());
+        let Range { start: start_date, end: end_date } = columns.days(at);
+        Interval { symbology: self, at, owner: columns.owners[at] as usize, start_date, end_date, symbol }
     }
 }
 
-/// The days of an interval's row, none where it ends before it starts.
-fn days(row: &[u32; ROW]) -> Range<Day> {
-    Day::promised(row[3])..Day::promised(row[4])
+impl Columns<'_> {
+    /// The days of an interval's row, none where it ends before it starts.
+    fn days(&self, at: usize) -> Range<Day> {
+        Day::promised(self.xs[at])..Day::promised(self.ys[at])
+    }
 }
 
 #[cfg(test)]
@@ -165,8 +209,9 @@ mod tests {
 
     /// The mapping of the last of these rows, which is an interval. Every row has the name `ES`.
     fn of_last(rows: &[[u32; 4]]) -> String {
-        let rows: Vec<u32> = rows.iter().flat_map(|&[kind, x, y, owner]| [kind, 0, 2, x, y, owner]).collect();
-        let last = Symbology::accepted(b"ES", &rows).intervals().last().expect("an interval");
+        let rows: Vec<_> = rows.iter().map(|&[kind, x, y, owner]| [kind, 0, 2, x, y, owner]).collect();
+        let table: Vec<u32> = (0..ROW).flat_map(|number| rows.iter().map(move |row| row[number])).collect();
+        let last = Symbology::accepted(b"ES", &table, rows.len()).intervals().last().expect("an interval");
         format!("{:?}", last.mapping())
     }
 
@@ -199,5 +244,17 @@ mod tests {
     #[should_panic(expected = "broke its promise: the owner of the interval in row 1 is row 4294967295")]
     fn an_owner_past_the_rows_is_told_loudly() {
         of_last(&[[3, 1, 0, 0], [4, 1, 2, u32::MAX]]);
+    }
+
+    #[test]
+    #[should_panic(expected = "broke its promise: a row that has a name was refused by 90")]
+    fn a_mapping_of_more_intervals_than_rows_is_told_loudly() {
+        of_last(&[[3, 2, 0, 0], [4, 1, 2, 0]]);
+    }
+
+    #[test]
+    #[should_panic(expected = "broke its promise: 3 symbology rows in a table for 2")]
+    fn more_rows_than_the_table_can_hold_are_told_loudly() {
+        Symbology::accepted(b"ES", &[0; 17], 3);
     }
 }

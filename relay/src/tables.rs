@@ -67,16 +67,7 @@ fn room(table: &mut Vec<u32>, rows: usize, width: usize) -> Result<(), Refusal> 
     Ok(())
 }
 
-/// The numbers of a table as rows.
+/// The numbers of a table as rows that stand one after the other.
 pub(crate) fn rows<const N: usize>(table: &[u32]) -> impl ExactSizeIterator<Item = &[u32; N]> {
-    table.chunks_exact(N).map(of_n)
-}
-
-/// One row of a table, or `None` where it has no such row.
-pub(crate) fn row<const N: usize>(table: &[u32], at: usize) -> Option<&[u32; N]> {
-    table.chunks_exact(N).nth(at).map(of_n)
-}
-
-fn of_n<const N: usize>(row: &[u32]) -> &[u32; N] {
-    row.try_into().expect("a chunk of N")
+    table.chunks_exact(N).map(|row| row.try_into().expect("a chunk of N"))
 }

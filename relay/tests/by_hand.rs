@@ -96,7 +96,7 @@ fn p10_one_symbol() {
     assert_eq!(bytes.len(), 123);
     let mut tables = Tables::default();
     let block = Block::read(2, &bytes, &plain(), &mut tables).unwrap();
-    assert_eq!(block.rows().collect::<Vec<_>>(), [&[0, 108, 2, 0, 0, 0]]);
+    assert_eq!(block.rows().collect::<Vec<_>>(), [[0, 108, 2, 0, 0, 0]]);
     assert_eq!(block.symbols().collect::<Vec<_>>(), ["ES"]);
     assert_eq!(fed(&stream_of(2, &bytes)), Ok(Step::Done));
 }

@@ -73,6 +73,16 @@ fn rows_are_as_wide_as_the_header_says() {
     }
 }
 
+#[test]
+fn columns_are_numbered_as_the_header_says() {
+    let names = ["KIND", "START", "LENGTH", "X", "Y", "OWNER"];
+    assert_eq!(names.len(), ffi::SYMBOLOGY_ROW);
+    for (number, name) in names.into_iter().enumerate() {
+        assert!(HEADER.contains(&format!("DBN_COLUMN_{name} = {number}")), "{name}");
+    }
+    assert!(HEADER.contains("return (size_t)column * (n / DBN_SYMBOLOGY_ROW) + row;"));
+}
+
 /// The functions that a text declares after these words, each with how many parameters it has.
 fn declared(text: &str, words: &str) -> Vec<(String, usize)> {
     let one = |part: &str| {
