@@ -5,7 +5,7 @@ use mathlib.Core.List.{List}
 use lib.ListN.{length}
 use Rattle.codec.specs.Codec.{ok}
 use Rattle.table.specs.Columns.{cell}
-use Rattle.symbology.specs.OwnerLaws.{Right, rows-right, right-same}
+use Rattle.symbology.specs.OwnerLaws.{Whose, rows-owned, whose-same}
 use Rattle.block.specs.Block.{Block, blockOf}
 use Rattle.block.specs.Read.{sixes, nines, Promise}
 use Rattle.block.specs.declared.BlockAnswer.{BlockAnswer}
@@ -15,5 +15,5 @@ use Rattle.demands.specs.InColumns.{in-columns}
 -- its x counts; an interval's owner is such a mapping before it; every other row is its own
 pub owners : (version : ℕ) (sheet b s l s′ l′ : List ℕ) (r : BlockAnswer) (z : Block × List ℕ) (k : ℕ) → Promise version b sheet s l r s′ l′ → blockOf version sheet b ≡ ok z k
     → length (sixes (z .0)) ≤ length s / 6 → length (nines (z .0)) ≤ length l / 9
-    → (i : ℕ) → i < length (sixes (z .0)) → Right (cell 6 s′) (length (sixes (z .0))) i
-owners version sheet b s l s′ l′ r z k p e hs hl i h = right-same (in-columns version sheet b s l s′ l′ r z k p e hs hl .rows) i h (rows-right (z .0 .symbology) i h)
+    → (i : ℕ) → i < length (sixes (z .0)) → Whose (cell 6 s′) (length (sixes (z .0))) i
+owners version sheet b s l s′ l′ r z k p e hs hl i h = whose-same (in-columns version sheet b s l s′ l′ r z k p e hs hl .rows) i h (rows-owned (z .0 .symbology) i h)

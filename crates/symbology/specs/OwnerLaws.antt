@@ -27,7 +27,7 @@ pub record Owned (number : ℕ → ℕ → ℕ) (n i : ℕ) : Type 0 where
   pub counted : i ≤ number i 5 + number (number i 5) 3
 
 -- whose row i is, by its kind
-pub record Right (number : ℕ → ℕ → ℕ) (n i : ℕ) : Type 0 where
+pub record Whose (number : ℕ → ℕ → ℕ) (n i : ℕ) : Type 0 where
   pub mapping : number i 0 ≡ 3 → Owns number n i
   pub interval : number i 0 ≡ 4 → Owned number n i
   pub other : eqb (number i 0) 4 ≡ false → number i 5 ≡ i
@@ -48,8 +48,8 @@ module _ {number number′ : ℕ → ℕ → ℕ} {n : ℕ} (same : (i j : ℕ) 
             (same i 0 there (omega arith) ∙ row .0, same i 5 there (omega arith) ∙ row .1);
       }
 
-  pub right-same : (i : ℕ) → i < n → Right number n i → Right number′ n i
-  right-same i h r =
+  pub whose-same : (i : ℕ) → i < n → Whose number n i → Whose number′ n i
+  whose-same i h r =
       let kind = same i 0 h (omega arith) in
       let o = same i 5 h (omega arith) in
       record {
@@ -70,8 +70,8 @@ module _ {number number′ : ℕ → ℕ → ℕ} {n : ℕ} (same : (i j : ℕ) 
 abbrev pub numberAt : List (List ℕ) → ℕ → ℕ → ℕ
 numberAt rs i j = getD (getD rs i []) j 0
 
-abbrev RightIn : List (List ℕ) → ℕ → Type 0
-RightIn rs i = Right (numberAt rs) (length rs) i
+abbrev WhoseIn : List (List ℕ) → ℕ → Type 0
+WhoseIn rs i = Whose (numberAt rs) (length rs) i
 
 -- row n + j, after n others
 number-after : (pre rs : List (List ℕ)) (j c : ℕ) → numberAt (pre ++ rs) (length pre + j) c ≡ numberAt rs j c
@@ -81,12 +81,12 @@ first-number : (pre rs : List (List ℕ)) (c : ℕ) → numberAt (pre ++ rs) (le
 first-number pre rs c = ap (λ (i : ℕ). numberAt (pre ++ rs) i c) (omega arith) ∙ number-after pre rs 0 c
 
 -- a row of a list
-list-right : (kind : ℕ) → kind ≤ 2 → (s : Symbol) → Among RightIn (λ n. listRow kind s n ∷ [])
-list-right kind k s pre post i h l =
+list-owned : (kind : ℕ) → kind ≤ 2 → (s : Symbol) → Among WhoseIn (λ n. listRow kind s n ∷ [])
+list-owned kind k s pre post i h l =
     let n = length pre in
     let rs = listRow kind s n ∷ post in
     let at : n ≡ i = omega arith in
-    subst (RightIn (pre ++ rs)) at (record {
+    subst (WhoseIn (pre ++ rs)) at (record {
       mapping = λ e. absurd (omega (arith, first-number pre rs 0, e));
       interval = λ e. absurd (omega (arith, first-number pre rs 0, e));
       other = λ e. first-number pre rs 5;
@@ -119,15 +119,15 @@ module _ (m : Mapping) (pre post : List (List ℕ)) where
         (number-after pre block (suc (i - n - 1)) 0 ∙ row .0, number-after pre block (suc (i - n - 1)) 5 ∙ row .1);
   }
 
-  mapping-self : RightIn (pre ++ block) n
+  mapping-self : WhoseIn (pre ++ block) n
   mapping-self = record {
     mapping = λ e. owns;
     interval = λ e. absurd (omega (arith, first-number pre block 0, e));
     other = λ e. first-number pre block 5;
   }
 
-  interval-right : (i : ℕ) → n < i → i ≤ n + length (m .intervals) → RightIn (pre ++ block) i
-  interval-right i h l =
+  interval-owned : (i : ℕ) → n < i → i ≤ n + length (m .intervals) → WhoseIn (pre ++ block) i
+  interval-owned i h l =
       let row = owns .intervals i h (omega (arith, first-number pre block 3)) in
       record {
         mapping = λ e. absurd (omega (arith, row .0, e));
@@ -139,22 +139,22 @@ module _ (m : Mapping) (pre post : List (List ℕ)) where
         other = λ e. absurd (let z : _≡_ {A = ℕ} 0 1 = cc in omega arith);
       }
 
-  mapping-right : (i : ℕ) → n ≤ i → i < n + length (mappingRows m n) → RightIn (pre ++ block) i
-  mapping-right i h l =
+  mapping-owned : (i : ℕ) → n ≤ i → i < n + length (mappingRows m n) → WhoseIn (pre ++ block) i
+  mapping-owned i h l =
       by-le (suc n) i
-      (λ g. interval-right i g (omega (arith, length-map (m .intervals) (intervalRow n))))
-      (λ g. subst (RightIn (pre ++ block)) (omega arith) mapping-self)
+      (λ g. interval-owned i g (omega (arith, length-map (m .intervals) (intervalRow n))))
+      (λ g. subst (WhoseIn (pre ++ block)) (omega arith) mapping-self)
 
 -- of every row of a symbology
-pub rows-right : (t : Symbology) (i : ℕ) → i < length (symbologyRows t) → Right (numberAt (symbologyRows t)) (length (symbologyRows t)) i
+pub rows-owned : (t : Symbology) (i : ℕ) → i < length (symbologyRows t) → Whose (numberAt (symbologyRows t)) (length (symbologyRows t)) i
 unfolding symbologyRows
-rows-right t =
+rows-owned t =
     let maps = eachFrom mappingRows (t .mappings) in
-    let some : Among RightIn maps = among-each RightIn mappingRows mapping-right (t .mappings) in
-    among-all RightIn (listRows 0 (t .symbols) andThen listRows 1 (t .partial) andThen listRows 2 (t .notFound) andThen maps)
-    (among-then RightIn (listRows 0 (t .symbols)) (listRows 1 (t .partial) andThen listRows 2 (t .notFound) andThen maps) (list 0 (omega arith) (t .symbols))
-    (among-then RightIn (listRows 1 (t .partial)) (listRows 2 (t .notFound) andThen maps) (list 1 (omega arith) (t .partial))
-    (among-then RightIn (listRows 2 (t .notFound)) maps (list 2 (omega arith) (t .notFound)) some)))
+    let some : Among WhoseIn maps = among-each WhoseIn mappingRows mapping-owned (t .mappings) in
+    among-all WhoseIn (listRows 0 (t .symbols) andThen listRows 1 (t .partial) andThen listRows 2 (t .notFound) andThen maps)
+    (among-then WhoseIn (listRows 0 (t .symbols)) (listRows 1 (t .partial) andThen listRows 2 (t .notFound) andThen maps) (list 0 (omega arith) (t .symbols))
+    (among-then WhoseIn (listRows 1 (t .partial)) (listRows 2 (t .notFound) andThen maps) (list 1 (omega arith) (t .partial))
+    (among-then WhoseIn (listRows 2 (t .notFound)) maps (list 2 (omega arith) (t .notFound)) some)))
   where
-    list : (kind : ℕ) → kind ≤ 2 → (xs : List Symbol) → Among RightIn (listRows kind xs)
-    list kind k xs = among-each RightIn (λ s n. listRow kind s n ∷ []) (list-right kind k) xs
+    list : (kind : ℕ) → kind ≤ 2 → (xs : List Symbol) → Among WhoseIn (listRows kind xs)
+    list kind k xs = among-each WhoseIn (λ s n. listRow kind s n ∷ []) (list-owned kind k) xs

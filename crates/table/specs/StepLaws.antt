@@ -8,7 +8,7 @@ use Rattle.refusal.specs.declared.Refusal.{Refusal}
 use Rattle.codec.specs.Codec.{Res, ok, refuse, _>>=_, Codec, num, timesParse}
 use Rattle.numbers.specs.Numbers.{numAt}
 use Rattle.numbers.specs.NumberLaws.{numOf, num-is}
-use Rattle.table.specs.Table.{Out, From, _andThen_, eachFrom, allRows, said, row, seq, seqFrom, onGot}
+use Rattle.table.specs.Table.{Out, From, _andThen_, eachFrom, said, row, seq, seqFrom, onGot}
 use Rattle.numbers.specs.declared.Got.{Got}
 use Rattle.numbers.specs.declared.Got.the-variants.{Value, Refused}
 
@@ -46,39 +46,24 @@ module _ {A : Type 0} (c : Codec A) (f : A → List ℕ) (base : ℕ) (s : List 
   items-no n at h e = rows-no c (λ x _. f x) (λ xs _. map f xs) (λ _. refl) (λ x xs _. refl) base s 0 n at h e
 
 -- several rows each
-module _ {A : Type 0} (c : Codec A) (f : A → From) (all : List A → From) (none : (m : ℕ) → all [] m ≡ []) (more : (x : A) (xs : List A) (m : ℕ) → all (x ∷ xs) m ≡ (f x andThen all xs) m) (base : ℕ) (s : List ℕ) (m : ℕ) where
-  run-all : (n at : ℕ) → 0 < n → said (λ xs. all xs m) (timesParse c n base s at) ≡ seqFrom m (said (λ x. f x m) (c .parse base s at)) (λ k p. said (λ xs. all xs k) (timesParse c (n - 1) base s p))
+module _ {A : Type 0} (c : Codec A) (f : A → From) (base : ℕ) (s : List ℕ) (m : ℕ) where
+  pub each-run : (n at : ℕ) → 0 < n → said (λ xs. eachFrom f xs m) (timesParse c n base s at) ≡ seqFrom m (said (λ x. f x m) (c .parse base s at)) (λ k p. said (λ xs. eachFrom f xs k) (timesParse c (n - 1) base s p))
   unfolding seqFrom
-  run-all zero at h = let z : ⊥ = omega arith in absurd z
-  run-all (suc n) at h = let k : suc n - 1 ≡ n = omega arith in rw k (go (c .parse base s at))
+  each-run zero at h = let z : ⊥ = omega arith in absurd z
+  each-run (suc n) at h = let k : suc n - 1 ≡ n = omega arith in rw k (go (c .parse base s at))
     where
-      tail : (x : A) (r : Res (List A)) → said (λ xs. all xs m) (r >>= λ xs k. ok (x ∷ xs) k) ≡ (said (λ xs. all xs (m + length (f x m))) r >>= λ qs q. ok (f x m ++ qs) q)
-      tail x (ok xs k) = rw (more x xs m)
+      tail : (x : A) (r : Res (List A)) → said (λ xs. eachFrom f xs m) (r >>= λ xs k. ok (x ∷ xs) k) ≡ (said (λ xs. eachFrom f xs (m + length (f x m))) r >>= λ qs q. ok (f x m ++ qs) q)
+      tail x (ok xs k) = refl
       tail x (refuse k) = refl
 
-      go : (r : Res A) → said (λ xs. all xs m) (r >>= λ x j. timesParse c n base s j >>= λ xs k. ok (x ∷ xs) k)
-          ≡ ((said (λ x. f x m) r) >>= λ rs p. said (λ xs. all xs (m + length rs)) (timesParse c n base s p) >>= λ qs q. ok (rs ++ qs) q)
+      go : (r : Res A) → said (λ xs. eachFrom f xs m) (r >>= λ x j. timesParse c n base s j >>= λ xs k. ok (x ∷ xs) k)
+          ≡ ((said (λ x. f x m) r) >>= λ rs p. said (λ xs. eachFrom f xs (m + length rs)) (timesParse c n base s p) >>= λ qs q. ok (rs ++ qs) q)
       go (ok x j) = tail x (timesParse c n base s j)
       go (refuse k) = refl
 
-  end-all : (n at : ℕ) → n ≤ 0 → said (λ xs. all xs m) (timesParse c n base s at) ≡ ok [] at
-  end-all zero at h = rw (none m)
-  end-all (suc n) at h = let z : ⊥ = omega arith in absurd z
-
-module _ {A : Type 0} (c : Codec A) (f : A → From) (base : ℕ) (s : List ℕ) (m : ℕ) where
-  pub each-run : (n at : ℕ) → 0 < n → said (λ xs. eachFrom f xs m) (timesParse c n base s at) ≡ seqFrom m (said (λ x. f x m) (c .parse base s at)) (λ k p. said (λ xs. eachFrom f xs k) (timesParse c (n - 1) base s p))
-  each-run = run-all c f (eachFrom f) (λ _. refl) (λ x xs _. refl) base s m
-
   pub each-end : (n at : ℕ) → n ≤ 0 → said (λ xs. eachFrom f xs m) (timesParse c n base s at) ≡ ok [] at
-  each-end = end-all c f (eachFrom f) (λ _. refl) (λ x xs _. refl) base s m
-
-module _ {A : Type 0} (c : Codec A) (f : A → List (List ℕ)) (base : ℕ) (s : List ℕ) where
-  pub many-run : (n at : ℕ) → 0 < n → said (allRows f) (timesParse c n base s at) ≡ seq (said f (c .parse base s at)) (λ p. said (allRows f) (timesParse c (n - 1) base s p))
-  unfolding seq seqFrom
-  many-run = run-all c (λ x _. f x) (λ xs _. allRows f xs) (λ _. refl) (λ x xs _. refl) base s 0
-
-  pub many-end : (n at : ℕ) → n ≤ 0 → said (allRows f) (timesParse c n base s at) ≡ ok [] at
-  many-end = end-all c (λ x _. f x) (λ xs _. allRows f xs) (λ _. refl) (λ x xs _. refl) base s 0
+  each-end zero at h = refl
+  each-end (suc n) at h = let z : ⊥ = omega arith in absurd z
 
 -- ---- one after the other
 
@@ -105,11 +90,6 @@ both-seq f h r g = both-from (λ x _. f x) (λ y _. h y) 0 r g
 pub said-named : {A B : Type 0} (f : B → List (List ℕ)) (to : A → B) (r : Res A) → said f (r >>= λ x j. ok (to x) j) ≡ said (λ x. f (to x)) r
 said-named f to (ok x j) = refl
 said-named f to (refuse k) = refl
-
--- the same rows
-pub said-same : {A : Type 0} (f g : A → List (List ℕ)) → ((x : A) → f x ≡ g x) → (r : Res A) → said f r ≡ said g r
-said-same f g h (ok x j) = ap (λ v. ok v j) (h x)
-said-same f g h (refuse k) = refl
 
 pub from-same : (m : ℕ) (o : Out) (f g : ℕ → ℕ → Out) → ((k p : ℕ) → f k p ≡ g k p) → seqFrom m o f ≡ seqFrom m o g
 unfolding seqFrom
