@@ -1,6 +1,6 @@
 //! What must hold of every answer.
 use super::{
-    calls::{self, FeedAnswer},
+    calls::{self, BlockAnswer, FeedAnswer},
     columns, days,
     gen::{self, Rng, Sheet},
     names, owners, texts, Count,
@@ -310,12 +310,8 @@ fn block(
         texts::refused(version, block, a.number, a.out[PLACE]);
         return within(version, block, sheet, &out, a.number, a.out[PLACE]);
     }
-    let [count, items] = [10, 11].map(|place| a.out[place] as usize);
-    let rows = columns::rows(&a.symbology, count);
-    texts::accepted(r, version, block, sheet, &a, &rows);
-    days::accepted(block, &rows);
-    owners::accepted(&rows);
-    names::accepted(r, block, &a.symbology, SYMBOLOGY_ROW, count);
+    symbology_rows(r, version, block, sheet, &a);
+    let items = a.out[11] as usize;
     if version < 4 {
         assert_eq!((a.out[9], items), (0, 0), "no layout below version 4");
         return;
@@ -326,6 +322,16 @@ fn block(
     assert_eq!((b.number, b.out[9], b.out[11]), (0, a.out[9], a.out[11]), "a block's layout");
     assert_eq!(b.rows, a.layout, "the rows of a block's layout");
     names::accepted(r, inner, &a.layout, 9, items);
+}
+
+/// The symbology rows of an accepted block: their texts, their days, their owners and their names.
+fn symbology_rows(r: &mut Rng, version: u8, block: &[u8], sheet: &Sheet, a: &BlockAnswer) {
+    let count = a.out[10] as usize;
+    let rows = columns::rows(&a.symbology, count);
+    texts::accepted(r, version, block, sheet, a, &rows);
+    days::accepted(block, &rows);
+    owners::accepted(&rows);
+    names::accepted(r, block, &a.symbology, SYMBOLOGY_ROW, count);
 }
 
 /// A layout that is refused in a block is refused by itself at the same byte, counted from the layout.

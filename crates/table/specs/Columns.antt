@@ -26,6 +26,6 @@ cell w t r c = getD t (c * (length t / w) + r) 0
 unfoldable pub cellOf : List ℕ → ℕ → ℕ → ℕ
 cellOf t r c = cond (ltb r (length t / 6) && ltb c 6) (cell 6 t r c) 0
 
--- of a table whose rows of w numbers stand one after the other
+-- number c of row r of a table whose rows of w numbers stand one after the other
 abbrev pub rowCell : ℕ → List ℕ → ℕ → ℕ → ℕ
 rowCell w t r c = getD t (w * r + c) 0

@@ -1,11 +1,13 @@
 -- Readers of rows, put together: one after the other, in a loop, by a test. Assumes nothing.
-use Prim.Native.Nat.{ℕ, suc, _+_, _/_, _≤_, _<_}
+use Prim.Native.Nat.{ℕ, suc, _+_, _*_, _/_, _≤_, _<_}
 use mathlib.Core.Path.{_≡_, refl, sym, ap, _∙_, subst, subst₂}
 use mathlib.Core.List.{List, [], _∷_, _++_}
 use mathlib.Core.Bool.{Bool, true, false, cond}
 use native.Mathlib.Nat.{add-zero, div-zero}
 use native.Mathlib.Omega.{arith}
 use lib.ListN.{length, length-append}
+use lib.Seq.{sets}
+use lib.Dec.{ltb}
 use borrow.Author.Tests.{le-ltb, lt-ltb}
 use Rattle.refusal.specs.declared.Refusal.{Refusal}
 use Rattle.codec.specs.Codec.{ok, refuse, moved, shifted, _>>=_}
@@ -14,13 +16,16 @@ use Rattle.numbers.specs.declared.Got.{Got}
 use Rattle.numbers.specs.declared.Got.the-variants.{Value, Refused}
 
 -- a table that does not have the row
+past-table : (w n : ℕ) (t u : List ℕ) → length t / w ≤ n → t ≡ cond (ltb n (length t / w)) u t
+past-table w n t u h = rw (le-ltb n (length t / w) h)
+
 pub put-not : (w : ℕ) (t : List ℕ) (n : ℕ) (r : List ℕ) → length t / w ≤ n → t ≡ putRow w t n r
 unfolding putRow
-put-not w t n r h = rw (le-ltb n (length t / w) h)
+put-not w t n r h = past-table w n t (sets t (w * n) r) h
 
 pub columns-not : (w : ℕ) (t : List ℕ) (n : ℕ) (r : List ℕ) → length t / w ≤ n → t ≡ putColumns w t n r
 unfolding putColumns
-columns-not w t n r h = rw (le-ltb n (length t / w) h)
+columns-not w t n r h = past-table w n t (spread (length t / w) t n r) h
 
 pub columns-put : (w : ℕ) (t : List ℕ) (n : ℕ) (r : List ℕ) → n < length t / w → spread (length t / w) t n r ≡ putColumns w t n r
 unfolding putColumns
