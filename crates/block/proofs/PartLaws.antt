@@ -19,9 +19,11 @@ use Rattle.codec.specs.Codec.{Res, ok, refuse, refusal, moved, shifted, _>>=_, 
 use Rattle.codec.specs.Laws.{bind-ok, need-ok}
 use Rattle.codec.specs.StepLaws.{raw-got, raw-bad, num-got, num-bad}
 use Rattle.text.specs.Utf8.{utf8}
+use Rattle.wire.specs.Reader.{allTests}
 use Rattle.text.specs.Padded.{nulPadded}
 use Rattle.dates.specs.Date.{isDate}
 use Rattle.layout.specs.Layout.{Layout, Parts, parts, toLayout, fromLayout}
+use Rattle.layout.specs.LenientLaws.{light-same}
 use Rattle.layout.specs.LayoutOf.{D, layoutOf}
 use Rattle.symbology.specs.Symbology.{Symbology, symbology}
 use Rattle.symbology.specs.Reader.{sectionOf}
@@ -175,9 +177,9 @@ module _ (sheet : List ℕ) (width : ℕ) where
       go false n e = let z : refusal n 0 ≡ k = cc in ap refuse z
 
   pub ruled-part : (part : List ℕ) → length part ≤ 4294967295 → (p e : ℕ)
-      → ((_>>=_ {B = Z} (shifted p (whole (parts utf8 D .codec) 0 part) >>= λ z _. ok z e) λ x j. need (eqb 0 (rulesOf sheet width (x .0))) (rulesOf sheet width (x .0)) 0 >>= λ _ _. ok x j) >>= λ x j. ok (toLayout x) j)
+      → ((_>>=_ {B = Z} (shifted p (whole (parts allTests D .codec) 0 part) >>= λ z _. ok z e) λ x j. need (eqb 0 (rulesOf sheet width (x .0))) (rulesOf sheet width (x .0)) 0 >>= λ _ _. ok x j) >>= λ x j. ok (toLayout x) j)
       ≡ (shifted p (layoutOf part) >>= λ l _. ruling l e)
-  ruled-part part s p e = rw (layout-whole part s) (go (whole (parts utf8 D .codec) 0 part))
+  ruled-part part s p e = rw (layout-whole part s) (go (whole (parts allTests D .codec) 0 part))
     where
       by : (z : Z) (k : ℕ) (t : Bool) → (_>>=_ {B = Layout} (_>>=_ {B = Z} (need t k 0) λ _ _. ok z e) λ x j. ok (toLayout x) j) ≡ (need t k 0 >>= λ _ _. ok (toLayout z) e)
       by z k true = refl
@@ -191,7 +193,7 @@ module _ (sheet : List ℕ) (width : ℕ) where
 module _ (sheet : List ℕ) (width : ℕ) (b : List ℕ) where
   pub layout-cut : (has : Bool) {k : Refusal} → spanAt 24 44 b 100 ≡ Span'.Refused k → layoutPart has sheet width .codec .parse 0 b 100 ≡ refuse k
   unfolding layoutPart named judged checked sized
-  layout-cut true e = rw (boxed-cut 24 26 44 1 (omega arith) (λ p. 0) (λ P x. Unit {0}) (parts utf8 D .codec) b 100 e)
+  layout-cut true e = rw (boxed-cut 24 26 44 1 (omega arith) (λ p. 0) (λ P x. Unit {0}) (parts allTests D .codec) b 100 e)
   layout-cut false {k} e = rw (go (cut 24 44 b 100 e))
     where
       go : Cut 24 44 b 100 k → (num 24 4 .parse 0 b 100 >>= λ n j. raw 44 n .parse 0 b j) ≡ refuse k
@@ -204,7 +206,7 @@ module _ (sheet : List ℕ) (width : ℕ) (b : List ℕ) where
 
     pub layout-empty-26 : n ≡ 0 → layoutPart true sheet width .codec .parse 0 b 100 ≡ refuse (refusal 26 100)
     unfolding layoutPart named judged
-    layout-empty-26 e = rw (boxed-less 24 26 44 1 (omega arith) (λ p. 0) (λ P x. Unit {0}) (parts utf8 D .codec) b 100 s (omega arith))
+    layout-empty-26 e = rw (boxed-less 24 26 44 1 (omega arith) (λ p. 0) (λ P x. Unit {0}) (parts allTests D .codec) b 100 s (omega arith))
 
     pub layout-there-25 : 0 < n → layoutPart false sheet width .codec .parse 0 b 100 ≡ refuse (refusal 25 100)
     unfolding layoutPart named checked sized
@@ -216,7 +218,7 @@ module _ (sheet : List ℕ) (width : ℕ) (b : List ℕ) where
 
     pub layout-ruled : 0 < n → n ≤ 4294967295 → layoutPart true sheet width .codec .parse 0 b 100 ≡ (shifted p (layoutOf (take n (drop p b))) >>= λ l _. ruling sheet width l (p + n))
     unfolding layoutPart named judged
-    layout-ruled h l = rw (boxed-read 24 26 44 1 (omega arith) (λ p. 0) (λ P x. Unit {0}) (parts utf8 D .codec) b 100 s h)
+    layout-ruled h l = rw (boxed-read 24 26 44 1 (omega arith) (λ p. 0) (λ P x. Unit {0}) (parts allTests D .codec) b 100 s h)
         (ruled-part sheet width (take n (drop p b)) (omega (arith, size)) p (p + n))
 
 module _ (sheet : List ℕ) (width : ℕ) (b : List ℕ) where
@@ -276,7 +278,7 @@ module _ (sheet : List ℕ) (width : ℕ) (b : List ℕ) where
       leaves-is l i e x =
           let q : p ≡ 104 = start-is (omega (arith, w .0, w .1)) S in
           let z : p + n - 104 ≡ n = omega arith in
-          rw (z, ← q, e) (leave-anywhere x l i (p + n))
+          rw (z, ← q, light-same true (take n (drop p b)) e) (leave-anywhere x l i (p + n))
 
       is-ok : (l : Layout) (i j : ℕ) → layoutOf part ≡ ok l i → ruledOf sheet width part ≡ ok l j → layoutPart true sheet width .codec .parse 0 b 100 ≡ ok l (p + n)
       is-ok l i j x e =

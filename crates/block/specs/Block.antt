@@ -10,6 +10,7 @@ use Rattle.codec.specs.Codec
 use Rattle.codec.specs.Codec.{Res, _>>=_, need, whole, isNil}
 use Rattle.codec.specs.Format.{Format, raw, num, skip, rawTests, numTest, _then_, on, named, checked, judged, sized, apart, spanned, remainder}
 use Rattle.text.specs.Utf8.{utf8}
+use Rattle.wire.specs.Reader.{allTests}
 use Rattle.text.specs.Padded.{nulPadded}
 use Rattle.dates.specs.Date.{isDate}
 use Rattle.prelude.specs.Prelude.{isVersion}
@@ -111,7 +112,7 @@ noItems b = toLayout ((0, ([], ([], []))), b)
 
 -- u32 layout length (24 where it is missing, 26 where it is 0) and that many bytes, 44 where they run past the end
 abbrev pub layoutBox : Format (Parts × List ℕ) false
-layoutBox = apart 24 26 44 4 1 (parts utf8 D) (parts-some utf8 D)
+layoutBox = apart 24 26 44 4 1 (parts allTests D) (parts-some allTests D)
 
 pub layout-blind : (sheet : List ℕ) (width : ℕ) (z : Parts × List ℕ) → rulesOf sheet width (layoutBox .codec .bare z .0) ≡ rulesOf sheet width (z .0)
 unfolding Codec.boxed

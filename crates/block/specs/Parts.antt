@@ -9,7 +9,8 @@ use Rattle.refusal.specs.Places.{hasPlace}
 use Rattle.codec.specs.Codec.{Res, ok, refuse, refusal, moved, faultOf, _>>=_, num, raw}
 use Rattle.layout.specs.Layout.{Layout}
 use Rattle.layout.specs.Rows.{rows}
-use Rattle.layout.specs.LayoutOf.{layoutOf}
+use Rattle.wire.specs.Reader.{testsOf}
+use Rattle.layout.specs.LayoutOf.{layoutBy}
 use Rattle.symbology.specs.Symbology.{Symbology}
 use Rattle.symbology.specs.Answers.{SectionPromise}
 use Rattle.symbology.specs.declared.SectionAnswer.{SectionAnswer}
@@ -68,9 +69,9 @@ abbrev pub sectionAt : Bool → List ℕ → ℕ → Span
 sectionAt true b at = spanAt 27 45 b at
 sectionAt false b at = Part at (length b - at)
 
--- the table after a layout, where a version has one
+-- the table after the rows of a layout, which are read without tests, where a version has one
 abbrev pub layoutTable : Bool → List ℕ → List ℕ → List ℕ
-layoutTable has part t = cond has (leave t (layoutOf part)) t
+layoutTable has part t = cond has (leave t (layoutBy (testsOf true) part)) t
 
 -- the layout part that was read: it ends at e, and its rows make of a table what its bytes make of it
 pub record LayoutRead (has : Bool) (sheet : List ℕ) (width : ℕ) (b : List ℕ) (v n e : ℕ) : Type 0 where

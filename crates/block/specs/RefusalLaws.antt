@@ -14,6 +14,7 @@ use Rattle.codec.specs.Refusals.{Gives, In, Within}
 use Rattle.codec.specs.PlaceLaws.{within-is, within-test, within-whole}
 use Rattle.codec.specs.RefusalLaws.{in-more, gives-is, gives-test, gives-whole}
 use Rattle.text.specs.Utf8.{utf8}
+use Rattle.wire.specs.Reader.{allTests}
 use Rattle.text.specs.Padded.{nulPadded}
 use Rattle.dates.specs.Date.{isDate}
 use Rattle.prelude.specs.Prelude.{isVersion}
@@ -41,7 +42,7 @@ header-numbers v =
 layout-numbers : (has : Bool) (sheet : List ℕ) (width : ℕ) → layoutPart has sheet width .numbers P
 unfolding layoutPart
 layout-numbers true sheet width =
-    ((parts-numbers P (in-more wireNumbers blockNumbers refl) utf8 D, (refl, (refl, refl))), λ z. rules-fault P (in-more ruleNumbers blockNumbers refl) sheet width (z .0))
+    ((parts-numbers P (in-more wireNumbers blockNumbers refl) allTests D, (refl, (refl, refl))), λ z. rules-fault P (in-more ruleNumbers blockNumbers refl) sheet width (z .0))
 layout-numbers false sheet width = ((refl, λ n. refl), refl)
 
 section-numbers : (has : Bool) (width : ℕ) → symbologyPart has width .numbers P

@@ -105,7 +105,7 @@ pub(crate) fn put_layout(block: &[u8], has_layout: bool, end: usize, table: &mut
     if has_layout {
         let start = 104;
         let part = &block[start..end];
-        layout::read_layout_rows(part, table);
+        layout::read_layout_rows(part, true, table);
     }
 }
 

@@ -6,7 +6,7 @@ use mathlib.Core.Path.{_≡_}
 use mathlib.Core.List.{List}
 use denote.Ref.{now}
 use Rattle.numbers.specs.Numbers.{u16At, gotOn, Past}
-use Rattle.wire.specs.Reader.{nameAt}
+use Rattle.wire.specs.Reader.{allTests, nameAt}
 use Rattle.numbers.specs.declared.Got.{Got}
 use Rattle.numbers.specs.declared.Got.the-variants.{Value, Refused}
 use Rattle.byte_reader.specs.declared.ByteReader.{ByteReader}
@@ -30,7 +30,7 @@ pub record Stepped (b m : ℕ) (f : List ℕ → ℕ → Got) (d d′ : ByteRead
 -- the label of a code c: its name after the code, or the code's refusal
 pub record LabelAfter (s : List ℕ) (c : Got) (r : Label) : Type 0 where
   pub code : r .code ≡ c
-  pub name : r .name ≡ gotOn c (λ _ p. nameAt s p)
+  pub name : r .name ≡ gotOn c (λ _ p. nameAt allTests s p)
   pub past : (v p : ℕ) → c ≡ Value v p → Past 256 2 s p (r .name)
 
 -- the label at `at`

@@ -11,7 +11,7 @@ use Rattle.numbers.specs.Numbers.{u16At, gotOn}
 use Rattle.numbers.specs.RefusalLaws.{num-refuses}
 use Rattle.numbers.specs.declared.Got.{Got}
 use Rattle.numbers.specs.declared.Got.the-variants.{Value, Refused}
-use Rattle.wire.specs.Reader.{nameAt, nameNumbers}
+use Rattle.wire.specs.Reader.{allTests, nameAt, nameNumbers}
 use Rattle.wire.specs.RefusalLaws.{name-refuses}
 use Rattle.byte_reader.specs.Reader.{Stepped, LabelIs}
 use Rattle.byte_reader.specs.declared.ByteReader.{ByteReader}
@@ -31,8 +31,8 @@ module _ (s : List ℕ) (at : ℕ) (r : Label) {k : Refusal} where
   pub label-refuses : LabelIs s at r → r .name ≡ Refused k → In nameNumbers (k .number)
   label-refuses p e = go (u16At s at) (λ j q. num-refuses 50 2 s at q) (sym (p .after .name) ∙ e)
     where
-      go : (c : Got) → ((j : Refusal) → c ≡ Refused j → j .number ≡ 50) → gotOn c (λ _ q. nameAt s q) ≡ Refused k → In nameNumbers (k .number)
-      go (Value v q) h e = name-refuses s q e
+      go : (c : Got) → ((j : Refusal) → c ≡ Refused j → j .number ≡ 50) → gotOn c (λ _ q. nameAt allTests s q) ≡ Refused k → In nameNumbers (k .number)
+      go (Value v q) h e = name-refuses s q allTests e
       go (Refused j) h e =
           let i : j ≡ k = cc in
           let n : k .number ≡ 50 = ap (λ (r : Refusal). r .number) (sym i) ∙ h j refl in

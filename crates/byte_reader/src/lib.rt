@@ -5,7 +5,7 @@ use numbers::Got;
 ghost use mathlib.Core.Path.{_≡_};
 ghost use Prim.Native.Nat.{_+_};
 ghost use Rattle.numbers.specs.Numbers.{takeAt, numAt};
-ghost use Rattle.wire.specs.Reader.{nameAt};
+ghost use Rattle.wire.specs.Reader.{allTests, nameAt};
 ghost use Rattle.byte_reader.specs.Reader.{after, Stepped, LabelAfter, LabelIs};
 
 // A section, and the place in it where the next read begins.
@@ -42,7 +42,7 @@ impl<'a> ByteReader<'a> {
 
     // The length of the next name's text, which starts one byte after the place. On a refusal the place stays.
     pub fn name(&mut self) -> Got
-        ensures { λ r. ⌜ Stepped 256 2 nameAt (now (self .entry)) (now (self .exit)) r ⌝ }
+        ensures { λ r. ⌜ Stepped 256 2 (nameAt allTests) (now (self .entry)) (now (self .exit)) r ⌝ }
     {
         let got = wire::name_at(self.buf, self.pos);
         self.pos = place_after(got, self.pos);

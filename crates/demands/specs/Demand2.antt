@@ -9,7 +9,7 @@ use lib.Seq.{take-at}
 use lib.Dec.{leb}
 use borrow.Author.Tests.{le-leb}
 use Rattle.codec.specs.Codec.{ok, Bytes}
-use Rattle.text.specs.Utf8.{utf8}
+use Rattle.wire.specs.Reader.{allTests}
 use Rattle.table.specs.Table.{flat}
 use Rattle.layout.specs.Layout.{Layout}
 use Rattle.layout.specs.LayoutOf.{D}
@@ -73,7 +73,7 @@ module _ (sheet : List ℕ) (width version : ℕ) (table text out out′ : List 
   written-bytes : Bytes text → version < 65536 → Bytes (take n out′)
   written-bytes bytes v =
       let s = sound table text (accepts .whole) in
-      subst Bytes (sym (written-is ∙ printed-is version table text)) (layout-octets utf8 D (treeOf version table text) (tree-legal table text bytes s version v))
+      subst Bytes (sym (written-is ∙ printed-is version table text)) (layout-octets allTests D (treeOf version table text) (tree-legal table text bytes s version v))
 
 -- THE ROUND TRIP: where `write_layout` promises n written bytes, the first n bytes of the output read back
 pub round-trip : (sheet : List ℕ) (width version : ℕ) (table text out out′ : List ℕ) (n : ℕ) → Bytes text → version < 65536

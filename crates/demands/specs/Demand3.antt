@@ -12,6 +12,7 @@ use Rattle.codec.specs.Codec.{ok, Bytes, raw, skip, num, named, checked, judged
 use Rattle.codec.specs.Laws.{whole-reads}
 use Rattle.codec.specs.Edits.{Marked, bytesOf, Edit, put}
 use Rattle.text.specs.Utf8.{utf8}
+use Rattle.wire.specs.Reader.{allTests}
 use Rattle.text.specs.Padded.{nulPadded}
 use Rattle.dates.specs.Date.{isDate}
 use Rattle.layout.specs.LayoutOf.{D}
@@ -83,7 +84,7 @@ module _ (sheet : List ℕ) where
       ∙ fields-bare (x .header) (x .layout .version) i j in
       ap₂ (λ a b. fieldsWith v4 (z .header) (z .layout .version) a b) f n ∙ ap (λ a. fieldsWith v4 (z .header) a i j) v ∙ h
 
-  bare-texts : (x y : Block) → B4 sheet .bare y ≡ B4 sheet .bare x → texts (bareLayout utf8 D (y .layout)) ≡ texts (bareLayout utf8 D (x .layout))
+  bare-texts : (x y : Block) → B4 sheet .bare y ≡ B4 sheet .bare x → texts (bareLayout allTests D (y .layout)) ≡ texts (bareLayout allTests D (x .layout))
   unfolding bareLayout
   bare-texts x y e = ap (λ p. texts (toLayout (p, []))) (layout-bare sheet x y e)
 

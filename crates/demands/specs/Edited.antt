@@ -13,6 +13,7 @@ use Rattle.codec.specs.Laws.{Law, Here, Whole, whole-back, left-part, part-take
 use Rattle.codec.specs.Edits.{Marked, kept, _and_, bytesOf, Edit, put}
 use Rattle.codec.specs.EditLaws.{Inside, inside, put-all, put-kept, edits-kept, edits-then, edits-on, edits-named, edits-judged, edits-asks, edits-apart}
 use Rattle.text.specs.Utf8.{utf8}
+use Rattle.wire.specs.Reader.{allTests}
 use Rattle.text.specs.Padded.{nulPadded}
 use Rattle.dates.specs.Date.{isDate}
 use Rattle.layout.specs.LayoutOf.{D}
@@ -66,7 +67,7 @@ module _ (sheet : List ℕ) where
   unfolding block named _on_ _then_
   header-legal x lg = lg .0
 
-  pub layout-legal : (x : Block) → B4 .legal x → parts utf8 D .codec .legal (fromLayout (x .layout) .0)
+  pub layout-legal : (x : Block) → B4 .legal x → parts allTests D .codec .legal (fromLayout (x .layout) .0)
   unfolding block named _on_ _then_ layoutPart judged boxed
   layout-legal x lg = lg .1 .0 .0 .0
 
@@ -83,12 +84,12 @@ module _ (sheet : List ℕ) where
   unfolding header named _then_ num checked raw
   width-bare x y e = ap (λ h. h .width) (header-bare x y e)
 
-  pub layout-bare : (x y : Block) → B4 .bare y ≡ B4 .bare x → parts utf8 D .codec .bare (fromLayout (y .layout) .0) ≡ parts utf8 D .codec .bare (fromLayout (x .layout) .0)
+  pub layout-bare : (x y : Block) → B4 .bare y ≡ B4 .bare x → parts allTests D .codec .bare (fromLayout (y .layout) .0) ≡ parts allTests D .codec .bare (fromLayout (x .layout) .0)
   unfolding block named _on_ _then_ layoutPart judged boxed
   layout-bare x y e = ap (λ b. fromLayout (b .layout) .0) e
 
   -- the layout of a located block counts from its own first byte, and the symbology from the block's
-  pub layout-at : (x : Block) → B4 .locate 0 x .layout ≡ toLayout (parts utf8 D .codec .locate 0 (fromLayout (x .layout) .0), x .layout .rest)
+  pub layout-at : (x : Block) → B4 .locate 0 x .layout ≡ toLayout (parts allTests D .codec .locate 0 (fromLayout (x .layout) .0), x .layout .rest)
   unfolding block named _on_ _then_ layoutPart judged boxed
   layout-at x = refl
 
@@ -115,7 +116,7 @@ module _ (sheet : List ℕ) where
   -- ---- the parts of an edit
 
   pub record Parted (x y : Block) (before : ℕ → ℕ) : Type 0 where
-    pub layout : Inside (parts utf8 D .edits .marks (fromLayout (x .layout) .0)) (parts utf8 D .edits .marks (fromLayout (y .layout) .0)) 4 (x .layout .rest) (λ n. before (100 + n))
+    pub layout : Inside (parts allTests D .edits .marks (fromLayout (x .layout) .0)) (parts allTests D .edits .marks (fromLayout (y .layout) .0)) 4 (x .layout .rest) (λ n. before (100 + n))
     pub after : (n : ℕ) → before (section x + n) + section x ≡ section y
     pub symbology : symbologyPart true (width y) .codec .print (y .symbology) ≡ symbologyPart true (width x) .codec .print (x .symbology)
 
@@ -134,7 +135,7 @@ module _ (sheet : List ℕ) where
       let h′ : length (bytesOf (header v4 .edits .marks (y .header))) ≡ 100 = ap length (header v4 .edits .marked (y .header)) ∙ header-length (y .header) (header-legal y ly) in
       let l = ap length (layoutPart true sheet (width x) .edits .marked (x .layout)) in
       let l′ = ap length (layoutPart true sheet (width y) .edits .marked (y .layout)) in
-      let i = inside 4 0 (parts utf8 D .edits .marks (fromLayout (x .layout) .0)) (x .layout .rest) _ e2 (parts utf8 D .edits .marks (fromLayout (y .layout) .0)) (y .layout .rest) refl in
+      let i = inside 4 0 (parts allTests D .edits .marks (fromLayout (x .layout) .0)) (x .layout .rest) _ e2 (parts allTests D .edits .marks (fromLayout (y .layout) .0)) (y .layout .rest) refl in
       let is = before-is (header v4 .edits .marks (x .header)) (header v4 .edits .marks (y .header)) (layoutPart true sheet (width x) .edits .marks (x .layout)) (layoutPart true sheet (width y) .edits .marks (y .layout)) _ _ e1 e2 e3 h h′ in
       record {
         layout = record { edit = i .edit; like = λ n less. is (4 + n) ∙ i .like n less };
@@ -151,12 +152,12 @@ module _ (sheet : List ℕ) where
       let u = fromLayout (x .layout) .0 in
       let v = fromLayout (y .layout) .0 in
       let f : ℕ → ℕ = λ n. n + before (104 + n) in
-      let l = ap length (parts utf8 D .edits .marked u) in
-      let b = length-append (bytesOf (parts utf8 D .edits .marks u)) (x .layout .rest) in
-      let m = parts utf8 D .edits .moved f 0 0 u v (i .edit) (layout-legal x lx) (layout-bare x y same) (λ n less.
+      let l = ap length (parts allTests D .edits .marked u) in
+      let b = length-append (bytesOf (parts allTests D .edits .marks u)) (x .layout .rest) in
+      let m = parts allTests D .edits .moved f 0 0 u v (i .edit) (layout-legal x lx) (layout-bare x y same) (λ n less.
       let z : 104 + (0 + n) ≡ 100 + (4 + n) = omega arith in
       ap (λ k. k + before (104 + (0 + n))) (zero-add n) ∙ ap (λ k. n + k) (ap before z ∙ i .like n (omega arith)) ∙ sym (zero-add _)) in
-      ap rows (layout-at y) ∙ rows-move utf8 D f (parts utf8 D .codec .locate 0 u) (parts utf8 D .codec .locate 0 v) (x .layout .rest) (y .layout .rest) m ∙ ap (λ t. map (moveRow f) (rows t)) (sym (layout-at x))
+      ap rows (layout-at y) ∙ rows-move allTests D f (parts allTests D .codec .locate 0 u) (parts allTests D .codec .locate 0 v) (x .layout .rest) (y .layout .rest) m ∙ ap (λ t. map (moveRow f) (rows t)) (sym (layout-at x))
 
   -- the symbology of the edited block is the same, with other places
   pub section-moved : (x y : Block) (before : ℕ → ℕ) → B4 .legal x → B4 .legal y → B4 .bare y ≡ B4 .bare x → Parted x y before
@@ -190,11 +191,11 @@ module _ (sheet : List ℕ) where
   abbrev pub layoutIn : List ℕ → List ℕ
   layoutIn b = take (value (take 4 (drop 100 b))) (drop 104 b)
 
-  pub layout-bytes : (x : Block) (r : List ℕ) → B4 .legal x → layoutIn (B4 .print x ++ r) ≡ printLayout utf8 D (x .layout)
+  pub layout-bytes : (x : Block) (r : List ℕ) → B4 .legal x → layoutIn (B4 .print x ++ r) ≡ printLayout allTests D (x .layout)
   unfolding block named _on_ _then_ layoutPart judged boxed printLayout
   layout-bytes x r lg =
       let H = header v4 .codec .print (x .header) in
-      let P = parts utf8 D .codec .print (fromLayout (x .layout) .0) ++ x .layout .rest in
+      let P = parts allTests D .codec .print (fromLayout (x .layout) .0) ++ x .layout .rest in
       let S = symbologyPart true (width x) .codec .print (x .symbology) in
       let n = 0 + length P in
       let e : B4 .print x ++ r ≡ H ++ (little 4 n ++ (P ++ (S ++ r))) = simp append-assoc in
@@ -205,16 +206,16 @@ module _ (sheet : List ℕ) where
       let v : value (take 4 (drop 100 (B4 .print x ++ r))) ≡ length P = ap value t ∙ value-little 4 n (lg .1 .0 .0 .2) ∙ zero-add (length P) in
       ap₂ take v d4 ∙ take-append-seam P (S ++ r)
 
-  pub nines-texts : (x : Block) (r : List ℕ) → B4 .legal x → Bytes (x .layout .rest) → map (rowText (layoutIn (B4 .print x ++ r))) (nines (B4 .locate 0 x)) ≡ texts (bareLayout utf8 D (x .layout))
+  pub nines-texts : (x : Block) (r : List ℕ) → B4 .legal x → Bytes (x .layout .rest) → map (rowText (layoutIn (B4 .print x ++ r))) (nines (B4 .locate 0 x)) ≡ texts (bareLayout allTests D (x .layout))
   unfolding LegalLayout locateLayout bareLayout
   nines-texts x r lg bs =
       let t = x .layout in
-      let lt : LegalLayout utf8 D t = (layout-legal x lg, bs) in
+      let lt : LegalLayout allTests D t = (layout-legal x lg, bs) in
       ap (λ b. map (rowText b) (nines (B4 .locate 0 x))) (layout-bytes x r lg)
-      ∙ ap (λ l. map (rowText (printLayout utf8 D t)) (rows l)) (layout-at x)
-      ∙ row-texts utf8 D (printLayout utf8 D t) (locateLayout utf8 D t) (length (printLayout utf8 D t)) (layout-octets utf8 D t lt) (parse-print utf8 D t lt)
-      ∙ texts-bare utf8 D (locateLayout utf8 D t)
-      ∙ ap (λ v. texts (toLayout (v, []))) (parts utf8 D .law .still 0 (fromLayout t .0))
+      ∙ ap (λ l. map (rowText (printLayout allTests D t)) (rows l)) (layout-at x)
+      ∙ row-texts allTests D (printLayout allTests D t) (locateLayout allTests D t) (length (printLayout allTests D t)) (layout-octets allTests D t lt) (parse-print allTests D t lt)
+      ∙ texts-bare allTests D (locateLayout allTests D t)
+      ∙ ap (λ v. texts (toLayout (v, []))) (parts allTests D .law .still 0 (fromLayout t .0))
 
   sixes-each : (x : Block) (r : List ℕ) → symbology utf8 nulPadded isDate (width x) .codec .each (Stands (B4 .print x ++ r)) (B4 .locate 0 x .symbology)
   unfolding block named _on_ _then_ symbologyPart full boxed header num
@@ -241,9 +242,9 @@ module _ (sheet : List ℕ) where
   unfolding LegalLayout locateLayout
   located-lie x r lg =
       let t = x .layout in
-      let lt : LegalLayout utf8 D t = (layout-legal x lg, rest-bytes x lg) in
-      let h = read-lies utf8 D (printLayout utf8 D t) (locateLayout utf8 D t) (length (printLayout utf8 D t)) (layout-octets utf8 D t lt) (parse-print utf8 D t lt) in
-      subst (λ (v : List ℕ). Each (RowInside 10 15 (length v)) (nines (B4 .locate 0 x))) (sym (layout-bytes x r lg)) (subst (λ l. Each (RowInside 10 15 (length (printLayout utf8 D t))) (rows l)) (sym (layout-at x)) h)
+      let lt : LegalLayout allTests D t = (layout-legal x lg, rest-bytes x lg) in
+      let h = read-lies allTests D (printLayout allTests D t) (locateLayout allTests D t) (length (printLayout allTests D t)) (layout-octets allTests D t lt) (parse-print allTests D t lt) in
+      subst (λ (v : List ℕ). Each (RowInside 10 15 (length v)) (nines (B4 .locate 0 x))) (sym (layout-bytes x r lg)) (subst (λ l. Each (RowInside 10 15 (length (printLayout allTests D t))) (rows l)) (sym (layout-at x)) h)
 
   -- every layout row of an accepted block is of kind 10 to 15, and its text, where it is no field, lies within the layout
   pub nines-lie : (b : List ℕ) (z : Block × List ℕ) (k : ℕ) → Bytes b → blockOf 4 sheet b ≡ ok z k → Each (RowInside 10 15 (length (layoutIn b))) (nines (z .0))

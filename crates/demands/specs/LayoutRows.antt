@@ -8,6 +8,7 @@ use mathlib.Core.List.{List, [], _∷_, _++_, map, map-append}
 use lib.ListN.{length, getD}
 use lib.Dec.{eqb}
 use Rattle.codec.specs.Format.{Format, tail-one, raw-edits, num-edits}
+use Rattle.wire.specs.Formats.{Tests}
 use Rattle.codec.specs.EditLaws.{edits-still, edits-padded, edits-then, edits-named, edits-checked, edits-placed, edits-sized, times-moves, edits-times, edits-distinct, edits-boxed}
 use Rattle.wire.specs.Formats.{section, Name, textOf, text, name}
 use Rattle.table.specs.Table.{flat}
@@ -60,26 +61,26 @@ module _ {A : Type 0} (F : Format A false) (f : ℕ → ℕ) where
   moved-concat g h (x ∷ xs) [] m = absurd m
   moved-concat g h (x ∷ xs) (y ∷ ys) m = ap₂ _++_ (h x y (m .0)) (moved-concat g h xs ys (m .1)) ∙ sym (map-append (moveRow f) (g x) (flat (map g xs)))
 
-module _ (utf8 : List ℕ → Bool) (D : ℕ) (f : ℕ → ℕ) where
+module _ (tests : Tests) (D : ℕ) (f : ℕ → ℕ) where
   -- what moved of a name: its start; its text is the same
-  name-is : (x y : Name) → name utf8 .edits .moves f x y → (y .start ≡ f (x .start)) × (y .text ≡ x .text)
+  name-is : (x y : Name) → name tests .edits .moves f x y → (y .start ≡ f (x .start)) × (y .text ≡ x .text)
   unfolding name edits-named edits-then text textOf edits-sized edits-placed edits-checked raw-edits edits-still
   name-is x y m = m .0
 
-  entry-is : (x y : Entry) → entry utf8 D .edits .moves f x y → entryRow y ≡ moveRow f (entryRow x)
+  entry-is : (x y : Entry) → entry tests D .edits .moves f x y → entryRow y ≡ moveRow f (entryRow x)
   unfolding entry edits-named edits-padded
   entry-is x y m = ap headRow m
 
-  fields-are : (x y : Fields) → fields utf8 D .edits .moves f x y → (length (y .entries) ≡ length (x .entries)) × (fieldRows y ≡ map (moveRow f) (fieldRows x))
+  fields-are : (x y : Fields) → fields tests D .edits .moves f x y → (length (y .entries) ≡ length (x .entries)) × (fieldRows y ≡ map (moveRow f) (fieldRows x))
   unfolding fields edits-named edits-sized edits-then edits-times
   fields-are x y m = (
-    moved-length (entry utf8 D) f (x .entries) (y .entries) (m .0),
-    ap₂ _++_ (moved-map (entry utf8 D) f entryRow entry-is (x .entries) (y .entries) (m .0))
-        (moved-map (name utf8) f nameRow (λ u v n. let q = name-is u v n in ap₂ row12 (q .0) (ap length (q .1))) (x .names) (y .names) (m .1))
+    moved-length (entry tests D) f (x .entries) (y .entries) (m .0),
+    ap₂ _++_ (moved-map (entry tests D) f entryRow entry-is (x .entries) (y .entries) (m .0))
+        (moved-map (name tests) f nameRow (λ u v n. let q = name-is u v n in ap₂ row12 (q .0) (ap length (q .1))) (x .names) (y .names) (m .1))
         ∙ sym (map-append (moveRow f) (map entryRow (x .entries)) (map nameRow (x .names))),
   )
 
-  record-is : (x y : RecordL) → recordL utf8 D .edits .moves f x y → recordRows y ≡ map (moveRow f) (recordRows x)
+  record-is : (x y : RecordL) → recordL tests D .edits .moves f x y → recordRows y ≡ map (moveRow f) (recordRows x)
   unfolding recordL edits-named section edits-boxed edits-then num-edits edits-still
   record-is x y m =
       let (a, (b, (c, (h, (n, g))))) = m in
@@ -88,7 +89,7 @@ module _ (utf8 : List ℕ → Bool) (D : ℕ) (f : ℕ → ℕ) where
       let t = ap length (q .1) in
       ap₂ _∷_ (rw (q .0, q .1, a, b, c, h, r .0)) (r .1)
 
-  struct-is : (x y : StructL) → structL utf8 D .edits .moves f x y → structRows y ≡ map (moveRow f) (structRows x)
+  struct-is : (x y : StructL) → structL tests D .edits .moves f x y → structRows y ≡ map (moveRow f) (structRows x)
   unfolding structL edits-named section edits-boxed edits-then num-edits edits-still
   struct-is x y m =
       let (a, (n, g)) = m in
@@ -96,29 +97,29 @@ module _ (utf8 : List ℕ → Bool) (D : ℕ) (f : ℕ → ℕ) where
       let r = fields-are (x .fields) (y .fields) g in
       ap₂ _∷_ (rw (q .0, q .1, a, r .0)) (r .1)
 
-  label-is : (x y : Label) → label utf8 .edits .moves f x y → labelRow y ≡ moveRow f (labelRow x)
+  label-is : (x y : Label) → label tests .edits .moves f x y → labelRow y ≡ moveRow f (labelRow x)
   unfolding label edits-named edits-then num-edits edits-still
   label-is x y m =
       let (a, n) = m in
       let q = name-is (x .name) (y .name) n in
       rw (q .0, q .1, a)
 
-  labelDef-is : (x y : LabelDef) → labelDef utf8 .edits .moves f x y → labelDefRows y ≡ map (moveRow f) (labelDefRows x)
+  labelDef-is : (x y : LabelDef) → labelDef tests .edits .moves f x y → labelDefRows y ≡ map (moveRow f) (labelDefRows x)
   unfolding labelDef edits-named section edits-boxed edits-then edits-sized edits-distinct
   labelDef-is x y m =
       let (n, g) = m in
       let q = name-is (x .name) (y .name) n in
-      ap₂ _∷_ (rw (q .0, q .1, moved-length (label utf8) f (x .labels) (y .labels) g))
-      (moved-map (label utf8) f labelRow label-is (x .labels) (y .labels) g)
+      ap₂ _∷_ (rw (q .0, q .1, moved-length (label tests) f (x .labels) (y .labels) g))
+      (moved-map (label tests) f labelRow label-is (x .labels) (y .labels) g)
 
   -- the rows of a layout whose places are moved by f
-  pub rows-move : (x y : Parts) (r r′ : List ℕ) → parts utf8 D .edits .moves f x y → rows (toLayout (y, r′)) ≡ map (moveRow f) (rows (toLayout (x, r)))
+  pub rows-move : (x y : Parts) (r r′ : List ℕ) → parts tests D .edits .moves f x y → rows (toLayout (y, r′)) ≡ map (moveRow f) (rows (toLayout (x, r)))
   unfolding rows parts edits-then edits-sized edits-times groups
   rows-move x y r r′ m =
       let (v, (a, (b, c))) = m in
-      let A = moved-concat (recordL utf8 D) f recordRows record-is (x .1 .0) (y .1 .0) a in
-      let B = moved-concat (structL utf8 D) f structRows struct-is (x .1 .1 .0) (y .1 .1 .0) b in
-      let C = moved-concat (labelDef utf8) f labelDefRows labelDef-is (x .1 .1 .1) (y .1 .1 .1) c in
+      let A = moved-concat (recordL tests D) f recordRows record-is (x .1 .0) (y .1 .0) a in
+      let B = moved-concat (structL tests D) f structRows struct-is (x .1 .1 .0) (y .1 .1 .0) b in
+      let C = moved-concat (labelDef tests) f labelDefRows labelDef-is (x .1 .1 .1) (y .1 .1 .1) c in
       let rs = flat (map recordRows (x .1 .0)) in
       let ss = flat (map structRows (x .1 .1 .0)) in
       ap₂ _++_ (ap₂ _++_ A B ∙ sym (map-append (moveRow f) rs ss)) C ∙ sym (map-append (moveRow f) (rs ++ ss) (flat (map labelDefRows (x .1 .1 .1))))

@@ -13,6 +13,7 @@ use borrow.Author.Tests.{le-leb}
 use Rattle.codec.specs.Codec.{ok, refuse, refusal, Bytes, little, raw, skip, num, named, checked, judged, whole, boxed, isNil, full, _then_, _on_}
 use Rattle.codec.specs.Laws.{Here, length-little, law-boxed}
 use Rattle.text.specs.Utf8.{utf8}
+use Rattle.wire.specs.Reader.{allTests}
 use Rattle.text.specs.Padded.{nulPadded}
 use Rattle.dates.specs.Date.{isDate}
 use Rattle.layout.specs.LayoutOf.{D}
@@ -106,7 +107,7 @@ section-is : (w : ℕ) (t : Symbology) → symbologyPart true w .codec .print t 
 unfolding symbologyPart full boxed
 section-is w t = refl
 
-layout-length : (sheet : List ℕ) (z : Block) → length (L sheet z) ≡ 4 + length (printLayout utf8 D (z .layout))
+layout-length : (sheet : List ℕ) (z : Block) → length (L sheet z) ≡ 4 + length (printLayout allTests D (z .layout))
 unfolding layoutPart named judged boxed printLayout
 layout-length sheet z = omega arith
 

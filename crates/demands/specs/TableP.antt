@@ -16,7 +16,7 @@ use Rattle.text.specs.Hand.{p13}
 use Rattle.table.specs.Table.{flat}
 use Rattle.wire.specs.Formats.{section, textOf, text, name}
 use Rattle.layout.specs.Layout.{label, labelDef, parts, groups, readLayout}
-use Rattle.layout.specs.LayoutOf.{layoutOf}
+use Rattle.layout.specs.LayoutOf.{layoutOf, layoutBy}
 use Rattle.layout.specs.Rows.{rows}
 use Rattle.layout.specs.Answers.{verdict}
 use Rattle.layout.specs.AnswerLaws.{verdict-refused}
@@ -82,22 +82,22 @@ p6 = 1 ∷ 0 ∷ 0 ∷ 0 ∷ 0 ∷ 0 ∷ 0 ∷ 0 ∷ []
 
 -- no items, no rows
 P6 : (sheet : List ℕ) (width : ℕ) → RuledLaws.given sheet width p6 ≡ ok (1, []) 8
-unfolding ruledOf layoutOf readLayout whole parts groups sized num raw _then_ times rows rulesOf seqsFault structsFault recordsFault
+unfolding ruledOf layoutBy readLayout whole parts groups sized num raw _then_ times rows rulesOf seqsFault structsFault recordsFault
 P6 sheet width = refl
 
 -- a label def of one label
 P7 : (sheet : List ℕ) (width : ℕ) → RuledLaws.given sheet width p7 ≡ ok (1, p7rows) 22
-unfolding ruledOf layoutOf readLayout whole parts groups sized num raw fixed _then_ times rows labelDef label named section boxed name text textOf checked placed distinct utf8 rulesOf seqsFault structsFault recordsFault
+unfolding ruledOf layoutBy readLayout whole parts groups sized num raw fixed _then_ times rows labelDef label named section boxed name text textOf checked placed distinct utf8 rulesOf seqsFault structsFault recordsFault
 P7 sheet width = refl
 
 -- the same with two bytes left over in its section
 P8 : (sheet : List ℕ) (width : ℕ) → RuledLaws.given sheet width p8 ≡ ok (1, p7rows) 24
-unfolding ruledOf layoutOf readLayout whole parts groups sized num raw fixed _then_ times rows labelDef label named section boxed name text textOf checked placed distinct utf8 rulesOf seqsFault structsFault recordsFault
+unfolding ruledOf layoutBy readLayout whole parts groups sized num raw fixed _then_ times rows labelDef label named section boxed name text textOf checked placed distinct utf8 rulesOf seqsFault structsFault recordsFault
 P8 sheet width = refl
 
 -- a section length below 2
 P9 : (sheet : List ℕ) (width : ℕ) → ruledOf sheet width p9 ≡ refuse (refusal 51 8)
-unfolding ruledOf layoutOf readLayout whole parts groups sized num raw fixed _then_ times rows labelDef label named section boxed name text textOf checked placed distinct utf8
+unfolding ruledOf layoutBy readLayout whole parts groups sized num raw fixed _then_ times rows labelDef label named section boxed name text textOf checked placed distinct utf8
 P9 sheet width = refl
 
 -- the table, line by line

@@ -81,7 +81,7 @@ pub(crate) fn layout(s: &[u8], sheet: &[u16; 520]) {
 
 // Reads the rows of a layout, says what came of it, and answers how many there are.
 fn read_rows(layout: &[u8], table: &mut [u32]) -> usize {
-    match layout::read_layout_rows(layout, table) {
+    match layout::read_layout_rows(layout, false, table) {
         Answer::Read { version, rows } => {
             show::read(version, rows);
             rows

@@ -10,7 +10,7 @@ pub(crate) fn again(s: &[u8], sheet: &[u16; 520]) {
     let width = bytes::u16_at(s, 0);
     let layout = bytes::from(s, 2);
     let mut table = rows::space();
-    match layout::read_layout_rows(layout, &mut table) {
+    match layout::read_layout_rows(layout, false, &mut table) {
         Answer::Read { version, rows: n } => {
             let mut out = [7u8; 4096];
             write(
@@ -66,7 +66,7 @@ fn write(rows: &[u32], text: &[u8], version: u16, width: u16, sheet: &[u16; 520]
 // Whether what was written is read back with this version and these rows.
 fn reads_back(rows: &[u32], text: &[u8], version: u16, bytes: &[u8]) -> bool {
     let mut table = [0u32; 4608];
-    match layout::read_layout_rows(bytes, &mut table) {
+    match layout::read_layout_rows(bytes, false, &mut table) {
         Answer::Read {
             version: v,
             rows: n,

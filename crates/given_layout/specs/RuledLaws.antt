@@ -2,6 +2,7 @@
 use Prim.Native.Nat.{ℕ, _*_, _/_, _≤_}
 use native.Mathlib.Omega.{arith}
 use mathlib.Core.Path.{_≡_, refl, sym, ap, _∙_}
+use mathlib.Core.Bool.{Bool}
 use mathlib.Core.List.{List, _++_}
 use lib.ListN.{length, drop}
 use borrow.Author.Tests.{le-leb}
@@ -12,7 +13,9 @@ use Rattle.codec.specs.RefusalLaws.{gives-is}
 use Rattle.table.specs.Table.{flat}
 use Rattle.layout.specs.Layout.{Layout}
 use Rattle.layout.specs.Rows.{rows}
-use Rattle.layout.specs.LayoutOf.{layoutOf}
+use Rattle.wire.specs.Reader.{testsOf}
+use Rattle.layout.specs.LayoutOf.{layoutBy}
+use Rattle.layout.specs.LenientLaws.{light-same}
 use Rattle.layout.specs.Answers.{verdict, Answers, judge, leave}
 use Rattle.layout.specs.declared.Verdict.the-variants as Verdict'
 use Rattle.layout.specs.declared.Answer.{Answer}
@@ -33,14 +36,14 @@ pub ruled-layout-within : (s : List ℕ) (w : ℕ) (sheet t t′ : List ℕ) (k 
 ruled-layout-within s w sheet t t′ k p = ruled-within sheet w s (judge-refused (length t / 9) (ruledOf sheet w s) (p .is))
 
 module _ {sheet : List ℕ} {w : ℕ} {s t : List ℕ} where
-  both-read : {t′ : List ℕ} {r : Answer} (l : Layout) (i j : ℕ) → layoutOf s ≡ ok l i → ruledOf sheet w s ≡ ok l j → Answers s t t′ r → Ruled s w sheet t t′ r
-  both-read l i j e f a = record { is = a .is ∙ ap (judge (length t / 9)) e ∙ judge-anywhere _ l i j ∙ sym (ap (judge (length t / 9)) f); leaves = a .leaves ∙ ap (leave t) e ∙ leave-anywhere t l i j ∙ sym (ap (leave t) f) }
+  both-read : (light : Bool) {t′ : List ℕ} {r : Answer} (l : Layout) (i j : ℕ) → layoutBy (testsOf light) s ≡ ok l i → ruledOf sheet w s ≡ ok l j → Answers light s t t′ r → Ruled s w sheet t t′ r
+  both-read light l i j e f a = record { is = a .is ∙ ap (judge (length t / 9)) e ∙ judge-anywhere _ l i j ∙ sym (ap (judge (length t / 9)) f); leaves = a .leaves ∙ ap (leave t) e ∙ leave-anywhere t l i j ∙ sym (ap (leave t) f) }
 
-  pub ruled-read : {v n : ℕ} {t′ : List ℕ} {r : Answer} → Verdict'.Accepted v n ≡ verdict (ruledOf sheet w s) → Answers s t t′ r → Ruled s w sheet t t′ r
-  ruled-read q a =
+  pub ruled-read : {v n : ℕ} {t′ : List ℕ} {r : Answer} → Verdict'.Accepted v n ≡ verdict (ruledOf sheet w s) → (light : Bool) → Answers light s t t′ r → Ruled s w sheet t t′ r
+  ruled-read q light a =
       let (l, j, el, ev, em) = verdict-ok (ruledOf sheet w s) q in
       let (i, e) = ruled-layout sheet w s l j el in
-      both-read l i j e el a
+      both-read light l i j (light-same light s e) el a
 
   pub ruled-no : {k : Refusal} → Verdict'.Refused k ≡ verdict (ruledOf sheet w s) → Ruled s w sheet t t (Answer'.Refused k)
   ruled-no {k} q =

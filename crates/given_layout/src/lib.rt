@@ -1,7 +1,7 @@
 // A layout given by itself, with a symbol width: read, ruled on, and its rows in a lent table.
 ghost use Rattle.given_layout.specs.Ruled.{Ruled};
 
-// A layout given with a symbol width: 13, the layout, its rules, then 3. The table is written only where all is accepted and it
+// A layout given with a symbol width: 13, the layout, its rules, then 3. The rows are read without a second look at the names' texts. The table is written only where all is accepted and it
 // is long enough.
 pub fn read_layout(
     layout: &[u8],
@@ -15,7 +15,7 @@ pub fn read_layout(
         layout::Verdict::Accepted {
             version: _,
             rows: _,
-        } => layout::read_layout_rows(layout, table),
+        } => layout::read_layout_rows(layout, true, table),
         layout::Verdict::Refused(why) => layout::Answer::Refused(why),
     }
 }

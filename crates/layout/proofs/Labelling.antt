@@ -11,6 +11,7 @@ use Rattle.codec.specs.Codec.{among}
 use Rattle.marks.specs.Marks.{wiped, Marks, Only}
 use Rattle.marks.specs.MarkLaws.{only-next, only-end}
 use Rattle.numbers.specs.Numbers.{le16, u16At}
+use Rattle.wire.specs.Formats.{Tests}
 use Rattle.wire.specs.Reader.{nameAt}
 use Rattle.numbers.specs.NumberLaws.{u16-value}
 use Rattle.wire.specs.NameLaws.{name-place}
@@ -83,18 +84,18 @@ trail-end {s} {count} {at} {todo} {p} {seen} {ws} t h m =
     or-nil a h = rw h
 
 -- the loop over labels: the codes that were seen are marked, and the rest is read after them
-pub record Labelling (base : ℕ) (s : List ℕ) (at count n : ℕ) (t₀ ws : List ℕ) (todo p k : ℕ) (t : List ℕ) : Type 0 where
+pub record Labelling (light : Bool) (base : ℕ) (s : List ℕ) (at count n : ℕ) (t₀ ws : List ℕ) (todo p k : ℕ) (t : List ℕ) : Type 0 where
   pub seen : List ℕ
-  pub going : Going (putRow 9) base s (labelsAt base [] count s at) n t₀ (labelsAt base seen todo s p) p k t
+  pub going : Going (putRow 9) base s (labelsAt light base [] count s at) n t₀ (labelsAt light base seen todo s p) p k t
   pub marks : Marks ws seen
   pub trail : Trail s count at todo p seen
 
 -- what one label more tells
-pub label-place : (s : List ℕ) (p : ℕ) {code q len e : ℕ} → u16At s p ≡ Value code q → nameAt s q ≡ Value len e → e ≤ length s
+pub label-place : (tests : Tests) (s : List ℕ) (p : ℕ) {code q len e : ℕ} → u16At s p ≡ Value code q → nameAt tests s q ≡ Value len e → e ≤ length s
     → (code ≡ le16 s p) × (e ≡ p + 4 + getD s (p + 2) 0)
-label-place s p {code} {q} {len} {e} x y l =
+label-place tests s p {code} {q} {len} {e} x y l =
     let a = u16-value s p x in
-    let b = name-place s q y in
+    let b = name-place tests s q y in
     let d : q ≡ p + 2 = a .1 in
     let g : getD s q 0 ≡ getD s (p + 2) 0 = ap (λ (m : ℕ). getD s m 0) d in
     (a .0, omega arith)

@@ -1,6 +1,6 @@
 -- What the public readers answer, and what they leave in the table.
 -- Assumes nothing.
-use mathlib.Core.Bool.{cond}
+use mathlib.Core.Bool.{Bool, cond}
 use Prim.Native.Nat.{ℕ, _*_, _/_}
 use mathlib.Core.Path.{_≡_}
 use mathlib.Core.List.{List, [], _∷_, _++_}
@@ -10,7 +10,8 @@ use Rattle.codec.specs.Codec.{Res, ok, refuse}
 use Rattle.table.specs.Table.{flat}
 use Rattle.layout.specs.Layout.{Layout}
 use Rattle.layout.specs.Rows.{rows}
-use Rattle.layout.specs.LayoutOf.{layoutOf}
+use Rattle.layout.specs.LayoutOf.{layoutBy}
+use Rattle.wire.specs.Reader.{testsOf}
 use Rattle.layout.specs.declared.Verdict.{Verdict}
 use Rattle.layout.specs.declared.Verdict.the-variants.{Accepted}
 use Rattle.layout.specs.declared.Verdict.the-variants as Verdict'
@@ -39,10 +40,10 @@ unfoldable pub leave : List ℕ → Res Layout → List ℕ
 leave t (ok l j) = cond (leb (length (rows l)) (length t / 9)) (flat (rows l) ++ drop (9 * length (rows l)) t) t
 leave t (refuse k) = t
 
--- what reading the layout s into the table t answers and leaves
-pub record Answers (s t t′ : List ℕ) (r : Answer) : Type 0 where
-  pub is : r ≡ judge (length t / 9) (layoutOf s)
-  pub leaves : t′ ≡ leave t (layoutOf s)
+-- what reading the layout s into the table t answers and leaves; where `light` holds the names' texts are not looked at
+pub record Answers (light : Bool) (s t t′ : List ℕ) (r : Answer) : Type 0 where
+  pub is : r ≡ judge (length t / 9) (layoutBy (testsOf light) s)
+  pub leaves : t′ ≡ leave t (layoutBy (testsOf light) s)
 
 -- ---- the numbers of document 01
 

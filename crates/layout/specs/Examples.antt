@@ -1,15 +1,15 @@
 -- Document 01's P6 to P9, computed. Assumes nothing.
 use Prim.Native.Nat.{ℕ}
 use mathlib.Core.Path.{_≡_, refl}
-use mathlib.Core.Bool.{Bool, true}
+use mathlib.Core.Bool.{true}
 use mathlib.Core.List.{List, [], _∷_}
 use Rattle.codec.specs.Codec.{_then_, Res, ok, refuse, refusal, _>>=_, raw, padded, num, fixed, named, checked, placed, sized, times, distinct, whole, boxed}
-use Rattle.wire.specs.Formats.{section, text, name}
+use Rattle.wire.specs.Formats.{Tests, noNul, section, text, name}
 use Rattle.layout.specs.Layout.{entry, fields, recordL, structL, label, labelDef, parts, groups, readLayout}
 use Rattle.layout.specs.Rows.{rows}
 
-abbrev pub any : List ℕ → Bool
-any t = true
+abbrev pub any : Tests
+any = record { noNul = noNul; utf8 = λ _. true }
 
 -- the version and the rows, or the refusal
 abbrev pub answer : List ℕ → Res (ℕ × List (List ℕ))

@@ -5,6 +5,7 @@ use mathlib.Core.Path.{_≡_, refl}
 use mathlib.Core.Bool.{Bool, false}
 use mathlib.Core.List.{List, [], _++_}
 use Rattle.codec.specs.Codec
+use Rattle.wire.specs.Formats.{Tests}
 use Rattle.codec.specs.Codec.{Res, ok, _>>=_, Bytes, whole}
 use Rattle.codec.specs.Format.{Format, _then_, named, padded, counted, keyed, countedBoth}
 use Rattle.wire.specs.Formats.{Name, u16, u64, section, name}
@@ -82,10 +83,10 @@ fromLayout t = ((t .version, (t .records, (t .structs, t .labels))), t .rest)
 
 -- ---- the formats
 
-module _ (utf8 : List ℕ → Bool) where
+module _ (tests : Tests) where
   -- code u16 and name
   unfoldable pub label : Format Label false
-  label = named (λ z. record { code = z .0; name = z .1 }) (λ l. (l .code, l .name)) (λ x. refl) (u16 then name utf8)
+  label = named (λ z. record { code = z .0; name = z .1 }) (λ l. (l .code, l .name)) (λ x. refl) (u16 then name tests)
 
   pub label-code : (l : Label) → label .codec .bare l .code ≡ l .code
   unfolding label Codec.named Codec._then_ Codec.num
@@ -93,36 +94,36 @@ module _ (utf8 : List ℕ → Bool) where
 
   -- name, u16 count, then labels; 55 where a code comes again
   abbrev pub labelBody : Format (Name × List Label) false
-  labelBody = name utf8 then keyed label (λ l. l .code) 50 55 label-code
+  labelBody = name tests then keyed label (λ l. l .code) 50 55 label-code
 
   unfoldable pub labelDef : Format LabelDef false
   labelDef = named toLabelDef (λ d. ((d .name, d .labels), d .rest)) (λ x. refl) (section labelBody)
 
-module _ (utf8 : List ℕ → Bool) (D : ℕ) where
+module _ (tests : Tests) (D : ℕ) where
   unfoldable pub entry : Format Entry false
   entry = named (λ z. record { head = z .0; skipped = z .1 }) (λ e. (e .head, e .skipped)) (λ x. refl) (padded 50 11 (D - 11))
 
   -- u16 count, entries, then one name each
   unfoldable pub fields : Format Fields false
-  fields = named (λ z. record { entries = z .0; names = z .1 }) (λ f. (f .entries, f .names)) (λ x. refl) (countedBoth entry (name utf8) 50)
+  fields = named (λ z. record { entries = z .0; names = z .1 }) (λ f. (f .entries, f .names)) (λ x. refl) (countedBoth entry (name tests) 50)
 
   -- rtype, schema, base size (u16 each), hash u64, name, fields
   abbrev pub recordBody : Format (ℕ × (ℕ × (ℕ × (ℕ × (Name × Fields))))) false
-  recordBody = u16 then u16 then u16 then u64 then name utf8 then fields
+  recordBody = u16 then u16 then u16 then u64 then name tests then fields
 
   unfoldable pub recordL : Format RecordL false
   recordL = named toRecord (λ r. ((r .rtype, (r .schema, (r .base, (r .hash, (r .name, r .fields))))), r .rest)) (λ x. refl) (section recordBody)
 
   -- size u16, name, fields
   abbrev pub structBody : Format (ℕ × (Name × Fields)) false
-  structBody = u16 then name utf8 then fields
+  structBody = u16 then name tests then fields
 
   unfoldable pub structL : Format StructL false
   structL = named toStruct (λ s. ((s .size, (s .name, s .fields)), s .rest)) (λ x. refl) (section structBody)
 
   -- u16 version; u16 count and records; u16 count and structs; u16 count and label defs
   unfoldable pub groups : Format (List RecordL × (List StructL × List LabelDef)) false
-  groups = counted recordL 50 then counted structL 50 then counted (labelDef utf8) 50
+  groups = counted recordL 50 then counted structL 50 then counted (labelDef tests) 50
 
   unfoldable pub parts : Format Parts false
   parts = u16 then groups

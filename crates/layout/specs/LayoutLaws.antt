@@ -7,64 +7,65 @@ use mathlib.Core.Bool.{Bool}
 use mathlib.Core.List.{List, []}
 use lib.ListN.{length, take, drop}
 use Rattle.codec.specs.Codec.{ok, Bytes, _then_, num, whole}
+use Rattle.wire.specs.Formats.{Tests}
 use Rattle.codec.specs.Laws.{bind-ok, left-part, part-take, bytes-append, whole-reads, whole-back}
 use Rattle.layout.specs.Layout.{Layout, Parts, parts, toLayout, fromLayout, readLayout, printLayout, locateLayout, LegalLayout, bareLayout, FitsLayout, EachName}
 
-module _ (utf8 : List ℕ → Bool) (D : ℕ) where
+module _ (tests : Tests) (D : ℕ) where
   -- (a): the bytes of a legal layout are read as that layout, with its places
-  pub parse-print : (t : Layout) → LegalLayout utf8 D t → readLayout utf8 D (printLayout utf8 D t) ≡ ok (locateLayout utf8 D t) (length (printLayout utf8 D t))
+  pub parse-print : (t : Layout) → LegalLayout tests D t → readLayout tests D (printLayout tests D t) ≡ ok (locateLayout tests D t) (length (printLayout tests D t))
   unfolding readLayout printLayout locateLayout LegalLayout
-  parse-print t lg = rw (whole-reads (parts utf8 D .codec) (parts utf8 D .law) 0 _ (t .rest) (lg .0))
+  parse-print t lg = rw (whole-reads (parts tests D .codec) (parts tests D .law) 0 _ (t .rest) (lg .0))
 
   -- (b): what is read is legal, has its places, and is the bytes that were read
   pub record Parsed (b : List ℕ) (t : Layout) : Type 0 where
-    pub bytes : printLayout utf8 D t ≡ b
-    pub located : locateLayout utf8 D t ≡ t
-    pub legal : LegalLayout utf8 D t
+    pub bytes : printLayout tests D t ≡ b
+    pub located : locateLayout tests D t ≡ t
+    pub legal : LegalLayout tests D t
 
-  pub print-parse : (b : List ℕ) (t : Layout) (j : ℕ) → Bytes b → readLayout utf8 D b ≡ ok t j → Parsed b t
+  pub print-parse : (b : List ℕ) (t : Layout) (j : ℕ) → Bytes b → readLayout tests D b ≡ ok t j → Parsed b t
   unfolding readLayout printLayout locateLayout LegalLayout
   print-parse b t j bs e =
-      let (z, k, ez, e1) = bind-ok (whole (parts utf8 D .codec) 0 b) _ t j e in
-      let w = whole-back (parts utf8 D .codec) (parts utf8 D .law) 0 b z k bs ez in
+      let (z, k, ez, e1) = bind-ok (whole (parts tests D .codec) 0 b) _ t j e in
+      let w = whole-back (parts tests D .codec) (parts tests D .law) 0 b z k bs ez in
       let p : toLayout z ≡ t = cc in
       subst (λ v. Parsed b v) p (record { bytes = sym (w .bytes); located = ap (λ v. toLayout (v, z .1)) (w .located); legal = (w .legal, w .rest) })
 
   -- (c): other skipped bytes, with every length still fitting, are read to the same, places apart
   pub record Reread (t t′ : Layout) : Type 0 where
-    pub accepted : readLayout utf8 D (printLayout utf8 D t′) ≡ ok (locateLayout utf8 D t′) (length (printLayout utf8 D t′))
-    pub same : bareLayout utf8 D (locateLayout utf8 D t′) ≡ bareLayout utf8 D t
+    pub accepted : readLayout tests D (printLayout tests D t′) ≡ ok (locateLayout tests D t′) (length (printLayout tests D t′))
+    pub same : bareLayout tests D (locateLayout tests D t′) ≡ bareLayout tests D t
 
-  pub skipped-free : (b : List ℕ) (t t′ : Layout) (j : ℕ) → Bytes b → readLayout utf8 D b ≡ ok t j
-      → bareLayout utf8 D t ≡ bareLayout utf8 D t′ → FitsLayout utf8 D t′ → Reread t t′
+  pub skipped-free : (b : List ℕ) (t t′ : Layout) (j : ℕ) → Bytes b → readLayout tests D b ≡ ok t j
+      → bareLayout tests D t ≡ bareLayout tests D t′ → FitsLayout tests D t′ → Reread t t′
   unfolding LegalLayout bareLayout FitsLayout locateLayout
   skipped-free b t t′ j bs e same f =
       let p = print-parse b t j bs e in
       let q = ap (λ v. fromLayout v .0) same in
       record {
-        accepted = parse-print t′ (parts utf8 D .law .swap _ _ (p .legal .0) q (f .0), f .1);
-        same = ap (λ v. toLayout (v, [])) (parts utf8 D .law .still 0 (fromLayout t′ .0)) ∙ sym same;
+        accepted = parse-print t′ (parts tests D .law .swap _ _ (p .legal .0) q (f .0), f .1);
+        same = ap (λ v. toLayout (v, [])) (parts tests D .law .still 0 (fromLayout t′ .0)) ∙ sym same;
       }
 
   -- every name's text stands at its start
-  pub spots : (b : List ℕ) (t : Layout) (j : ℕ) → Bytes b → readLayout utf8 D b ≡ ok t j → EachName utf8 D (λ n u. take (length u) (drop n b) ≡ u) t
+  pub spots : (b : List ℕ) (t : Layout) (j : ℕ) → Bytes b → readLayout tests D b ≡ ok t j → EachName tests D (λ n u. take (length u) (drop n b) ≡ u) t
   unfolding EachName printLayout locateLayout
   spots b t j bs e =
       let p = print-parse b t j bs e in
-      subst (λ v. EachName utf8 D (λ n u. take (length u) (drop n b) ≡ u) v) (p .located)
-      (parts utf8 D .law .spotted _ 0 (fromLayout t .0) (λ n u q. rw zero-add (subst (λ v. take (length u) (drop n v) ≡ u) (p .bytes) (part-take (left-part (t .rest) q)))))
+      subst (λ v. EachName tests D (λ n u. take (length u) (drop n b) ≡ u) v) (p .located)
+      (parts tests D .law .spotted _ 0 (fromLayout t .0) (λ n u q. rw zero-add (subst (λ v. take (length u) (drop n v) ≡ u) (p .bytes) (part-take (left-part (t .rest) q)))))
 
-  pub layout-octets : (t : Layout) → LegalLayout utf8 D t → Bytes (printLayout utf8 D t)
+  pub layout-octets : (t : Layout) → LegalLayout tests D t → Bytes (printLayout tests D t)
   unfolding LegalLayout printLayout
-  layout-octets t lg = bytes-append (parts utf8 D .codec .print (fromLayout t .0)) (t .rest) (parts utf8 D .law .octets _ (lg .0)) (lg .1)
+  layout-octets t lg = bytes-append (parts tests D .codec .print (fromLayout t .0)) (t .rest) (parts tests D .law .octets _ (lg .0)) (lg .1)
 
-  pub swap-legal : (b : List ℕ) (t t′ : Layout) (j : ℕ) → Bytes b → readLayout utf8 D b ≡ ok t j
-      → bareLayout utf8 D t ≡ bareLayout utf8 D t′ → FitsLayout utf8 D t′ → LegalLayout utf8 D t′
+  pub swap-legal : (b : List ℕ) (t t′ : Layout) (j : ℕ) → Bytes b → readLayout tests D b ≡ ok t j
+      → bareLayout tests D t ≡ bareLayout tests D t′ → FitsLayout tests D t′ → LegalLayout tests D t′
   unfolding LegalLayout bareLayout FitsLayout
   swap-legal b t t′ j bs e same f =
-      (parts utf8 D .law .swap _ _ (print-parse b t j bs e .legal .0) (ap (λ v. fromLayout v .0) same) (f .0), f .1)
+      (parts tests D .law .swap _ _ (print-parse b t j bs e .legal .0) (ap (λ v. fromLayout v .0) same) (f .0), f .1)
 
   -- the version alone has two bytes
-  pub parts-some : (x : Parts) → parts utf8 D .codec .legal x → 0 < length (parts utf8 D .codec .print x)
+  pub parts-some : (x : Parts) → parts tests D .codec .legal x → 0 < length (parts tests D .codec .print x)
   unfolding parts _then_ num
   parts-some x lg = omega arith

@@ -8,7 +8,8 @@ use mathlib.Core.List.{List}
 use lib.ListN.{length}
 use lib.Dec.{leb}
 use Rattle.codec.specs.Codec.{Res, refuse, refusal, Codec}
-use Rattle.text.specs.Utf8.{utf8}
+use Rattle.wire.specs.Reader.{allTests}
+use Rattle.wire.specs.Formats.{Tests}
 use Rattle.layout.specs.Layout
 use Rattle.layout.specs.Layout.{Entry, Fields, RecordL, StructL, Label, LabelDef}
 
@@ -24,23 +25,27 @@ unfolding D
 D-is = refl
 
 abbrev pub entry : Codec Entry
-entry = Layout.entry utf8 D .codec
+entry = Layout.entry allTests D .codec
 
 abbrev pub fields : Codec Fields
-fields = Layout.fields utf8 D .codec
+fields = Layout.fields allTests D .codec
 
 abbrev pub label : Codec Label
-label = Layout.label utf8 .codec
+label = Layout.label allTests .codec
 
 abbrev pub recordL : Codec RecordL
-recordL = Layout.recordL utf8 D .codec
+recordL = Layout.recordL allTests D .codec
 
 abbrev pub structL : Codec StructL
-structL = Layout.structL utf8 D .codec
+structL = Layout.structL allTests D .codec
 
 abbrev pub labelDef : Codec LabelDef
-labelDef = Layout.labelDef utf8 .codec
+labelDef = Layout.labelDef allTests .codec
 
--- what a layout given whole is read as
-unfoldable pub layoutOf : List ℕ → Res Layout.Layout
-layoutOf s = cond (leb (length s) 4294967295) (Layout.readLayout utf8 D s) (refuse (refusal 13 0))
+-- what a layout given whole is read as, where the names' texts pass these tests
+unfoldable pub layoutBy : Tests → List ℕ → Res Layout.Layout
+layoutBy tests s = cond (leb (length s) 4294967295) (Layout.readLayout tests D s) (refuse (refusal 13 0))
+
+-- the same, with all of them
+abbrev pub layoutOf : List ℕ → Res Layout.Layout
+layoutOf s = layoutBy allTests s

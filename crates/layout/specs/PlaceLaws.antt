@@ -13,7 +13,7 @@ use Rattle.codec.specs.Codec.{Res, ok, refuse, refusal, shifted, _>>=_, Codec, 
 use Rattle.codec.specs.Laws.{shifted-ok, bind-ok, length-bare}
 use Rattle.codec.specs.StepLaws.{raw-got, raw-bad, times-length}
 use Rattle.codec.specs.CaseLaws.{by-le}
-use Rattle.text.specs.Utf8.{utf8}
+use Rattle.wire.specs.Reader.{allTests}
 use Rattle.codec.specs.Format.{Format}
 use Rattle.wire.specs.Formats
 use Rattle.wire.specs.Formats.{Name, section}
@@ -27,7 +27,7 @@ use Rattle.numbers.specs.declared.Got.{Got}
 use Rattle.numbers.specs.declared.Got.the-variants.{Value, Refused}
 use Rattle.layout.specs.Layout
 use Rattle.layout.specs.Layout.{Entry, Fields, RecordL, StructL, Layout, Parts, toLayout}
-use Rattle.layout.specs.LayoutOf.{D, D-least, entry, fields, recordL, structL, labelDef, layoutOf}
+use Rattle.layout.specs.LayoutOf.{D, D-least, entry, fields, recordL, structL, labelDef, layoutOf, layoutBy}
 use Rattle.entry.specs.Entry.{entryBytes}
 use Rattle.layout.specs.Rows.{recordRows, structRows, labelDefRows, rows}
 use Rattle.table.specs.Table.{allRows}
@@ -68,10 +68,10 @@ u64-back : (base : ℕ) (s : List ℕ) (i : ℕ) {v j : ℕ} → num 50 8 .parse
 u64-back base s i e = num-value 50 8 s i (got-of (numAt 50 8 s i) (sym (num-is 50 8 s i base) ∙ e)) .1
 
 name-back : (base : ℕ) (s : List ℕ) (i : ℕ) {x : Name} {j : ℕ} → name .parse base s i ≡ ok x j → j ≡ countAt s i
-name-back base s i {x} {j} e = go (nameAt s i) refl (sym (name-is s i base) ∙ e)
+name-back base s i {x} {j} e = go (nameAt allTests s i) refl (sym (name-is allTests s i base) ∙ e)
   where
-    go : (g : Got) → nameAt s i ≡ g → nameOf base s i g ≡ ok x j → j ≡ countAt s i
-    go (Value len q) f h = let p : q ≡ j = cc in let w = name-place s i f in omega arith
+    go : (g : Got) → nameAt allTests s i ≡ g → nameOf base s i g ≡ ok x j → j ≡ countAt s i
+    go (Value len q) f h = let p : q ≡ j = cc in let w = name-place allTests s i f in omega arith
     go (Refused k) f h = absurd (let z : _≡_ {A = ℕ} 0 1 = cc in omega arith)
 
 bytesFrom : ℕ → List ℕ → ℕ → ℕ → List ℕ
@@ -175,7 +175,7 @@ fields-back base s h q {f} {j} eq e =
 
 -- ---- a struct's body, and a record's
 
-pub struct-body : (base : ℕ) (s : List ℕ) {z : ℕ × (Name × Fields)} {k : ℕ} → Layout.structBody utf8 D .codec .parse base s 0 ≡ ok z k → (z .0 ≡ le16 s 0) × FieldsAt s 2 (z .1 .1)
+pub struct-body : (base : ℕ) (s : List ℕ) {z : ℕ × (Name × Fields)} {k : ℕ} → Layout.structBody allTests D .codec .parse base s 0 ≡ ok z k → (z .0 ≡ le16 s 0) × FieldsAt s 2 (z .1 .1)
 struct-body base s e =
     let (a, e1, r1) = then-back _ _ base s 0 e in
     let (b, e2, r2) = then-back _ _ base s a r1 in
@@ -183,7 +183,7 @@ struct-body base s e =
     let at : a ≡ 2 = omega (arith, w .1) in
     (w .0, fields-back base s 2 b (name-back base s a e2 ∙ ap (countAt s) at) r2)
 
-pub record-body : (base : ℕ) (s : List ℕ) {z : ℕ × (ℕ × (ℕ × (ℕ × (Name × Fields))))} {k : ℕ} → Layout.recordBody utf8 D .codec .parse base s 0 ≡ ok z k
+pub record-body : (base : ℕ) (s : List ℕ) {z : ℕ × (ℕ × (ℕ × (ℕ × (Name × Fields))))} {k : ℕ} → Layout.recordBody allTests D .codec .parse base s 0 ≡ ok z k
     → (z .0 ≡ le16 s 0) × (z .1 .1 .0 ≡ le16 s 4) × FieldsAt s 14 (z .1 .1 .1 .1 .1)
 record-body base s e =
     let (a, e1, r1) = then-back _ _ base s 0 e in
@@ -395,16 +395,16 @@ pub record LayoutAt (s : List ℕ) (t : Layout) : Type 0 where
   pub labels-count : length (t .labels) ≡ le16 s (labelsAt s)
 
 pub layout-at : (s : List ℕ) (t : Layout) (j : ℕ) → layoutOf s ≡ ok t j → LayoutAt s t
-unfolding layoutOf Layout.readLayout Layout.parts Layout.groups whole
+unfolding layoutBy Layout.readLayout Layout.parts Layout.groups whole
 layout-at s t j e = by-le (length s) 4294967295 (λ h. go h (rw (le-leb (length s) 4294967295 h) at e)) (λ h. absurd (no (rw (lt-leb (length s) 4294967295 h) at e)))
   where
     no : _≡_ {A = Res Layout} (refuse (refusal 13 0)) (ok t j) → ⊥
     no q = let y : _≡_ {A = ℕ} 0 1 = cc in omega arith
 
-    go : length s ≤ 4294967295 → (whole (Layout.parts utf8 D .codec) 0 s >>= λ z k. ok (toLayout z) k) ≡ ok t j → LayoutAt s t
+    go : length s ≤ 4294967295 → (whole (Layout.parts allTests D .codec) 0 s >>= λ z k. ok (toLayout z) k) ≡ ok t j → LayoutAt s t
     go h q =
-        let (z, k, ez, e1) = bind-ok (whole (Layout.parts utf8 D .codec) 0 s) _ t j q in
-        let (x, m, ex, e2) = bind-ok (Layout.parts utf8 D .codec .parse 0 s 0) _ z k ez in
+        let (z, k, ez, e1) = bind-ok (whole (Layout.parts allTests D .codec) 0 s) _ t j q in
+        let (x, m, ex, e2) = bind-ok (Layout.parts allTests D .codec .parse 0 s 0) _ z k ez in
         let pz : _≡_ {A = Parts × List ℕ} (x, drop m s) z = cc in
         let pt : toLayout z ≡ t = cc in
         let (a, e3, r3) = then-back _ _ 0 s 0 ex in
@@ -459,14 +459,14 @@ module _ {B : Type 0} (view : ℕ → ℕ → List (List ℕ) → B) where
   unfolding Layout.recordL named _then_ num
   record-bare r = rw section-bare (fields-bare (r .rtype) (r .base) (r .fields))
 
-  pub structs-bare : (x : Parts) → map (λ s. viewed 0 (s .size) (s .fields)) (Layout.parts utf8 D .codec .bare x .1 .1 .0) ≡ map (λ s. viewed 0 (s .size) (s .fields)) (x .1 .1 .0)
+  pub structs-bare : (x : Parts) → map (λ s. viewed 0 (s .size) (s .fields)) (Layout.parts allTests D .codec .bare x .1 .1 .0) ≡ map (λ s. viewed 0 (s .size) (s .fields)) (x .1 .1 .0)
   unfolding Layout.parts Layout.groups sized times _then_ num
   structs-bare x = map-bare structL (λ s. viewed 0 (s .size) (s .fields)) struct-bare (x .1 .1 .0)
 
-  pub records-bare : (x : Parts) → map (λ r. viewed (r .rtype) (r .base) (r .fields)) (Layout.parts utf8 D .codec .bare x .1 .0) ≡ map (λ r. viewed (r .rtype) (r .base) (r .fields)) (x .1 .0)
+  pub records-bare : (x : Parts) → map (λ r. viewed (r .rtype) (r .base) (r .fields)) (Layout.parts allTests D .codec .bare x .1 .0) ≡ map (λ r. viewed (r .rtype) (r .base) (r .fields)) (x .1 .0)
   unfolding Layout.parts Layout.groups sized times _then_ num
   records-bare x = map-bare recordL (λ r. viewed (r .rtype) (r .base) (r .fields)) record-bare (x .1 .0)
 
-pub labels-bare : (x : Parts) → length (Layout.parts utf8 D .codec .bare x .1 .1 .1) ≡ length (x .1 .1 .1)
+pub labels-bare : (x : Parts) → length (Layout.parts allTests D .codec .bare x .1 .1 .1) ≡ length (x .1 .1 .1)
 unfolding Layout.parts Layout.groups sized times _then_ num
-labels-bare x = length-bare _ (Layout.labelDef utf8 .law) (x .1 .1 .1)
+labels-bare x = length-bare _ (Layout.labelDef allTests .law) (x .1 .1 .1)

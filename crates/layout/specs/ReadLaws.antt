@@ -5,17 +5,17 @@ use mathlib.Core.List.{List, [], _++_, map}
 use lib.ListN.{length}
 use borrow.Author.Tests.{le-leb}
 use Rattle.codec.specs.Codec.{ok, _>>=_, whole}
-use Rattle.text.specs.Utf8.{utf8}
+use Rattle.wire.specs.Reader.{allTests}
 use Rattle.table.specs.Table.{flat, allRows}
 use Rattle.table.specs.TableLaws.{Wide, wide-append, wide-map, wide-all, flat-length}
 use Rattle.layout.specs.Layout
 use Rattle.layout.specs.Layout.{Layout, Fields, toLayout}
-use Rattle.layout.specs.LayoutOf.{D, layoutOf}
+use Rattle.layout.specs.LayoutOf.{D, layoutOf, layoutBy}
 use Rattle.layout.specs.Rows.{rows, entryRow, nameRow, fieldRows, recordRows, structRows, labelRow, labelDefRows}
 
 -- a layout of a length that fits is read by its format
-pub layout-whole : (s : List ℕ) → length s ≤ 4294967295 → layoutOf s ≡ (whole (Layout.parts utf8 D .codec) 0 s >>= λ z j. ok (toLayout z) j)
-unfolding layoutOf Layout.readLayout
+pub layout-whole : (s : List ℕ) → length s ≤ 4294967295 → layoutOf s ≡ (whole (Layout.parts allTests D .codec) 0 s >>= λ z j. ok (toLayout z) j)
+unfolding layoutBy Layout.readLayout
 layout-whole s h = rw (le-leb (length s) 4294967295 h)
 
 -- a layout without items has no rows

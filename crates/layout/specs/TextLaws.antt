@@ -6,6 +6,7 @@ use mathlib.Core.List.{List, [], _∷_, _++_, map, map-append}
 use lib.ListN.{length, getD, take, drop}
 use lib.Dec.{eqb}
 use Rattle.codec.specs.Codec.{_then_, ok, Bytes, Codec, num, named, sized, times, timesBare, timesEach, distinct}
+use Rattle.wire.specs.Formats.{Tests}
 use Rattle.wire.specs.Formats.{name}
 use Rattle.wire.specs.FormatLaws.{section-bare, section-each, name-bare, name-start}
 use Rattle.layout.specs.Layout.{Fields, RecordL, StructL, LabelDef, Layout, entry, fields, recordL, structL, label, labelDef, parts, groups, readLayout, printLayout, locateLayout, bareLayout, FitsLayout, EachName}
@@ -56,76 +57,76 @@ module _ {A : Type 0} (c : Codec A) where
     flat-each row f h [] e = refl
     flat-each row f h (x ∷ xs) e = map-append (rowText b) (row x) (flat (map row xs)) ∙ ap₂ _++_ (h x (e .0)) (flat-each row f h xs (e .1))
 
-module _ (utf8 : List ℕ → Bool) (D : ℕ) where
-  fields-bare : (f : Fields) → fieldTexts f ≡ fieldTexts (fields utf8 D .codec .bare f)
+module _ (tests : Tests) (D : ℕ) where
+  fields-bare : (f : Fields) → fieldTexts f ≡ fieldTexts (fields tests D .codec .bare f)
   unfolding fields named sized _then_ times
   fields-bare f =
-      ap₂ _++_ (map-bare (entry utf8 D .codec) (λ _. []) (λ e. refl) (f .entries))
-      (map-bare (name utf8 .codec) (λ n. n .text) (λ n. ap (λ v. v .text) (sym (name-bare utf8 n))) (f .names))
+      ap₂ _++_ (map-bare (entry tests D .codec) (λ _. []) (λ e. refl) (f .entries))
+      (map-bare (name tests .codec) (λ n. n .text) (λ n. ap (λ v. v .text) (sym (name-bare tests n))) (f .names))
 
-  record-bare : (r : RecordL) → recordTexts r ≡ recordTexts (recordL utf8 D .codec .bare r)
+  record-bare : (r : RecordL) → recordTexts r ≡ recordTexts (recordL tests D .codec .bare r)
   unfolding recordL named _then_ num
-  record-bare r = rw (section-bare, name-bare utf8 (r .name)) (ap (λ v. r .name .text ∷ v) (fields-bare (r .fields)))
+  record-bare r = rw (section-bare, name-bare tests (r .name)) (ap (λ v. r .name .text ∷ v) (fields-bare (r .fields)))
 
-  struct-bare : (s : StructL) → structTexts s ≡ structTexts (structL utf8 D .codec .bare s)
+  struct-bare : (s : StructL) → structTexts s ≡ structTexts (structL tests D .codec .bare s)
   unfolding structL named _then_ num
-  struct-bare s = rw (section-bare, name-bare utf8 (s .name)) (ap (λ v. s .name .text ∷ v) (fields-bare (s .fields)))
+  struct-bare s = rw (section-bare, name-bare tests (s .name)) (ap (λ v. s .name .text ∷ v) (fields-bare (s .fields)))
 
-  label-bare : (d : LabelDef) → labelTexts d ≡ labelTexts (labelDef utf8 .codec .bare d)
+  label-bare : (d : LabelDef) → labelTexts d ≡ labelTexts (labelDef tests .codec .bare d)
   unfolding labelDef label named _then_ num sized distinct
   label-bare d =
-      rw (section-bare, name-bare utf8 (d .name))
-      (ap (λ v. d .name .text ∷ v) (map-bare (label utf8 .codec) (λ l. l .name .text) (λ l. ap (λ v. v .text) (sym (name-bare utf8 (l .name)))) (d .labels)))
+      rw (section-bare, name-bare tests (d .name))
+      (ap (λ v. d .name .text ∷ v) (map-bare (label tests .codec) (λ l. l .name .text) (λ l. ap (λ v. v .text) (sym (name-bare tests (l .name)))) (d .labels)))
 
-  pub texts-bare : (t : Layout) → texts t ≡ texts (bareLayout utf8 D t)
+  pub texts-bare : (t : Layout) → texts t ≡ texts (bareLayout tests D t)
   unfolding texts bareLayout parts groups sized times _then_
-  texts-bare t = ap₂ _++_ (ap₂ _++_ (flat-bare (recordL utf8 D .codec) recordTexts record-bare (t .records)) (flat-bare (structL utf8 D .codec) structTexts struct-bare (t .structs)))
-      (flat-bare (labelDef utf8 .codec) labelTexts label-bare (t .labels))
+  texts-bare t = ap₂ _++_ (ap₂ _++_ (flat-bare (recordL tests D .codec) recordTexts record-bare (t .records)) (flat-bare (structL tests D .codec) structTexts struct-bare (t .structs)))
+      (flat-bare (labelDef tests .codec) labelTexts label-bare (t .labels))
 
   module _ (b : List ℕ) where
     abbrev At : ℕ → List ℕ → Type 0
     At n u = take (length u) (drop n b) ≡ u
 
-    fields-each : (f : Fields) → fields utf8 D .codec .each At f → map (rowText b) (fieldRows f) ≡ fieldTexts f
+    fields-each : (f : Fields) → fields tests D .codec .each At f → map (rowText b) (fieldRows f) ≡ fieldTexts f
     unfolding fields named sized _then_ times
     fields-each f e =
         map-append (rowText b) (map entryRow (f .entries)) (map nameRow (f .names))
-        ∙ ap₂ _++_ (map-each (entry utf8 D .codec) b At entryRow (λ _. []) (λ x h. refl) (f .entries) (e .0))
-        (map-each (name utf8 .codec) b At nameRow (λ n. n .text) (λ n h. name-start utf8 At n h) (f .names) (e .1))
+        ∙ ap₂ _++_ (map-each (entry tests D .codec) b At entryRow (λ _. []) (λ x h. refl) (f .entries) (e .0))
+        (map-each (name tests .codec) b At nameRow (λ n. n .text) (λ n h. name-start tests At n h) (f .names) (e .1))
 
-    record-each : (r : RecordL) → recordL utf8 D .codec .each At r → map (rowText b) (recordRows r) ≡ recordTexts r
+    record-each : (r : RecordL) → recordL tests D .codec .each At r → map (rowText b) (recordRows r) ≡ recordTexts r
     unfolding recordL named _then_
-    record-each r e = let h = section-each _ At _ e in ap₂ _∷_ (name-start utf8 At (r .name) (h .1 .1 .1 .1 .0)) (fields-each (r .fields) (h .1 .1 .1 .1 .1))
+    record-each r e = let h = section-each _ At _ e in ap₂ _∷_ (name-start tests At (r .name) (h .1 .1 .1 .1 .0)) (fields-each (r .fields) (h .1 .1 .1 .1 .1))
 
-    struct-each : (s : StructL) → structL utf8 D .codec .each At s → map (rowText b) (structRows s) ≡ structTexts s
+    struct-each : (s : StructL) → structL tests D .codec .each At s → map (rowText b) (structRows s) ≡ structTexts s
     unfolding structL named _then_
-    struct-each s e = let h = section-each _ At _ e in ap₂ _∷_ (name-start utf8 At (s .name) (h .1 .0)) (fields-each (s .fields) (h .1 .1))
+    struct-each s e = let h = section-each _ At _ e in ap₂ _∷_ (name-start tests At (s .name) (h .1 .0)) (fields-each (s .fields) (h .1 .1))
 
-    label-each : (d : LabelDef) → labelDef utf8 .codec .each At d → map (rowText b) (labelDefRows d) ≡ labelTexts d
+    label-each : (d : LabelDef) → labelDef tests .codec .each At d → map (rowText b) (labelDefRows d) ≡ labelTexts d
     unfolding labelDef label named _then_ sized distinct
     label-each d e =
         let h = section-each _ At _ e in
-        ap₂ _∷_ (name-start utf8 At (d .name) (h .0)) (map-each (label utf8 .codec) b At labelRow (λ l. l .name .text) (λ l g. name-start utf8 At (l .name) (g .1)) (d .labels) (h .1))
+        ap₂ _∷_ (name-start tests At (d .name) (h .0)) (map-each (label tests .codec) b At labelRow (λ l. l .name .text) (λ l g. name-start tests At (l .name) (g .1)) (d .labels) (h .1))
 
-    pub texts-each : (t : Layout) → EachName utf8 D At t → map (rowText b) (rows t) ≡ texts t
+    pub texts-each : (t : Layout) → EachName tests D At t → map (rowText b) (rows t) ≡ texts t
     unfolding rows texts EachName parts groups sized times _then_
     texts-each t e =
         map-append (rowText b) (flat (map recordRows (t .records)) ++ flat (map structRows (t .structs))) (flat (map labelDefRows (t .labels)))
         ∙ ap₂ _++_
         (map-append (rowText b) (flat (map recordRows (t .records))) (flat (map structRows (t .structs)))
-        ∙ ap₂ _++_ (flat-each (recordL utf8 D .codec) b At recordRows recordTexts record-each (t .records) (e .1 .0))
-        (flat-each (structL utf8 D .codec) b At structRows structTexts struct-each (t .structs) (e .1 .1 .0)))
-        (flat-each (labelDef utf8 .codec) b At labelDefRows labelTexts label-each (t .labels) (e .1 .1 .1))
+        ∙ ap₂ _++_ (flat-each (recordL tests D .codec) b At recordRows recordTexts record-each (t .records) (e .1 .0))
+        (flat-each (structL tests D .codec) b At structRows structTexts struct-each (t .structs) (e .1 .1 .0)))
+        (flat-each (labelDef tests .codec) b At labelDefRows labelTexts label-each (t .labels) (e .1 .1 .1))
 
   -- what a row names in the bytes is its name's text
-  pub row-texts : (b : List ℕ) (t : Layout) (j : ℕ) → Bytes b → readLayout utf8 D b ≡ ok t j → map (rowText b) (rows t) ≡ texts t
-  row-texts b t j bs e = texts-each b t (spots utf8 D b t j bs e)
+  pub row-texts : (b : List ℕ) (t : Layout) (j : ℕ) → Bytes b → readLayout tests D b ≡ ok t j → map (rowText b) (rows t) ≡ texts t
+  row-texts b t j bs e = texts-each b t (spots tests D b t j bs e)
 
   -- (c) for texts
-  pub skipped-texts : (b : List ℕ) (t t′ : Layout) (j : ℕ) → Bytes b → readLayout utf8 D b ≡ ok t j
-      → bareLayout utf8 D t ≡ bareLayout utf8 D t′ → FitsLayout utf8 D t′
-      → map (rowText (printLayout utf8 D t′)) (rows (locateLayout utf8 D t′)) ≡ map (rowText b) (rows t)
+  pub skipped-texts : (b : List ℕ) (t t′ : Layout) (j : ℕ) → Bytes b → readLayout tests D b ≡ ok t j
+      → bareLayout tests D t ≡ bareLayout tests D t′ → FitsLayout tests D t′
+      → map (rowText (printLayout tests D t′)) (rows (locateLayout tests D t′)) ≡ map (rowText b) (rows t)
   skipped-texts b t t′ j bs e same f =
-      let r = skipped-free utf8 D b t t′ j bs e same f in
-      let bs′ = layout-octets utf8 D t′ (swap-legal utf8 D b t t′ j bs e same f) in
-      row-texts _ _ _ bs′ (r .accepted) ∙ texts-bare (locateLayout utf8 D t′) ∙ ap texts (r .same) ∙ sym (texts-bare t) ∙ sym (row-texts b t j bs e)
+      let r = skipped-free tests D b t t′ j bs e same f in
+      let bs′ = layout-octets tests D t′ (swap-legal tests D b t t′ j bs e same f) in
+      row-texts _ _ _ bs′ (r .accepted) ∙ texts-bare (locateLayout tests D t′) ∙ ap texts (r .same) ∙ sym (texts-bare t) ∙ sym (row-texts b t j bs e)

@@ -15,6 +15,7 @@ pub(crate) fn labels(
     s: &[u8],
     at: usize,
     count: usize,
+    light: bool,
     base: usize,
     table: &mut [u32],
     n: usize,
@@ -22,7 +23,7 @@ pub(crate) fn labels(
 ) -> Got
     requires { ⌜ Room base (now s) at n ⌝ }
     requires { ⌜ Marks (now marks) [] ⌝ }
-    ensures { λ r. ⌜ Ran (putRow 9) base (now (s .entry)) (labelsAt base [] count (now (s .entry)) at) n (now (table .entry)) (now (table .exit)) r ⌝ }
+    ensures { λ r. ⌜ Ran (putRow 9) base (now (s .entry)) (labelsAt light base [] count (now (s .entry)) at) n (now (table .entry)) (now (table .exit)) r ⌝ }
     ensures { λ r. ⌜ Cleared r (now (marks .exit)) ⌝ }
 {
     let mut todo = count;
@@ -30,7 +31,7 @@ pub(crate) fn labels(
     let mut k = n;
     while 0 < todo {
         match numbers::u16_at(s, p, refusal::LAYOUT_TRUNCATED) {
-            Got::Value { value: x, next: q } => match wire::name_at(s, q) {
+            Got::Value { value: x, next: q } => match wire::name_in(s, q, light) {
                 Got::Value { value: l, next: e } => {
                     if marks::is_marked(marks, x as u16) {
                         let number = refusal::LABEL_TWICE;

@@ -7,7 +7,8 @@ mod sections;
 use numbers::Got;
 use refusal::Refusal;
 ghost use mathlib.Core.Path.{_≡_};
-ghost use Rattle.layout.specs.LayoutOf.{layoutOf};
+ghost use Rattle.layout.specs.LayoutOf.{layoutBy};
+ghost use Rattle.wire.specs.Reader.{testsOf};
 ghost use Rattle.layout.specs.Answers.{Answers, verdict};
 
 // The bytes of a field entry on the wire, FIELD_DEF_LEN; the first eleven are read.
@@ -28,13 +29,13 @@ pub enum Answer {
 }
 
 // The rows of a layout in the table, which is written only where all is accepted and it is long enough.
-pub fn read_layout_rows(layout: &[u8], table: &mut [u32]) -> Answer
-    ensures { λ r. ⌜ Answers (now (layout .entry)) (now (table .entry)) (now (table .exit)) r ⌝ }
+pub fn read_layout_rows(layout: &[u8], light: bool, table: &mut [u32]) -> Answer
+    ensures { λ r. ⌜ Answers light (now (layout .entry)) (now (table .entry)) (now (table .exit)) r ⌝ }
 {
-    match layout_verdict(layout) {
+    match layout_verdict(layout, light) {
         Verdict::Accepted { version, rows } => {
             if rows <= table.len() / 9 {
-                sections::groups(layout, 2, table);
+                sections::groups(layout, 2, light, table);
                 Answer::Read { version, rows }
             } else {
                 Answer::Short { version, rows }
@@ -45,8 +46,8 @@ pub fn read_layout_rows(layout: &[u8], table: &mut [u32]) -> Answer
 }
 
 // The verdict on a layout: its version and how many rows it has, or the refusal.
-fn layout_verdict(layout: &[u8]) -> Verdict
-    ensures { λ r. ⌜ r ≡ verdict (layoutOf (now (layout .entry))) ⌝ }
+fn layout_verdict(layout: &[u8], light: bool) -> Verdict
+    ensures { λ r. ⌜ r ≡ verdict (layoutBy (testsOf light) (now (layout .entry))) ⌝ }
 {
     if layout.len() > 4294967295 {
         return Verdict::Refused(Refusal {
@@ -60,7 +61,7 @@ fn layout_verdict(layout: &[u8]) -> Verdict
             next,
         } => {
             let mut none = [0u32; 1];
-            match sections::groups(layout, next, &mut none) {
+            match sections::groups(layout, next, light, &mut none) {
                 Got::Value {
                     value: rows,
                     next: _,

@@ -15,14 +15,14 @@ ghost use Rattle.table.specs.Table.{putRow, Room, Ran};
 ghost use Rattle.layout.specs.Reader.{recordHead, recordBody, structBody, labelBody, bodyOf, sectionsAt, groupAt, groupsAt};
 ghost use Rattle.layout.specs.Labels.{Cleared};
 
-pub(crate) fn groups(s: &[u8], at: usize, table: &mut [u32]) -> Got
+pub(crate) fn groups(s: &[u8], at: usize, light: bool, table: &mut [u32]) -> Got
     requires { ⌜ Room 0 (now s) at 0 ⌝ }
-    ensures { λ r. ⌜ Ran (putRow 9) 0 (now (s .entry)) (groupsAt (now (s .entry)) at) 0 (now (table .entry)) (now (table .exit)) r ⌝ }
+    ensures { λ r. ⌜ Ran (putRow 9) 0 (now (s .entry)) (groupsAt light (now (s .entry)) at) 0 (now (table .entry)) (now (table .exit)) r ⌝ }
 {
     let mut marks = [0u64; 1024];
-    match group(0, s, at, table, 0, &mut marks) {
-        Got::Value { value: a, next: p } => match group(1, s, p, table, a, &mut marks) {
-            Got::Value { value: b, next: q } => group(2, s, q, table, b, &mut marks),
+    match group(0, s, at, light, table, 0, &mut marks) {
+        Got::Value { value: a, next: p } => match group(1, s, p, light, table, a, &mut marks) {
+            Got::Value { value: b, next: q } => group(2, s, q, light, table, b, &mut marks),
             Got::Refused(why) => Got::Refused(why),
         },
         Got::Refused(why) => Got::Refused(why),
@@ -33,17 +33,18 @@ fn group(
     kind: usize,
     s: &[u8],
     at: usize,
+    light: bool,
     table: &mut [u32],
     n: usize,
     marks: &mut [u64; 1024],
 ) -> Got
     requires { ⌜ Room 0 (now s) at n ⌝ }
     requires { ⌜ Marks (now marks) [] ⌝ }
-    ensures { λ r. ⌜ Ran (putRow 9) 0 (now (s .entry)) (groupAt kind (now (s .entry)) at) n (now (table .entry)) (now (table .exit)) r ⌝ }
+    ensures { λ r. ⌜ Ran (putRow 9) 0 (now (s .entry)) (groupAt light kind (now (s .entry)) at) n (now (table .entry)) (now (table .exit)) r ⌝ }
     ensures { λ r. ⌜ Cleared r (now (marks .exit)) ⌝ }
 {
     match numbers::u16_at(s, at, refusal::LAYOUT_TRUNCATED) {
-        Got::Value { value, next } => sections(kind, s, next, value, table, n, marks),
+        Got::Value { value, next } => sections(kind, s, next, value, light, table, n, marks),
         Got::Refused(why) => Got::Refused(why),
     }
 }
@@ -53,13 +54,14 @@ fn sections(
     s: &[u8],
     at: usize,
     count: usize,
+    light: bool,
     table: &mut [u32],
     n: usize,
     marks: &mut [u64; 1024],
 ) -> Got
     requires { ⌜ Room 0 (now s) at n ⌝ }
     requires { ⌜ Marks (now marks) [] ⌝ }
-    ensures { λ r. ⌜ Ran (putRow 9) 0 (now (s .entry)) (sectionsAt kind count (now (s .entry)) at) n (now (table .entry)) (now (table .exit)) r ⌝ }
+    ensures { λ r. ⌜ Ran (putRow 9) 0 (now (s .entry)) (sectionsAt light kind count (now (s .entry)) at) n (now (table .entry)) (now (table .exit)) r ⌝ }
     ensures { λ r. ⌜ Cleared r (now (marks .exit)) ⌝ }
 {
     let mut todo = count;
@@ -69,7 +71,7 @@ fn sections(
         match wire::section_at(s, p) {
             Got::Value { value: b, next: e } => {
                 let part = &s[b..e];
-                match body(kind, part, b, table, k, marks) {
+                match body(kind, part, light, b, table, k, marks) {
                     Got::Value { value: m, next: _ } => {
                         k = m;
                         p = e;
@@ -93,6 +95,7 @@ fn sections(
 fn body(
     kind: usize,
     s: &[u8],
+    light: bool,
     base: usize,
     table: &mut [u32],
     n: usize,
@@ -100,25 +103,25 @@ fn body(
 ) -> Got
     requires { ⌜ Room base (now s) 0 n ⌝ }
     requires { ⌜ Marks (now marks) [] ⌝ }
-    ensures { λ r. ⌜ Ran (putRow 9) base (now (s .entry)) (bodyOf kind base (now (s .entry))) n (now (table .entry)) (now (table .exit)) r ⌝ }
+    ensures { λ r. ⌜ Ran (putRow 9) base (now (s .entry)) (bodyOf light kind base (now (s .entry))) n (now (table .entry)) (now (table .exit)) r ⌝ }
     ensures { λ r. ⌜ Cleared r (now (marks .exit)) ⌝ }
 {
     if kind == 0 {
-        return record_body(s, base, table, n);
+        return record_body(s, light, base, table, n);
     }
     if kind == 1 {
-        return struct_body(s, base, table, n);
+        return struct_body(s, light, base, table, n);
     }
-    label_body(s, base, table, n, marks)
+    label_body(s, light, base, table, n, marks)
 }
 
 // The record whose section's body is `s`, `base` bytes into the layout.
-fn record_body(s: &[u8], base: usize, table: &mut [u32], n: usize) -> Got
+fn record_body(s: &[u8], light: bool, base: usize, table: &mut [u32], n: usize) -> Got
     requires { ⌜ Room base (now s) 0 n ⌝ }
-    ensures { λ r. ⌜ Ran (putRow 9) base (now (s .entry)) (recordBody base (now (s .entry))) n (now (table .entry)) (now (table .exit)) r ⌝ }
+    ensures { λ r. ⌜ Ran (putRow 9) base (now (s .entry)) (recordBody light base (now (s .entry))) n (now (table .entry)) (now (table .exit)) r ⌝ }
 {
     match record_head(s) {
-        Got::Value { value: _, next: p } => match wire::name_at(s, p) {
+        Got::Value { value: _, next: p } => match wire::name_in(s, p, light) {
             Got::Value {
                 value: len,
                 next: q,
@@ -129,7 +132,7 @@ fn record_body(s: &[u8], base: usize, table: &mut [u32], n: usize) -> Got
                 } => {
                     let row = rows::record_row(s, base + (p + 1), len, count);
                     table::put_row(table, n, &row);
-                    members::fields(s, q, base, table, n + 1)
+                    members::fields(s, q, light, base, table, n + 1)
                 }
                 Got::Refused(why) => Got::Refused(why),
             },
@@ -173,15 +176,15 @@ fn cut(place: usize) -> Got
 }
 
 // The struct whose section's body is `s`, `base` bytes into the layout.
-fn struct_body(s: &[u8], base: usize, table: &mut [u32], n: usize) -> Got
+fn struct_body(s: &[u8], light: bool, base: usize, table: &mut [u32], n: usize) -> Got
     requires { ⌜ Room base (now s) 0 n ⌝ }
-    ensures { λ r. ⌜ Ran (putRow 9) base (now (s .entry)) (structBody base (now (s .entry))) n (now (table .entry)) (now (table .exit)) r ⌝ }
+    ensures { λ r. ⌜ Ran (putRow 9) base (now (s .entry)) (structBody light base (now (s .entry))) n (now (table .entry)) (now (table .exit)) r ⌝ }
 {
     match numbers::u16_at(s, 0, refusal::LAYOUT_TRUNCATED) {
         Got::Value {
             value: size,
             next: p,
-        } => match wire::name_at(s, p) {
+        } => match wire::name_in(s, p, light) {
             Got::Value {
                 value: len,
                 next: q,
@@ -192,7 +195,7 @@ fn struct_body(s: &[u8], base: usize, table: &mut [u32], n: usize) -> Got
                 } => {
                     let row = rows::struct_row(base + (p + 1), len, size, count);
                     table::put_row(table, n, &row);
-                    members::fields(s, q, base, table, n + 1)
+                    members::fields(s, q, light, base, table, n + 1)
                 }
                 Got::Refused(why) => Got::Refused(why),
             },
@@ -203,13 +206,20 @@ fn struct_body(s: &[u8], base: usize, table: &mut [u32], n: usize) -> Got
 }
 
 // The label def whose section's body is `s`.
-fn label_body(s: &[u8], base: usize, table: &mut [u32], n: usize, marks: &mut [u64; 1024]) -> Got
+fn label_body(
+    s: &[u8],
+    light: bool,
+    base: usize,
+    table: &mut [u32],
+    n: usize,
+    marks: &mut [u64; 1024],
+) -> Got
     requires { ⌜ Room base (now s) 0 n ⌝ }
     requires { ⌜ Marks (now marks) [] ⌝ }
-    ensures { λ r. ⌜ Ran (putRow 9) base (now (s .entry)) (labelBody base (now (s .entry))) n (now (table .entry)) (now (table .exit)) r ⌝ }
+    ensures { λ r. ⌜ Ran (putRow 9) base (now (s .entry)) (labelBody light base (now (s .entry))) n (now (table .entry)) (now (table .exit)) r ⌝ }
     ensures { λ r. ⌜ Cleared r (now (marks .exit)) ⌝ }
 {
-    match wire::name_at(s, 0) {
+    match wire::name_in(s, 0, light) {
         Got::Value {
             value: len,
             next: p,
@@ -220,7 +230,7 @@ fn label_body(s: &[u8], base: usize, table: &mut [u32], n: usize, marks: &mut [u
             } => {
                 let row = rows::label_def_row(base + 1, len, count);
                 table::put_row(table, n, &row);
-                labels::labels(s, q, count, base, table, n + 1, marks)
+                labels::labels(s, q, count, light, base, table, n + 1, marks)
             }
             Got::Refused(why) => Got::Refused(why),
         },

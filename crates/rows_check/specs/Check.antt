@@ -6,6 +6,7 @@ use mathlib.Core.List.{List, [], _∷_}
 use lib.ListN.{length, take, drop, getD}
 use lib.Dec.{leb, ltb, eqb}
 use Rattle.text.specs.Utf8.{utf8}
+use Rattle.wire.specs.Reader.{allTests}
 use Rattle.layout.specs.LayoutOf.{D, recordL, structL, labelDef}
 use Rattle.wire.specs.Formats.{noNul}
 use Rattle.layout.specs.Layout.{printLayout}
@@ -133,7 +134,7 @@ sectionsFit rows text =
 
 -- the bytes of the layout
 unfoldable pub printed : ℕ → List ℕ → List ℕ → List ℕ
-printed version rows text = printLayout utf8 D (treeOf version rows text)
+printed version rows text = printLayout allTests D (treeOf version rows text)
 
 -- how many: a version is two bytes, whichever it is
 abbrev pub size : List ℕ → List ℕ → ℕ

@@ -11,6 +11,7 @@ use borrow.Author.Tests.{ne-eqb, leb-true, ltb-true, le-leb}
 use Rattle.codec.specs.Laws.{bytes-take}
 use Rattle.codec.specs.Codec.{Bytes, Codec, timesLegal}
 use Rattle.text.specs.Utf8.{utf8}
+use Rattle.wire.specs.Reader.{allTests}
 use Rattle.entry.specs.EntryLaws.{row-bytes-length, row-bytes-small}
 use Rattle.wire.specs.Reader.{name}
 use Rattle.layout.specs.LayoutOf.{D, entry, fields, label, recordL, structL, labelDef}
@@ -74,7 +75,7 @@ bytes-zeros (suc n) (suc k) = bytes-zeros n k
 module _ (rows text : List ℕ) where
   entry-ok : (q : ℕ) → entry .legal (entryOf rows q)
   entry-ok q =
-      entry-legal utf8 D (entryOf rows q) (row-bytes-length rows (9 * q)) (row-bytes-small rows (9 * q))
+      entry-legal allTests D (entryOf rows q) (row-bytes-length rows (9 * q)) (row-bytes-small rows (9 * q))
       (length-replicate (D - 11) 0) (bytes-zeros (D - 11))
 
   -- items one after the other
@@ -96,19 +97,19 @@ module _ (rows text : List ℕ) where
         let u : nameClean rows text q ≡ true = test-at 93 (s .clean) q h in
         let c : both (noNul (nameOf rows text q .text)) (utf8 (nameOf rows text q .text)) ≡ true = rw (ne-eqb (cell rows q 0) 11 n, le-leb (cell rows q 1 + cell rows q 2) (length text) a) at u in
         let m = name-len rows text q (s .formed .fits q h) n in
-        name-legal utf8 (nameOf rows text q) (omega arith) (bytes-part (cell rows q 2) (cell rows q 1) text bytes) (both-left _ _ c) (both-right _ _ c)
+        name-legal allTests (nameOf rows text q) (omega arith) (bytes-part (cell rows q 2) (cell rows q 1) text bytes) (both-left _ _ c) (both-right _ _ c)
 
     label-ok : (q : ℕ) → q < rowCount rows → cell rows q 0 ≡ 15 → label .legal (labelOf rows text q)
     unfolding limitOf
     label-ok q h k =
         let l : cell rows q 3 ≤ 65535 = number-le rows text q (s .formed .fits q h) 15 k 3 (omega arith) (omega arith) in
-        label-legal utf8 (labelOf rows text q) (omega arith) (name-ok q h (λ p. omega arith))
+        label-legal allTests (labelOf rows text q) (omega arith) (name-ok q h (λ p. omega arith))
 
     fields-ok : (q n e : ℕ) → e ≡ q + n + n → e ≤ rowCount rows → n ≤ 65535 → ((j : ℕ) → q + n ≤ j → j < e → cell rows j 0 ≡ 12) → fields .legal (fieldsOf rows text q n)
     fields-ok q n e i h l b =
         let a : length (fieldsOf rows text q n .entries) ≡ n = length-from after (entryOf rows) n q in
         let d : length (fieldsOf rows text q n .names) ≡ n = length-from after (nameOf rows text) n (q + n) in
-        fields-legal utf8 D (fieldsOf rows text q n) (omega arith) (d ∙ sym a)
+        fields-legal allTests D (fieldsOf rows text q n) (omega arith) (d ∙ sym a)
         (legal-from entry (entryOf rows) n q (λ j g m. entry-ok j))
         (legal-from name (nameOf rows text) n (q + n) (λ j g m. let k = b j g (omega arith) in name-ok j (omega arith) (λ p. omega arith)))
 
@@ -130,7 +131,7 @@ module _ (rows text : List ℕ) where
         let l7 : cell rows q 7 ≤ 4294967295 = number-le rows text q f 10 (p .head) 7 (omega arith) (omega arith) in
         let l8 : cell rows q 8 ≤ 4294967295 = number-le rows text q f 10 (p .head) 8 (omega arith) (omega arith) in
         let k = p .head in
-        record-legal utf8 D (recordOf rows text q) refl (omega arith) (omega arith) (omega arith) (omega arith) (name-ok q (omega arith) (λ e. omega arith))
+        record-legal allTests D (recordOf rows text q) refl (omega arith) (omega arith) (omega arith) (omega arith) (name-ok q (omega arith) (λ e. omega arith))
         (fields-ok (q + 1) (cell rows q 6) (nextSection 10 rows q) refl (p .inside) (leb-true _ _ c) (p .names)) (omega arith)
 
     struct-ok : (q : ℕ) → InPlace 13 rows q → length (structL .print (structOf rows text q)) ≤ 65535 → structL .legal (structOf rows text q)
@@ -141,7 +142,7 @@ module _ (rows text : List ℕ) where
         let c : leb (cell rows q 4) 65535 ≡ true = rw (p .head) at (count-at q (omega arith)) in
         let l3 : cell rows q 3 ≤ 65535 = number-le rows text q f 13 (p .head) 3 (omega arith) (omega arith) in
         let k = p .head in
-        struct-legal utf8 D (structOf rows text q) refl (omega arith) (name-ok q (omega arith) (λ e. omega arith))
+        struct-legal allTests D (structOf rows text q) refl (omega arith) (name-ok q (omega arith) (λ e. omega arith))
         (fields-ok (q + 1) (cell rows q 4) (nextSection 13 rows q) refl (p .inside) (leb-true _ _ c) (p .names)) (omega arith)
 
     -- codes that rise from row to row
@@ -151,7 +152,7 @@ module _ (rows text : List ℕ) where
         let r : risesAt rows q ≡ true = every-at (risesAt rows) 0 (rowCount rows - 1) (s .rises) q (omega arith) (omega arith) in
         ltb-true _ _ (rw (a, b) at r)
 
-    rising : (n q least : ℕ) → q + n ≤ rowCount rows → ((j : ℕ) → q ≤ j → j < q + n → cell rows j 0 ≡ 15) → (0 < n → least ≤ cell rows q 3) → Rising utf8 least (from after (labelOf rows text) q n)
+    rising : (n q least : ℕ) → q + n ≤ rowCount rows → ((j : ℕ) → q ≤ j → j < q + n → cell rows j 0 ≡ 15) → (0 < n → least ≤ cell rows q 3) → Rising allTests least (from after (labelOf rows text) q n)
     unfolding from
     rising zero q least h k l = tt
     rising (suc n) q least h k l = (
@@ -169,7 +170,7 @@ module _ (rows text : List ℕ) where
         let c : leb (cell rows q 3) 65535 ≡ true = rw (p .head) at (count-at q (omega arith)) in
         let l : cell rows q 3 ≤ 65535 = leb-true _ _ c in
         let n : length (labelDefOf rows text q .labels) ≡ cell rows q 3 = length-from after (labelOf rows text) (cell rows q 3) (q + 1) in
-        labelDef-legal utf8 (labelDefOf rows text q) refl (name-ok q (omega arith) (λ e. omega arith)) (omega arith)
+        labelDef-legal allTests (labelDefOf rows text q) refl (name-ok q (omega arith) (λ e. omega arith)) (omega arith)
         (legal-from label (labelOf rows text) (cell rows q 3) (q + 1) (λ j g m. label-ok j (omega arith) (p .names j g m)))
         (rising (cell rows q 3) (q + 1) 0 i (p .names) (λ g. omega arith)) (omega arith)
 
@@ -181,7 +182,7 @@ module _ (rows text : List ℕ) where
         let z : length (printedSection kind rows text q) ≤ 65535 = leb-true _ _ (both-left _ _ f) in
         (h q (p .0) (rw (sec q) at z), all-ok c kind part sec h k (nextSection kind rows q) (p .1) (both-right _ _ f))
 
-    pub tree-legal : (version : ℕ) → version < 65536 → LegalLayout utf8 D (treeOf version rows text)
+    pub tree-legal : (version : ℕ) → version < 65536 → LegalLayout allTests D (treeOf version rows text)
     unfolding treeOf sectionsFit groupsFit printedSection
     tree-legal version v =
         let w = s .formed in
@@ -193,7 +194,7 @@ module _ (rows text : List ℕ) where
         let a : length (from (nextSection 10 rows) (recordOf rows text) 0 (kinds rows 10)) ≡ kinds rows 10 = length-from (nextSection 10 rows) (recordOf rows text) (kinds rows 10) 0 in
         let b : length (from (nextSection 13 rows) (structOf rows text) (structsFrom rows) (kinds rows 13)) ≡ kinds rows 13 = length-from (nextSection 13 rows) (structOf rows text) (kinds rows 13) (structsFrom rows) in
         let d : length (from (nextSection 14 rows) (labelDefOf rows text) (labelsFrom rows) (kinds rows 14)) ≡ kinds rows 14 = length-from (nextSection 14 rows) (labelDefOf rows text) (kinds rows 14) (labelsFrom rows) in
-        layout-legal utf8 D (treeOf version rows text) refl v
+        layout-legal allTests D (treeOf version rows text) refl v
         (omega arith) (all-ok recordL 10 (recordOf rows text) (λ q. refl) record-ok (kinds rows 10) 0 (w .records) (both-left _ _ (both-left _ _ f)))
         (omega arith) (all-ok structL 13 (structOf rows text) (λ q. refl) struct-ok (kinds rows 13) (structsFrom rows) (w .structs) (both-right _ _ (both-left _ _ f)))
         (omega arith) (all-ok labelDef 14 (labelDefOf rows text) (λ q. refl) def-ok (kinds rows 14) (labelsFrom rows) (w .labels) (both-right _ _ f))

@@ -5,7 +5,7 @@ use mathlib.Core.Path.{_≡_}
 use mathlib.Core.List.{List}
 use lib.ListN.{length, take, drop, length-take, length-drop}
 use Rattle.codec.specs.Codec.{Codec, timesEach}
-use Rattle.text.specs.Utf8.{utf8}
+use Rattle.wire.specs.Reader.{allTests}
 use Rattle.wire.specs.Reader.{name}
 use Rattle.wire.specs.FormatLaws.{name-each}
 use Rattle.layout.specs.LayoutOf.{D, fields, label, recordL, structL, labelDef}
@@ -24,7 +24,7 @@ module _ (rows text : List ℕ) where
   name-at : (q : ℕ) → cell rows q 1 + cell rows q 2 ≤ length text → name .each At (nameOf rows text q)
   name-at q h =
       let l : length (nameOf rows text q .text) ≡ cell rows q 2 = simp (length-take, length-drop) (omega arith) in
-      name-each utf8 At (nameOf rows text q) (rw l)
+      name-each allTests At (nameOf rows text q) (rw l)
 
   each-from : {A : Type 0} (c : Codec A) (f : ℕ → A) (k q : ℕ) → ((j : ℕ) → q ≤ j → j < q + k → c .each At (f j)) → timesEach c At (from after f q k)
   unfolding from
@@ -32,21 +32,21 @@ module _ (rows text : List ℕ) where
   each-from c f (suc k) q h = (h q (omega arith) (omega arith), each-from c f k (q + 1) (λ j a b. h j (omega arith) (omega arith)))
 
   fields-at : (q n : ℕ) → Spans rows text (q + n) n → fields .each At (fieldsOf rows text q n)
-  fields-at q n s = fields-each utf8 D At (fieldsOf rows text q n) (each-from name (nameOf rows text) n (q + n) (λ j a b. name-at j (s j a b)))
+  fields-at q n s = fields-each allTests D At (fieldsOf rows text q n) (each-from name (nameOf rows text) n (q + n) (λ j a b. name-at j (s j a b)))
 
   record-at : (q : ℕ) → SectionRows 10 rows text q → recordL .each At (recordOf rows text q)
   unfolding countOf namesFrom
-  record-at q s = record-each utf8 D At (recordOf rows text q) (name-at q (s .own)) (fields-at (q + 1) (cell rows q 6) (s .names))
+  record-at q s = record-each allTests D At (recordOf rows text q) (name-at q (s .own)) (fields-at (q + 1) (cell rows q 6) (s .names))
 
   struct-at : (q : ℕ) → SectionRows 13 rows text q → structL .each At (structOf rows text q)
   unfolding countOf namesFrom
-  struct-at q s = struct-each utf8 D At (structOf rows text q) (name-at q (s .own)) (fields-at (q + 1) (cell rows q 4) (s .names))
+  struct-at q s = struct-each allTests D At (structOf rows text q) (name-at q (s .own)) (fields-at (q + 1) (cell rows q 4) (s .names))
 
   def-at : (q : ℕ) → SectionRows 14 rows text q → labelDef .each At (labelDefOf rows text q)
   unfolding countOf namesFrom
   def-at q s =
-      labelDef-each utf8 At (labelDefOf rows text q) (name-at q (s .own))
-      (each-from label (labelOf rows text) (cell rows q 3) (q + 1) (λ j a b. label-each utf8 At (labelOf rows text j) (name-at j (s .names j a b))))
+      labelDef-each allTests At (labelDefOf rows text q) (name-at q (s .own))
+      (each-from label (labelOf rows text) (cell rows q 3) (q + 1) (λ j a b. label-each allTests At (labelOf rows text j) (name-at j (s .names j a b))))
 
   all-at : {A : Type 0} (c : Codec A) (kind : ℕ) (part : ℕ → A) → ((q : ℕ) → SectionRows kind rows text q → c .each At (part q))
       → (k q : ℕ) → Sections kind rows text q k → timesEach c At (from (nextSection kind rows) part q k)
@@ -54,10 +54,10 @@ module _ (rows text : List ℕ) where
   all-at c kind part h zero q s = tt
   all-at c kind part h (suc k) q s = (h q (s .0), all-at c kind part h k (nextSection kind rows q) (s .1))
 
-  pub tree-each : (version : ℕ) → Formed rows text → EachName utf8 D At (treeOf version rows text)
+  pub tree-each : (version : ℕ) → Formed rows text → EachName allTests D At (treeOf version rows text)
   unfolding treeOf
   tree-each version w =
-      layout-each utf8 D At (treeOf version rows text)
+      layout-each allTests D At (treeOf version rows text)
       (all-at recordL 10 (recordOf rows text) record-at (kinds rows 10) 0 (record-sections rows text w))
       (all-at structL 13 (structOf rows text) struct-at (kinds rows 13) (structsFrom rows) (struct-sections rows text w))
       (all-at labelDef 14 (labelDefOf rows text) def-at (kinds rows 14) (labelsFrom rows) (label-def-sections rows text w))

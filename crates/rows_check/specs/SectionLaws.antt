@@ -14,7 +14,7 @@ use native.Mathlib.Nat.{mul-suc}
 use mathlib.Core.Bool.{Bool, true, false, cond}
 use lib.Dec.{T, eqb}
 use Rattle.codec.specs.Codec.{Codec, little, timesPrint}
-use Rattle.text.specs.Utf8.{utf8}
+use Rattle.wire.specs.Reader.{allTests}
 use Rattle.entry.specs.EntryLaws.{row-bytes-length}
 use Rattle.wire.specs.Reader.{name}
 use Rattle.layout.specs.LayoutOf.{D, D-least, entry, label, recordL, structL, labelDef}
@@ -109,9 +109,9 @@ section-is kind rows text q = go (eqb kind 10) (eqb kind 13)
     one b = little 2 (2 + length b) ++ b
 
     go : (a b : Bool) → cond a (recordL .print (recordOf rows text q)) (cond b (structL .print (structOf rows text q)) (labelDef .print (labelDefOf rows text q))) ≡ one (cond a (printedBody 10 rows text q) (cond b (printedBody 13 rows text q) (printedBody 14 rows text q)))
-    go true b = record-print utf8 D (recordOf rows text q) refl
-    go false true = struct-print utf8 D (structOf rows text q) refl
-    go false false = labelDef-print utf8 (labelDefOf rows text q) refl
+    go true b = record-print allTests D (recordOf rows text q) refl
+    go false true = struct-print allTests D (structOf rows text q) refl
+    go false false = labelDef-print allTests (labelDefOf rows text q) refl
 
 -- a part of the text from s to s + l
 pub part-end : (text : List ℕ) (s l : ℕ) → take (s + l - s) (drop s text) ≡ take l (drop s text)
@@ -138,22 +138,22 @@ module _ (next : ℕ → ℕ) (f : ℕ → List ℕ) (q k : ℕ) where
 module _ (rows text : List ℕ) where
   pub fields-is : (q n : ℕ) → printedFields rows text q n ≡ little 2 n ++ (many after (printedEntry rows) q n ++ many after (printedName rows text) (q + n) n)
   fields-is q n =
-      fields-print utf8 D (fieldsOf rows text q n)
+      fields-print allTests D (fieldsOf rows text q n)
       ∙ ap₂ (λ (m : ℕ) (l : List ℕ). little 2 m ++ l) (length-from after (entryOf rows) n q)
       (ap₂ _++_ (print-many entry after (entryOf rows) n q) (print-many name after (nameOf rows text) n (q + n)))
 
   record-is : (q : ℕ) → printedBody 10 rows text q ≡ printedHead rows q ++ (printedName rows text q ++ printedFields rows text (q + 1) (cell rows q 6))
   unfolding printedBody
-  record-is q = recordBody-print utf8 D (recordOf rows text q)
+  record-is q = recordBody-print allTests D (recordOf rows text q)
 
   struct-is : (q : ℕ) → printedBody 13 rows text q ≡ little 2 (cell rows q 3) ++ (printedName rows text q ++ printedFields rows text (q + 1) (cell rows q 4))
   unfolding printedBody
-  struct-is q = structBody-print utf8 D (cell rows q 3) (nameOf rows text q) (fieldsOf rows text (q + 1) (cell rows q 4))
+  struct-is q = structBody-print allTests D (cell rows q 3) (nameOf rows text q) (fieldsOf rows text (q + 1) (cell rows q 4))
 
   label-def-is : (q : ℕ) → printedBody 14 rows text q ≡ printedName rows text q ++ printedLabels rows text (q + 1) (cell rows q 3)
   unfolding printedBody
   label-def-is q =
-      labelBody-print utf8 (nameOf rows text q) (from after (labelOf rows text) (q + 1) (cell rows q 3))
+      labelBody-print allTests (nameOf rows text q) (from after (labelOf rows text) (q + 1) (cell rows q 3))
       ∙ ap₂ (λ (m : ℕ) (l : List ℕ). printedName rows text q ++ (little 2 m ++ l)) (length-from after (labelOf rows text) (cell rows q 3) (q + 1))
       (print-many label after (labelOf rows text) (cell rows q 3) (q + 1))
 
@@ -177,7 +177,7 @@ pub group-is : (kind : ℕ) (rows text : List ℕ) (q k : ℕ) → printedGroup 
 unfolding printedGroup
 group-is kind rows text q k = refl
 
-pub printed-is : (version : ℕ) (rows text : List ℕ) → printed version rows text ≡ printLayout utf8 D (treeOf version rows text)
+pub printed-is : (version : ℕ) (rows text : List ℕ) → printed version rows text ≡ printLayout allTests D (treeOf version rows text)
 unfolding printed
 printed-is version rows text = refl
 
@@ -186,7 +186,7 @@ pub layout-is : (version : ℕ) (rows text : List ℕ) → printed version rows 
     ≡ little 2 version ++ (printedGroup 10 rows text 0 (kinds rows 10) ++ (printedGroup 13 rows text (structsFrom rows) (kinds rows 13) ++ printedGroup 14 rows text (labelsFrom rows) (kinds rows 14)))
 unfolding printed treeOf printedGroup printedSection
 layout-is version rows text =
-    layout-print utf8 D (treeOf version rows text) refl
+    layout-print allTests D (treeOf version rows text) refl
     ∙ ap₂ (λ (a b : List ℕ). little 2 version ++ (a ++ b))
     (ap₂ (λ (m : ℕ) (l : List ℕ). little 2 m ++ l) (length-from (nextSection 10 rows) (recordOf rows text) (kinds rows 10) 0) (print-many recordL (nextSection 10 rows) (recordOf rows text) (kinds rows 10) 0))
     (ap₂ _++_
@@ -199,13 +199,13 @@ module _ (rows text : List ℕ) (q : ℕ) where
   pub name-is : cell rows q 1 + cell rows q 2 ≤ length text → printedName rows text q ≡ cell rows q 2 % 256 ∷ (take (cell rows q 2) (drop (cell rows q 1) text) ++ (0 ∷ []))
   name-is h =
       let l : length (nameOf rows text q .text) ≡ cell rows q 2 = simp (length-take, length-drop) (omega arith) in
-      name-print utf8 (nameOf rows text q) ∙ ap (λ (n : ℕ). n % 256 ∷ (nameOf rows text q .text ++ (0 ∷ []))) l
+      name-print allTests (nameOf rows text q) ∙ ap (λ (n : ℕ). n % 256 ∷ (nameOf rows text q .text ++ (0 ∷ []))) l
 
   pub name-length : cell rows q 1 + cell rows q 2 ≤ length text → length (printedName rows text q) ≡ cell rows q 2 + 2
   name-length h =
       let t = nameOf rows text q .text in
       let l : length t ≡ cell rows q 2 = simp (length-take, length-drop) (omega arith) in
-      omega (arith, ap length (name-print utf8 (nameOf rows text q)), length-append t (0 ∷ []))
+      omega (arith, ap length (name-print allTests (nameOf rows text q)), length-append t (0 ∷ []))
 
 module _ (rows text : List ℕ) where
   entries-length : (n q : ℕ) → length (many after (printedEntry rows) q n) ≡ D * n
@@ -213,7 +213,7 @@ module _ (rows text : List ℕ) where
   entries-length zero q = omega arith
   entries-length (suc n) q =
       let e : length (printedEntry rows q) ≡ D =
-      ap length (entry-print utf8 D (entryOf rows q)) ∙ length-append (entryOf rows q .head) (entryOf rows q .skipped) ∙ omega (arith, D-least, row-bytes-length rows (9 * q), length-replicate {A = ℕ} (D - 11) 0) in
+      ap length (entry-print allTests D (entryOf rows q)) ∙ length-append (entryOf rows q .head) (entryOf rows q .skipped) ∙ omega (arith, D-least, row-bytes-length rows (9 * q), length-replicate {A = ℕ} (D - 11) 0) in
       let m : D * suc n ≡ D + D * n = mul-suc D n ∙ omega arith in
       omega (arith, e, m, entries-length n (q + 1), length-append (printedEntry rows q) (many after (printedEntry rows) (q + 1) n))
 
@@ -223,7 +223,7 @@ module _ (rows text : List ℕ) where
   labels-length (suc n) q =
       omega (
         arith,
-        ap length (label-print utf8 (labelOf rows text q)),
+        ap length (label-print allTests (labelOf rows text q)),
         labels-length n (q + 1),
         length-append (printedName rows text q) (many after (printedName rows text) (q + 1) n),
         length-append (printedLabel rows text q) (many after (printedLabel rows text) (q + 1) n),

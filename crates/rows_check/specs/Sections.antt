@@ -6,7 +6,7 @@ use mathlib.Core.List.{List, [], _++_}
 use lib.ListN.{length}
 use Rattle.rows_check.specs.Tree.{cell, countOf, namesFrom, nextSection, byKind, hasFields, from, after, nameOf, entryOf, labelOf, fieldsOf, recordOf}
 use Rattle.codec.specs.Codec.{little}
-use Rattle.text.specs.Utf8.{utf8}
+use Rattle.wire.specs.Reader.{allTests}
 use Rattle.wire.specs.Reader.{name}
 use Rattle.layout.specs.LayoutOf.{D, entry, fields, label}
 use Rattle.layout.specs.Layout
@@ -68,9 +68,9 @@ printedContents kind rows text q =
 -- of a record, a struct, a label def
 unfoldable pub printedBody : ℕ → List ℕ → List ℕ → ℕ → List ℕ
 printedBody kind rows text q =
-    byKind kind (Layout.recordBody utf8 D .codec .print (recordParts utf8 D (recordOf rows text q)))
-    (Layout.structBody utf8 D .codec .print (cell rows q 3, (nameOf rows text q, fieldsOf rows text (q + 1) (cell rows q 4))))
-    (Layout.labelBody utf8 .codec .print (nameOf rows text q, from after (labelOf rows text) (q + 1) (cell rows q 3)))
+    byKind kind (Layout.recordBody allTests D .codec .print (recordParts allTests D (recordOf rows text q)))
+    (Layout.structBody allTests D .codec .print (cell rows q 3, (nameOf rows text q, fieldsOf rows text (q + 1) (cell rows q 4))))
+    (Layout.labelBody allTests .codec .print (nameOf rows text q, from after (labelOf rows text) (q + 1) (cell rows q 3)))
 
 -- a count and that many sections
 unfoldable pub printedGroup : ℕ → List ℕ → List ℕ → ℕ → ℕ → List ℕ

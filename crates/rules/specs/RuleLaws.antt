@@ -6,7 +6,7 @@ use lib.Dec.{eqb}
 use borrow.Author.Tests.{eqb-true, eqb-false}
 use Rattle.codec.specs.CaseLaws.{by-bool}
 use Rattle.codec.specs.Codec.{ok, _>>=_, need}
-use Rattle.text.specs.Utf8.{utf8}
+use Rattle.wire.specs.Reader.{allTests}
 use Rattle.layout.specs.Layout.{Parts, fromLayout, parts}
 use Rattle.layout.specs.PlaceLaws.{structs-bare, records-bare, labels-bare}
 use Rattle.layout.specs.LayoutOf.{D, layoutOf}
@@ -22,7 +22,7 @@ seq : ℕ → ℕ → List (List ℕ) → Seq
 seq rtype base es = record { rtype = rtype; base = base; entries = es }
 
 -- the rules see no start and no skipped byte
-pub rules-blind : (sheet : List ℕ) (w : ℕ) (x : Parts) → rulesOf sheet w (parts utf8 D .codec .bare x) ≡ rulesOf sheet w x
+pub rules-blind : (sheet : List ℕ) (w : ℕ) (x : Parts) → rulesOf sheet w (parts allTests D .codec .bare x) ≡ rulesOf sheet w x
 unfolding rulesOf seq
 rules-blind sheet w x = rw (structs-bare seq x, records-bare seq x, labels-bare x)
 

@@ -160,7 +160,7 @@ fn layout_verdict(layout: &[u8]) -> Verdict
     ensures { λ r. ⌜ r ≡ verdict (layoutOf (now (layout .entry))) ⌝ }
 {
     let mut none = [0u32; 1];
-    match layout::read_layout_rows(layout, &mut none) {
+    match layout::read_layout_rows(layout, false, &mut none) {
         Answer::Read { version, rows } => Verdict::Accepted { version, rows },
         Answer::Short { version, rows } => Verdict::Accepted { version, rows },
         Answer::Refused(why) => Verdict::Refused(why),

@@ -7,7 +7,7 @@ use mathlib.Core.List.{List, [], _∷_, _++_, append-nil}
 use lib.ListN.{length}
 use Rattle.codec.specs.Codec.{Bytes, little, raw, fixed, named, checked, placed, sized, boxed, _then_}
 use Rattle.codec.specs.Format.{Format}
-use Rattle.wire.specs.Formats.{Name, section, noNul, textOf, text, name}
+use Rattle.wire.specs.Formats.{Name, Tests, section, textOf, text, name}
 
 module _ {A : Type 0} (F : Format A false) where
   -- a section without places and leftovers; the places in it
@@ -32,26 +32,26 @@ module _ {A : Type 0} (F : Format A false) where
   unfolding section boxed
   section-legal x lg h = (lg, (λ k. omega arith), rw append-nil h)
 
-module _ (utf8 : List ℕ → Bool) where
+module _ (tests : Tests) where
   -- a name without its place
-  pub name-bare : (n : Name) → name utf8 .codec .bare n ≡ record { start = 0; text = n .text }
+  pub name-bare : (n : Name) → name tests .codec .bare n ≡ record { start = 0; text = n .text }
   unfolding name named _then_ text sized textOf placed checked raw fixed
   name-bare n = refl
 
   -- what is said of its place is said of its start
-  pub name-start : (P : ℕ → List ℕ → Type 0) (n : Name) → name utf8 .codec .each P n → P (n .start) (n .text)
+  pub name-start : (P : ℕ → List ℕ → Type 0) (n : Name) → name tests .codec .each P n → P (n .start) (n .text)
   unfolding name named _then_ text sized textOf placed checked raw fixed
   name-start P n e = e .0
 
-  pub name-each : (P : ℕ → List ℕ → Type 0) (n : Name) → P (n .start) (n .text) → name utf8 .codec .each P n
+  pub name-each : (P : ℕ → List ℕ → Type 0) (n : Name) → P (n .start) (n .text) → name tests .codec .each P n
   unfolding name named _then_ text sized textOf placed checked raw fixed
   name-each P n h = (h, tt)
 
   -- its bytes, and that it has bytes
-  pub name-print : (n : Name) → name utf8 .codec .print n ≡ little 1 (length (n .text)) ++ (n .text ++ (0 ∷ []))
+  pub name-print : (n : Name) → name tests .codec .print n ≡ little 1 (length (n .text)) ++ (n .text ++ (0 ∷ []))
   unfolding name named _then_ text sized textOf placed checked raw fixed
   name-print n = refl
 
-  pub name-legal : (n : Name) → length (n .text) < 256 → Bytes (n .text) → noNul (n .text) ≡ true → utf8 (n .text) ≡ true → name utf8 .codec .legal n
+  pub name-legal : (n : Name) → length (n .text) < 256 → Bytes (n .text) → tests .noNul (n .text) ≡ true → tests .utf8 (n .text) ≡ true → name tests .codec .legal n
   unfolding name named _then_ text sized textOf placed checked raw fixed
   name-legal n l b c u = ((l, (((refl, b), c), u)), omega arith)

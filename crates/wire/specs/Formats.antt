@@ -27,11 +27,16 @@ noNul t = not (among 0 t)
 unfoldable pub section : {A : Type 0} → Format A false → Format (A × List ℕ) false
 section F = boxed 50 51 50 2 2 F
 
-module _ (utf8 : List ℕ → Bool) where
+-- what the text of a name is asked: to hold no NUL, and to be UTF-8
+pub record Tests : Type 0 where
+  pub noNul : List ℕ → Bool
+  pub utf8 : List ℕ → Bool
+
+module _ (tests : Tests) where
   -- n bytes; 50 where they are cut short, 52 for a NUL among them, 53 where they are not UTF-8
   unfoldable pub textOf : ℕ → Format (ℕ × List ℕ) true
   unfolding Codec.raw Codec.checked
-  textOf n = placed (checked utf8 53 (checked noNul 52 (raw 50 n) (λ x. refl)) (λ x. refl))
+  textOf n = placed (checked (tests .utf8) 53 (checked (tests .noNul) 52 (raw 50 n) (λ x. refl)) (λ x. refl))
 
   -- length byte and bytes
   unfoldable pub text : Format (ℕ × List ℕ) true

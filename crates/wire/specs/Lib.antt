@@ -4,5 +4,6 @@ pub mod Reader
 pub mod NameLaws
 pub mod SectionLaws
 pub mod StepLaws
+pub mod LenientLaws
 pub mod RefusalLaws
 pub mod Single

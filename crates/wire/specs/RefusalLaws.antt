@@ -8,28 +8,27 @@ use lib.ListN.{length}
 use Rattle.refusal.specs.declared.Refusal.{Refusal}
 use Rattle.codec.specs.Format.{Format, raw}
 use Rattle.codec.specs.Refusals.{In}
-use Rattle.text.specs.Utf8.{utf8}
 use Rattle.numbers.specs.RefusalLaws.{got-refuses}
 use Rattle.numbers.specs.declared.Got.the-variants.{Refused}
 use Rattle.wire.specs.Formats
-use Rattle.wire.specs.Formats.{section, textOf, text}
+use Rattle.wire.specs.Formats.{Tests, section, textOf, text}
 use Rattle.wire.specs.Reader.{nameAt, nameNumbers, sectionAt, sectionNumbers}
 
 module _ (P : ℕ → Type 0) where
-  pub name-numbers : (utf8 : List ℕ → Bool) → ((k : ℕ) → In nameNumbers k → P k) → Formats.name utf8 .numbers P
+  pub name-numbers : (tests : Tests) → ((k : ℕ) → In nameNumbers k → P k) → Formats.name tests .numbers P
   unfolding Formats.name text textOf
-  name-numbers utf8 h = ((h 50 refl, λ n. ((h 50 refl, h 52 refl), h 53 refl)), (h 50 refl, h 54 refl))
+  name-numbers tests h = ((h 50 refl, λ n. ((h 50 refl, h 52 refl), h 53 refl)), (h 50 refl, h 54 refl))
 
   pub section-numbers : {A : Type 0} (F : Format A false) → ((k : ℕ) → In sectionNumbers k → P k) → F .numbers P → section F .numbers P
   unfolding section
   section-numbers F h f = (f, (h 50 refl, (h 51 refl, h 50 refl)))
 
 module _ (s : List ℕ) (at : ℕ) {k : Refusal} where
-  pub name-refuses : nameAt s at ≡ Refused k → In nameNumbers (k .number)
+  pub name-refuses : (tests : Tests) → nameAt tests s at ≡ Refused k → In nameNumbers (k .number)
   unfolding nameAt
-  name-refuses e =
-      got-refuses (In nameNumbers) (λ n. length (n .text)) (Formats.name utf8 .codec .parse 0 s at)
-      (Formats.name utf8 .refuses (In nameNumbers) (name-numbers (In nameNumbers) utf8 (λ k i. i)) 0 s at) e
+  name-refuses tests e =
+      got-refuses (In nameNumbers) (λ n. length (n .text)) (Formats.name tests .codec .parse 0 s at)
+      (Formats.name tests .refuses (In nameNumbers) (name-numbers (In nameNumbers) tests (λ k i. i)) 0 s at) e
 
   pub section-refuses : sectionAt s at ≡ Refused k → In sectionNumbers (k .number)
   unfolding sectionAt

@@ -11,22 +11,22 @@ use Rattle.codec.specs.Format.{Format}
 use Rattle.numbers.specs.Numbers.{part}
 use Rattle.table.specs.Table.{Out, allRows, said, seq, onGot}
 use Rattle.table.specs.StepLaws.{seq-ok, seq-no}
-use Rattle.wire.specs.Formats.{Name, section}
-use Rattle.wire.specs.Reader.{name, nameAt, sectionAt}
+use Rattle.wire.specs.Formats.{Name, Tests, section}
+use Rattle.wire.specs.Reader.{nameBy, nameAt, sectionAt}
 use Rattle.wire.specs.NameLaws.{nameOf, name-is, name-place}
 use Rattle.wire.specs.SectionLaws.{section-got, section-bad}
 use Rattle.numbers.specs.declared.Got.{Got}
 use Rattle.numbers.specs.declared.Got.the-variants.{Value, Refused}
 
 -- a name first
-module _ {A : Type 0} (f : A → List (List ℕ)) (base : ℕ) (s : List ℕ) (at : ℕ) where
+module _ (tests : Tests) {A : Type 0} (f : A → List (List ℕ)) (base : ℕ) (s : List ℕ) (at : ℕ) where
   pub said-name : (c : Name → ℕ → Res A) (o : ℕ → ℕ → Out)
       → ((x : Name) (len p : ℕ) → x .start ≡ base + (at + 1) → length (x .text) ≡ len → said f (c x p) ≡ o len p)
-      → said f (name .parse base s at >>= c) ≡ onGot (nameAt s at) o
-  said-name c o h = rw (name-is s at base) (go (nameAt s at) refl)
+      → said f (nameBy tests .parse base s at >>= c) ≡ onGot (nameAt tests s at) o
+  said-name c o h = rw (name-is tests s at base) (go (nameAt tests s at) refl)
     where
-      go : (g : Got) → nameAt s at ≡ g → said f (nameOf base s at g >>= c) ≡ onGot g o
-      go (Value len p) e = h (record { start = base + (at + 1); text = take len (drop (at + 1) s) }) len p refl (name-place s at e .2)
+      go : (g : Got) → nameAt tests s at ≡ g → said f (nameOf base s at g >>= c) ≡ onGot g o
+      go (Value len p) e = h (record { start = base + (at + 1); text = take len (drop (at + 1) s) }) len p refl (name-place tests s at e .2)
       go (Refused k) e = refl
 
 -- ---- sections

@@ -5,11 +5,18 @@ ghost use mathlib.Core.Path.{_≡_};
 ghost use Prim.Native.Nat.{_+_, _<_};
 ghost use Rattle.codec.specs.Codec.{among};
 ghost use Rattle.numbers.specs.Numbers.{Past};
-ghost use Rattle.wire.specs.Reader.{nameAt, textFault, sectionAt, Lies};
+ghost use Rattle.wire.specs.Reader.{allTests, testsOf, nameAt, textFault, sectionAt, Lies};
 
 // The length of the name's text at `at`, which starts one byte later, and the place after its closing NUL.
 pub fn name_at(s: &[u8], at: usize) -> Got
-    ensures { λ r. ⌜ (r ≡ nameAt (now (s .entry)) at) × Past 256 2 (now (s .entry)) at r ⌝ }
+    ensures { λ r. ⌜ (r ≡ nameAt allTests (now (s .entry)) at) × Past 256 2 (now (s .entry)) at r ⌝ }
+{
+    name_in(s, at, false)
+}
+
+// The same. Where `light` holds the text itself is not looked at.
+pub fn name_in(s: &[u8], at: usize, light: bool) -> Got
+    ensures { λ r. ⌜ (r ≡ nameAt (testsOf light) (now (s .entry)) at) × Past 256 2 (now (s .entry)) at r ⌝ }
 {
     if numbers::left(s, at) < 1 {
         return Got::Refused(Refusal {
@@ -26,7 +33,7 @@ pub fn name_at(s: &[u8], at: usize) -> Got
         });
     }
     let e = b + len;
-    let why = text_fault(&s[b..e]);
+    let why = text_fault(&s[b..e], light);
     if why != 0 {
         return Got::Refused(Refusal {
             number: why,
@@ -91,10 +98,13 @@ pub fn has_nul(s: &[u8]) -> bool
     false
 }
 
-// The number that refuses a name's text, or 0. Plain texts, as most are, hold no NUL and are UTF-8.
-fn text_fault(t: &[u8]) -> u32
-    ensures { λ r. ⌜ r ≡ textFault (now (t .entry)) ⌝ }
+// The number that refuses a name's text, or 0, as it is where `light` holds. Plain texts, as most are, hold no NUL and are UTF-8.
+fn text_fault(t: &[u8], light: bool) -> u32
+    ensures { λ r. ⌜ r ≡ textFault (testsOf light) (now (t .entry)) ⌝ }
 {
+    if light {
+        return 0;
+    }
     if plain_text::is_plain(t) {
         return 0;
     }

@@ -10,7 +10,7 @@ use lib.Dec.{leb, eqb}
 use borrow.Author.Tests.{eqb-true, leb-true, le-leb}
 use Rattle.refusal.specs.declared.Refusal.{Refusal}
 use Rattle.codec.specs.Codec.{ok, refusal, Bytes}
-use Rattle.text.specs.Utf8.{utf8}
+use Rattle.wire.specs.Reader.{allTests}
 use Rattle.layout.specs.Layout.{Layout, fromLayout, locateLayout, printLayout}
 use Rattle.layout.specs.LayoutOf.{D}
 use Rattle.layout.specs.Rows.{rows}
@@ -38,9 +38,9 @@ pub record ReadsBack (sheet : List ℕ) (width version : ℕ) (table text : List
   pub sameNames : map (rowText (printed version table text)) (rows layout) ≡ map (rowText text) (rowsIn table)
 
 -- the rules see no start
-rules-still : (sheet : List ℕ) (width : ℕ) (t : Layout) → rulesOf sheet width (fromLayout (locateLayout utf8 D t) .0) ≡ rulesOf sheet width (fromLayout t .0)
+rules-still : (sheet : List ℕ) (width : ℕ) (t : Layout) → rulesOf sheet width (fromLayout (locateLayout allTests D t) .0) ≡ rulesOf sheet width (fromLayout t .0)
 rules-still sheet width t =
-    sym (rules-blind sheet width (fromLayout (locateLayout utf8 D t) .0)) ∙ ap (rulesOf sheet width) (parts-still t) ∙ rules-blind sheet width (fromLayout t .0)
+    sym (rules-blind sheet width (fromLayout (locateLayout allTests D t) .0)) ∙ ap (rulesOf sheet width) (parts-still t) ∙ rules-blind sheet width (fromLayout t .0)
 
 -- ---- what is left in the output
 
@@ -93,13 +93,13 @@ module _ (sheet : List ℕ) (width version : ℕ) (table text : List ℕ) (room 
       let t = treeOf version table text in
       let lg = tree-legal table text bytes s version v in
       let p = printed-is version table text in
-      let l : length (printLayout utf8 D t) ≤ 4294967295 = omega (arith, s .within, printed-length table text version, ap length p) in
+      let l : length (printLayout allTests D t) ≤ 4294967295 = omega (arith, s .within, printed-length table text version, ap length p) in
       let b = reads t text lg l (tree-each table text version w) in
-      let z : rulesOf sheet width (fromLayout (locateLayout utf8 D t) .0) ≡ 0 =
+      let z : rulesOf sheet width (fromLayout (locateLayout allTests D t) .0) ≡ 0 =
       rules-still sheet width t ∙ sym (rows-rules sheet width version table text) ∙ a .ruled in
       record {
-        layout = locateLayout utf8 D t;
-        accepted = rw p (ruled-is sheet width (printLayout utf8 D t) ∙ rw (b .accepted, z));
+        layout = locateLayout allTests D t;
+        accepted = rw p (ruled-is sheet width (printLayout allTests D t) ∙ rw (b .accepted, z));
         same = b .version ∙ tree-version version table text;
         sameRows = b .sameRows ∙ ap (map noStart) (tree-rows table text version w);
         sameNames = rw p (b .sameTexts ∙ ap (map (rowText text)) (tree-rows table text version w));

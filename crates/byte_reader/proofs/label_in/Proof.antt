@@ -38,7 +38,7 @@ use denote.Triple.Walked.{says, Stays, stay-none, stay-none-slice, walkOf, goes-
 use denote.Triple.Clauses.{ensured, lasts}
 use denote.Exit.{yes}
 use Rattle.numbers.specs.Numbers.{numAt, gotOn, Past}
-use Rattle.wire.specs.Reader.{nameAt}
+use Rattle.wire.specs.Reader.{allTests, nameAt}
 use Rattle.numbers.specs.declared.Got.{Got}
 use Rattle.numbers.proofs.Got as S
 use Rattle.byte_reader.specs.Reader.{Stepped, LabelAfter, LabelIs}
@@ -74,7 +74,7 @@ labelled {d} {z} {c} {t} e g =
     record {
       after = record {
         code = g .code ∙ e .answer;
-        name = g .name ∙ ap (λ (r : Got). gotOn r (λ _ p. nameAt (now (d .buf)) p)) (e .answer);
+        name = g .name ∙ ap (λ (r : Got). gotOn r (λ _ p. nameAt allTests (now (d .buf)) p)) (e .answer);
         past = λ v p h. g .past v p (e .answer ∙ h);
       };
       past = subst (λ (r : Got). Past 65536 2 (now (d .buf)) (d .pos) r) (sym (g .code)) (e .past);

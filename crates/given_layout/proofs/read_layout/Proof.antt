@@ -22,7 +22,7 @@ same-length : tie.Need-same-length
 same-length c = search needs
 
 returns : tie.Need-returns
-returns c = ruled-read (sym (c .before .before .before .before .enum-told .given .1) ∙ c .before .before .before .before .before .before .check-layout .ensures) (c .before .before .read-layout-rows .ensures)
+returns c = ruled-read (sym (c .before .before .before .before .enum-told .given .1) ∙ c .before .before .before .before .before .before .check-layout .ensures) _ (c .before .before .read-layout-rows .ensures)
 
 returns-2 : tie.Need-returns-2
 returns-2 c = ruled-no (sym (c .before .why .given .1) ∙ c .before .before .before .check-layout .ensures)

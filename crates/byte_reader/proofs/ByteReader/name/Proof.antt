@@ -36,7 +36,7 @@ use denote.Triple.Spec.{Meets, tripleOf}
 use denote.Triple.Table.{entered, cited}
 use denote.Triple.Walked.{says, Stays, stay-ref, walkOf, goes-ref, Walks, ends-at, walked, walk-meets}
 use denote.Triple.Clauses.{ensured, lasts}
-use Rattle.wire.specs.Reader.{nameAt}
+use Rattle.wire.specs.Reader.{allTests, nameAt}
 use Rattle.numbers.specs.Numbers.{Past}
 use Rattle.numbers.specs.declared.Got.{Got}
 use Rattle.numbers.proofs.Got as S
@@ -71,7 +71,7 @@ module _ {M : Type 1} (𝓤 : URA M) (H : Heap 𝓤) (A : Atoms 𝓤) (W : Given
   at = (vptr b o ∷ [], tt)
 
   abbrev found : Got
-  found = nameAt (now (d .buf)) (d .pos)
+  found = nameAt allTests (now (d .buf)) (d .pos)
 
   abbrev Post : Val → SProp 𝓤
   Post = walkOf 𝓤 H A name.ended stayed (name.clauses 𝓤 H A at-mem run) .post (((κ, (κ′, tt)), (q, (q′, tt)), bounds, x, at), tt)

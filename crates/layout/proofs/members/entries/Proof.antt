@@ -15,10 +15,10 @@ use Rattle.layout.proofs.members.entries.Statement.{statement}
 use Rattle.layout.proofs.members.entries.Tie as tie
 
 abbrev Inv-loop : tie.InvT-loop
-Inv-loop s at count base table₀ n todo₀ p₀ k₀ table todo p k = Going (putRow 9) base s (entriesAt base count s at) n table₀ (entriesAt base todo s p) p k table
+Inv-loop s at count light base table₀ n todo₀ p₀ k₀ table todo p k = Going (putRow 9) base s (entriesAt light base count s at) n table₀ (entriesAt light base todo s p) p k table
 
 abbrev μ-loop : tie.MeasureT-loop
-μ-loop s at count base table₀ n todo₀ p₀ k₀ table todo p k = todo
+μ-loop s at count light base table₀ n todo₀ p₀ k₀ table todo p k = todo
 
 loop-holds : tie.Need-loop-holds Inv-loop μ-loop
 loop-holds c = going _ (c .before .before .pre)
@@ -30,7 +30,7 @@ loop-again : tie.Need-loop-again Inv-loop μ-loop
 loop-again c =
     let take = c .before .before .before .before .before .before .before .before .before .before .take .ensures in
     let next = c .before .before .before .before .before .before .before .before .next .given in
-    going-row (c .before .before .before .before .before .before .before .before .before .before .before .before .loop .inv) (entries-row _ _ _ _ (sym D-is) (c .before .before .before .before .before .before .before .before .before .before .before .loop-test .taken) (sym (take .0) ∙ next .1))
+    going-row (c .before .before .before .before .before .before .before .before .before .before .before .before .loop .inv) (entries-row _ _ _ _ _ (sym D-is) (c .before .before .before .before .before .before .before .before .before .before .before .loop-test .taken) (sym (take .0) ∙ next .1))
     (put-row-as (c .before .before .before .before .before .entry-row .ensures ∙ ap (λ (b : List ℕ). headRow b) (c .before .before .before .before .before .before .entry-bytes .ensures)) (c .before .before .put-row .ensures)) (c .before .before .put-row .kept .0) (omega (arith, past-at (take .1) (next .1)))
 
 same-length : tie.Need-same-length Inv-loop μ-loop
@@ -38,13 +38,13 @@ same-length c = c .before .before .before .before .before .loop .inv .wide
 
 returns : tie.Need-returns Inv-loop μ-loop
 returns c =
-    going-no (c .before .before .before .before .before .loop .inv) (entries-no _ _ _ _ (sym D-is) (c .before .before .before .before .loop-test .taken) (sym (c .before .before .before .take .ensures .0) ∙ c .before .why .given .1))
+    going-no (c .before .before .before .before .before .loop .inv) (entries-no _ _ _ _ _ (sym D-is) (c .before .before .before .before .loop-test .taken) (sym (c .before .before .before .take .ensures .0) ∙ c .before .why .given .1))
 
 same-length-2 : tie.Need-same-length-2 Inv-loop μ-loop
 same-length-2 c = c .before .loop .inv .wide
 
 returns-2 : tie.Need-returns-2 Inv-loop μ-loop
-returns-2 c = going-end (c .before .loop .inv) (entries-end _ _ _ _ (c .loop-test .left))
+returns-2 c = going-end (c .before .loop .inv) (entries-end _ _ _ _ _ (c .loop-test .left))
 
 pub entries-spec : {M : Type 1} → statement M
 entries-spec =

@@ -20,16 +20,16 @@ names-requires c κs =
 
 returns : tie.Need-returns
 returns c =
-    ran-is (fields-ok _ _ _ (sym (c .before .before .before .before .before .before .before .before .before .before .before .before .before .before .u16-at .ensures .0) ∙ c .before .before .before .before .before .before .before .before .before .before .before .before .value .given .1))
+    ran-is (fields-ok _ _ _ _ (sym (c .before .before .before .before .before .before .before .before .before .before .before .before .before .before .u16-at .ensures .0) ∙ c .before .before .before .before .before .before .before .before .before .before .before .before .value .given .1))
     (ran-seq (c .before .before .before .before .before .before .before .before .before .entries .ensures) _ (c .before .before .before .before .before .m .given .1) (c .before .before .names .ensures))
 
 returns-2 : tie.Need-returns-2
 returns-2 c =
-    ran-is (fields-ok _ _ _ (sym (c .before .before .before .before .before .before .before .before .before .before .u16-at .ensures .0) ∙ c .before .before .before .before .before .before .before .before .value .given .1))
+    ran-is (fields-ok _ _ _ _ (sym (c .before .before .before .before .before .before .before .before .before .before .u16-at .ensures .0) ∙ c .before .before .before .before .before .before .before .before .value .given .1))
     (ran-stop (c .before .before .before .before .before .entries .ensures) _ (c .before .why .given .1))
 
 returns-3 : tie.Need-returns-3
-returns-3 c = ran-no (fields-no _ _ _ (sym (c .before .before .before .u16-at .ensures .0) ∙ c .before .why2 .given .1))
+returns-3 c = ran-no (fields-no _ _ _ _ (sym (c .before .before .before .u16-at .ensures .0) ∙ c .before .why2 .given .1))
 
 pub fields-spec : {M : Type 1} → statement M
 fields-spec =

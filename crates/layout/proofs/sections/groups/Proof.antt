@@ -23,13 +23,13 @@ group-requires-3 c κs =
     (record { small = c .before .before .before .before .before .before .before .before .before .before .before .before .before .before .before .before .before .before .before .before .pre .small; few = w .0; inside = w .1 }, cleared-at (group2 .1) (c .before .before .before .b .given .1))
 
 returns : tie.Need-returns
-returns c = ran-is (groups-is _ _) (ran-seq (c .before .before .before .before .before .before .before .before .before .before .before .before .before .before .before .before .before .before .group .ensures .0) _ (c .before .before .before .before .before .before .before .before .before .before .before .before .before .before .a .given .1) (ran-seq (c .before .before .before .before .before .before .before .before .before .before .group2 .ensures .0) _ (c .before .before .before .before .before .before .b .given .1) (c .before .before .group3 .ensures .0)))
+returns c = ran-is (groups-is _ _ _) (ran-seq (c .before .before .before .before .before .before .before .before .before .before .before .before .before .before .before .before .before .before .group .ensures .0) _ (c .before .before .before .before .before .before .before .before .before .before .before .before .before .before .a .given .1) (ran-seq (c .before .before .before .before .before .before .before .before .before .before .group2 .ensures .0) _ (c .before .before .before .before .before .before .b .given .1) (c .before .before .group3 .ensures .0)))
 
 returns-2 : tie.Need-returns-2
-returns-2 c = ran-is (groups-is _ _) (ran-seq (c .before .before .before .before .before .before .before .before .before .before .before .before .before .group .ensures .0) _ (c .before .before .before .before .before .before .before .before .before .a .given .1) (ran-stop (c .before .before .before .before .before .group2 .ensures .0) _ (c .before .why .given .1)))
+returns-2 c = ran-is (groups-is _ _ _) (ran-seq (c .before .before .before .before .before .before .before .before .before .before .before .before .before .group .ensures .0) _ (c .before .before .before .before .before .before .before .before .before .a .given .1) (ran-stop (c .before .before .before .before .before .group2 .ensures .0) _ (c .before .why .given .1)))
 
 returns-3 : tie.Need-returns-3
-returns-3 c = ran-is (groups-is _ _) (ran-stop (c .before .before .before .before .before .group .ensures .0) _ (c .before .why2 .given .1))
+returns-3 c = ran-is (groups-is _ _ _) (ran-stop (c .before .before .before .before .before .group .ensures .0) _ (c .before .why2 .given .1))
 
 pub groups-spec : {M : Type 1} → statement M
 groups-spec =

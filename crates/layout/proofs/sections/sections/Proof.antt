@@ -16,10 +16,10 @@ use Rattle.layout.proofs.sections.sections.Statement.{statement}
 use Rattle.layout.proofs.sections.sections.Tie as tie
 
 abbrev Inv-loop : tie.InvT-loop
-Inv-loop kind s at count table₀ n marks₀ todo₀ p₀ k₀ table marks todo p k = Going (putRow 9) 0 s (sectionsAt kind count s at) n table₀ (sectionsAt kind todo s p) p k table × Marks marks []
+Inv-loop kind s at count light table₀ n marks₀ todo₀ p₀ k₀ table marks todo p k = Going (putRow 9) 0 s (sectionsAt light kind count s at) n table₀ (sectionsAt light kind todo s p) p k table × Marks marks []
 
 abbrev μ-loop : tie.MeasureT-loop
-μ-loop kind s at count table₀ n marks₀ todo₀ p₀ k₀ table marks todo p k = todo
+μ-loop kind s at count light table₀ n marks₀ todo₀ p₀ k₀ table marks todo p k = todo
 
 loop-holds : tie.Need-loop-holds Inv-loop μ-loop
 loop-holds c = (going _ (c .before .before .pre .0), c .before .before .pre .1)
@@ -51,34 +51,34 @@ loop-again c =
     let b = c .before .before .before .before .before .before .before .before .before .before .b .given in
     let body = c .before .before .before .before .before .body in
     let w = lies-at (section-at .1) (b .1) in (
-      going-run (c .before .before .before .before .before .before .before .before .before .before .before .before .before .before .loop .inv .0) _ (sections-run _ _ _ _ (c .before .before .before .before .before .before .before .before .before .before .before .before .before .loop-test .taken) (sym (section-at .0) ∙ b .1))
-          (ran-shifted (body .ensures .0) _ (c .before .m .given .1)) (c .before .m .given .1) (body .kept .1 .1 .1 .0) (part-few _ _ _ (ran-at (body .ensures .0) (c .before .m .given .1)) (w .1) (w .2)),
+      going-run (c .before .before .before .before .before .before .before .before .before .before .before .before .before .before .loop .inv .0) _ (sections-run _ _ _ _ _ (c .before .before .before .before .before .before .before .before .before .before .before .before .before .loop-test .taken) (sym (section-at .0) ∙ b .1))
+          (ran-shifted (body .ensures .0) _ (c .before .m .given .1)) (c .before .m .given .1) (body .kept .1 .1 .1 .1 .0) (part-few _ _ _ (ran-at (body .ensures .0) (c .before .m .given .1)) (w .1) (w .2)),
       cleared-at (body .ensures .1) (c .before .m .given .1),
     )
 
-add-place : tie.Need-add-t26 Inv-loop μ-loop
+add-place : tie.Need-add-t27 Inv-loop μ-loop
 add-place c =
     let w = lies-at (c .before .before .before .before .before .before .before .before .before .before .before .before .before .section-at .ensures .1) (c .before .before .before .before .before .before .before .before .before .before .before .b .given .1) in
-    let h = part-place _ _ _ (body-within _ _ _ (ran-refused (c .before .before .before .before .before .before .body .ensures .0) (c .before .before .why .given .1))) (w .1) (w .2) in
+    let h = part-place _ _ _ (body-within _ _ _ _ (ran-refused (c .before .before .before .before .before .before .body .ensures .0) (c .before .before .why .given .1))) (w .1) (w .2) in
     omega (arith, h, c .before .before .before .before .before .before .before .before .before .before .before .before .before .before .before .before .before .before .pre .0 .small)
 
 same-length : tie.Need-same-length Inv-loop μ-loop
-same-length c = c .before .before .before .before .before .before .body .kept .1 .1 .1 .0 ∙ c .before .before .before .before .before .before .before .before .before .before .before .before .before .before .before .loop .inv .0 .wide
+same-length c = c .before .before .before .before .before .before .body .kept .1 .1 .1 .1 .0 ∙ c .before .before .before .before .before .before .before .before .before .before .before .before .before .before .before .loop .inv .0 .wide
 
 returns : tie.Need-returns Inv-loop μ-loop
-returns c = (going-halt (c .before .before .before .before .before .before .before .before .before .before .before .before .before .before .before .loop .inv .0) _ (sections-run _ _ _ _ (c .before .before .before .before .before .before .before .before .before .before .before .before .before .before .loop-test .taken) (sym (c .before .before .before .before .before .before .before .before .before .before .before .before .before .section-at .ensures .0) ∙ c .before .before .before .before .before .before .before .before .before .before .before .b .given .1)) (ran-moved (c .before .before .before .before .before .before .body .ensures .0) _ (c .before .before .why .given .1)) refl, tt)
+returns c = (going-halt (c .before .before .before .before .before .before .before .before .before .before .before .before .before .before .before .loop .inv .0) _ (sections-run _ _ _ _ _ (c .before .before .before .before .before .before .before .before .before .before .before .before .before .before .loop-test .taken) (sym (c .before .before .before .before .before .before .before .before .before .before .before .before .before .section-at .ensures .0) ∙ c .before .before .before .before .before .before .before .before .before .before .before .b .given .1)) (ran-moved (c .before .before .before .before .before .before .body .ensures .0) _ (c .before .before .why .given .1)) refl, tt)
 
 same-length-2 : tie.Need-same-length-2 Inv-loop μ-loop
 same-length-2 c = c .before .before .before .before .before .loop .inv .0 .wide
 
 returns-2 : tie.Need-returns-2 Inv-loop μ-loop
-returns-2 c = (going-no (c .before .before .before .before .before .loop .inv .0) (sections-no _ _ _ _ (c .before .before .before .before .loop-test .taken) (sym (c .before .before .before .section-at .ensures .0) ∙ c .before .why2 .given .1)), tt)
+returns-2 c = (going-no (c .before .before .before .before .before .loop .inv .0) (sections-no _ _ _ _ _ (c .before .before .before .before .loop-test .taken) (sym (c .before .before .before .section-at .ensures .0) ∙ c .before .why2 .given .1)), tt)
 
 same-length-3 : tie.Need-same-length-3 Inv-loop μ-loop
 same-length-3 c = c .before .loop .inv .0 .wide
 
 returns-3 : tie.Need-returns-3 Inv-loop μ-loop
-returns-3 c = (going-end (c .before .loop .inv .0) (sections-end _ _ _ _ (c .loop-test .left)), c .before .loop .inv .1)
+returns-3 c = (going-end (c .before .loop .inv .0) (sections-end _ _ _ _ _ (c .loop-test .left)), c .before .loop .inv .1)
 
 pub sections-spec : {M : Type 1} → statement M
 sections-spec =

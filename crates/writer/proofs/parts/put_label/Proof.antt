@@ -4,7 +4,7 @@ use native.Mathlib.Omega.{arith}
 use mathlib.Core.Path.{sym, ap}
 use lib.ListN.{length, length-append}
 use denote.Ref.{now}
-use Rattle.text.specs.Utf8.{utf8}
+use Rattle.wire.specs.Reader.{allTests}
 use Rattle.layout.specs.PrintLaws.{label-print}
 use Rattle.rows_check.specs.Tree.{labelOf}
 use Rattle.writer.proofs.OutputLaws.{wrote-then, wrote-is}
@@ -15,17 +15,17 @@ use Rattle.writer.proofs.parts.put_label.Tie as tie
 put-u16-requires : tie.Need-put-u16-requires
 put-u16-requires c κs =
     let start = c .before .before .before .before .before in
-    record { fits = omega (arith, start .pre .1 .1 .fits, simp length-append at (ap length (label-print utf8 (labelOf (now (start .args .rows)) (now (start .args .text)) (start .args .q))))) }
+    record { fits = omega (arith, start .pre .1 .1 .fits, simp length-append at (ap length (label-print allTests (labelOf (now (start .args .rows)) (now (start .args .text)) (start .args .q))))) }
 
 put-name-requires : tie.Need-put-name-requires
 put-name-requires c κs =
     let start = c .before .before .before .before .before .before .before .before .before in
-    (start .pre .0, (start .pre .1 .0, record { fits = omega (arith, start .pre .1 .1 .fits, simp length-append at (ap length (label-print utf8 (labelOf (now (start .args .rows)) (now (start .args .text)) (start .args .q))))) }))
+    (start .pre .0, (start .pre .1 .0, record { fits = omega (arith, start .pre .1 .1 .fits, simp length-append at (ap length (label-print allTests (labelOf (now (start .args .rows)) (now (start .args .text)) (start .args .q))))) }))
 
 returns : tie.Need-returns
 returns c =
     let args = c .before .before .before .before .before .before .before .before .before .before .before .before .args in
-    wrote-is (wrote-then (c .before .before .before .before .before .before .put-u16 .ensures) (c .before .before .put-name .ensures)) (rw (c .before .before .before .before .before .before .before .cell-of .ensures .0) (sym (label-print utf8 (labelOf (now (args .rows)) (now (args .text)) (args .q)))))
+    wrote-is (wrote-then (c .before .before .before .before .before .before .put-u16 .ensures) (c .before .before .put-name .ensures)) (rw (c .before .before .before .before .before .before .before .cell-of .ensures .0) (sym (label-print allTests (labelOf (now (args .rows)) (now (args .text)) (args .q)))))
 
 pub put-label-spec : {M : Type 1} → statement M
 put-label-spec =
