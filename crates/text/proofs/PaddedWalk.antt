@@ -1,25 +1,21 @@
--- Bytes with the ones before, all at once, in parts and one after the other. Assumes nothing.
+-- Bytes with the ones before, in parts and all at once; texts of a width one after the other; a NUL among bytes. Assumes nothing.
 use Prim.Native.Nat.{ℕ, zero, suc, _+_, _-_, _/_, _≤_, _<_}
 use native.Mathlib.Nat.{zero-add, suc-add, add-zero, sub-zero, div-eq-of-lt, div-eq-sub-div}
 use native.Mathlib.Numerals.{add-one}
 use native.Mathlib.Omega.{arith}
 use mathlib.Core.Path.{_≡_, refl, sym, ap, _∙_}
-use mathlib.Core.Bool.{Bool, true, false, _&&_}
+use mathlib.Core.Bool.{Bool, true, false, _&&_, _||_, or-assoc, or-false}
 use mathlib.Core.List.{List, [], _∷_}
-use mathlib.Core.Option.{some}
-use lib.Bits.{bitOr}
-use lib.Dec.{ltb, eqb, eqb·suc-zero}
+use lib.Dec.{ltb, eqb, eqb·suc-zero, eqb·zero-suc}
 use lib.ListN.{length, getD, take, drop, length-drop, drop-of-length-le}
-use lib.Seq.{drop-cons, drop-drop, getD-drop, take-all, length-take-le}
-use borrow.Author.Tests.{lt-ltb, le-ltb, ne-eqb}
-use Rattle.text.specs.Utf8.{goes}
+use lib.Seq.{drop-cons, drop-drop, getD-drop, length-take-le}
+use borrow.Author.Tests.{lt-ltb, le-ltb}
+use Rattle.codec.specs.Codec.{among}
 use Rattle.text.specs.Ascii.{ascii}
 use Rattle.text.specs.AndLaws.{and-left, and-true, and-false, and-join}
-use Rattle.text.specs.Padded.{nuls, nulPadded, eachPadded}
+use Rattle.text.specs.Padded.{nulPadded, eachPadded}
 use Rattle.text.specs.EachPaddedLaws.{each-none, each-more}
 use Rattle.text.specs.Pairs.{goodPair, goodPairs, goodText}
-use Rattle.text.specs.Runs.{ored}
-use Rattle.text.proofs.Or.{or-left, or-right}
 
 -- ---- in parts
 
@@ -161,42 +157,14 @@ module _ {w : ℕ} {s : List ℕ} {p : ℕ} (v : Texts w s p) where
     pub texts-next : true ≡ goodText (w - 1) (drop p s) → Texts w s (p + w)
     texts-next e = record { bound = omega (arith, v .bound); same = one ∙ rw (sym e) }
 
--- ---- one byte after the other
+-- ---- a NUL among bytes, one after the other
+same-zero : (b : ℕ) → eqb b 0 ≡ eqb 0 b
+same-zero zero = refl
+same-zero (suc b) = eqb·suc-zero b ∙ sym (eqb·zero-suc b)
 
--- a byte that is no NUL says nothing of what follows a NUL
-pub padded-next : (s : List ℕ) (i : ℕ) → i < length s → (getD s i 0 ≡ 0 → ⊥) → nulPadded (drop i s) ≡ nulPadded (drop (i + 1) s)
-padded-next s i h other = let place : i + 1 ≡ suc i = omega arith in rw (place, drop-cons s i 0) (go (getD s i 0) other)
-  where
-    go : (b : ℕ) → (b ≡ 0 → ⊥) → nulPadded (b ∷ drop (suc i) s) ≡ nulPadded (drop (suc i) s)
-    go zero e = absurd (e refl)
-    go (suc b) e = refl
+pub nul-next : (x : Bool) (s : List ℕ) (j : ℕ) → j < length s
+    → (x || among 0 (drop j s)) ≡ ((x || eqb (getD s j 0) 0) || among 0 (drop (j + 1) s))
+nul-next x s j h = rw (add-one, drop-cons s j 0, same-zero (getD s j 0)) (sym (or-assoc x (eqb 0 (getD s j 0)) (among 0 (drop (suc j) s))))
 
--- from a NUL on there are to be NULs
-pub padded-nul : (s : List ℕ) (i : ℕ) → i < length s → getD s i 0 ≡ 0 → nulPadded (drop i s) ≡ nuls (drop i s)
-padded-nul s i h e = rw (drop-cons s i 0, e)
-
--- NULs are rows by themselves
-pub goes-nuls : (l : List ℕ) → nuls l ≡ true → goes (some []) l ≡ true
-goes-nuls [] e = refl
-goes-nuls (zero ∷ l) e = goes-nuls l e
-goes-nuls (suc b ∷ l) e = let z : _≡_ {A = ℕ} 0 1 = cc in absurd (omega arith)
-
--- no byte is left
-pub padded-end : (s : List ℕ) (i : ℕ) → length s ≤ i → nulPadded (drop i s) ≡ true
-padded-end s i h = rw (drop-of-length-le s h)
-
--- the bits of NULs
-two : (x b : ℕ) → eqb (bitOr x b) 0 ≡ (eqb x 0 && eqb b 0)
-two zero zero = refl
-two (suc x) b = let big : bitOr (suc x) b ≡ 0 → ⊥ = λ e. absurd (omega (arith, or-left (suc x) b)) in rw (ne-eqb (bitOr (suc x) b) 0 big, eqb·suc-zero x)
-two zero (suc b) = let big : bitOr 0 (suc b) ≡ 0 → ⊥ = λ e. absurd (omega (arith, or-right 0 (suc b))) in rw (ne-eqb (bitOr 0 (suc b)) 0 big)
-
-ored-nuls : (l : List ℕ) (x : ℕ) → eqb (ored x l) 0 ≡ (eqb x 0 && nuls l)
-ored-nuls [] x = sym (and-true (eqb x 0))
-ored-nuls (zero ∷ l) x = ored-nuls l (bitOr x 0) ∙ ap (λ t. t && nuls l) (two x 0 ∙ and-true (eqb x 0))
-ored-nuls (suc b ∷ l) x =
-    let none : eqb (bitOr x (suc b)) 0 ≡ false = two x (suc b) ∙ ap (λ t. eqb x 0 && t) (eqb·suc-zero b) ∙ and-false (eqb x 0) in
-    ored-nuls l (bitOr x (suc b)) ∙ ap (λ t. t && nuls l) none ∙ sym (and-false (eqb x 0))
-
-pub rest-nuls : (s : List ℕ) (a : ℕ) → eqb (ored 0 (take (length s - a) (drop a s))) 0 ≡ nuls (drop a s)
-rest-nuls s a = ored-nuls (take (length s - a) (drop a s)) 0 ∙ ap nuls (take-all (length s - a) (drop a s) (omega (arith, length-drop a s)))
+pub nul-end : (x : Bool) (s : List ℕ) (j : ℕ) → length s ≤ j → (x || among 0 (drop j s)) ≡ x
+nul-end x s j h = rw (drop-of-length-le s h) (or-false x)

@@ -11,6 +11,7 @@ pub mod Utf8Laws
 pub mod TrimLaws
 pub mod Single
 pub mod Runs
+pub mod Letters
 pub mod States
 pub mod Padded
 pub mod EachPaddedLaws
