@@ -26,11 +26,13 @@ pairs-add (suc n) m s =
     let place : 1 + n ≡ suc n = omega arith in
     rw (suc-add n m, pairs-add n m (drop 1 s), drop-drop n 1 s, place) (and-join (goodPair (getD s 0 0) (getD s 1 0)) (goodPairs n (drop 1 s)) (goodPairs m (drop (suc n) s)))
 
+-- the byte at k
+byte-at : (s : List ℕ) (k : ℕ) → getD (drop k s) 0 0 ≡ getD s k 0
+byte-at s k = getD-drop k s 0 0 ∙ ap (λ p. getD s p 0) (add-zero k)
+
 -- the first of them
 pairs-step : (s : List ℕ) (k m : ℕ) → goodPairs (suc m) (drop k s) ≡ (goodPair (getD s k 0) (getD s (k + 1) 0) && goodPairs m (drop (k + 1) s))
-pairs-step s k m =
-    let here : getD (drop k s) 0 0 ≡ getD s k 0 = getD-drop k s 0 0 ∙ ap (λ p. getD s p 0) (add-zero k) in
-    rw (here, getD-drop k s 1 0, drop-drop 1 k s)
+pairs-step s k m = rw (byte-at s k, getD-drop k s 1 0, drop-drop 1 k s)
 
 -- one more of the n from a on
 pub pairs-one : (s : List ℕ) (a n j : ℕ) (x : Bool) → j < n
@@ -81,16 +83,13 @@ text-first (b ∷ t) (suc n) any fits =
 
 -- ---- a text that starts at a
 module _ (s : List ℕ) (a n : ℕ) where
-  first : getD (drop a s) 0 0 ≡ getD s a 0
-  first = getD-drop a s 0 0 ∙ ap (λ p. getD s p 0) (add-zero a)
-
   -- its first byte is above 127
   pub text-high : 128 ≤ getD s a 0 → false ≡ goodText n (drop a s)
-  text-high h = rw (first, le-ltb (getD s a 0) 128 h)
+  text-high h = rw (byte-at s a, le-ltb (getD s a 0) 128 h)
 
   -- or below 128
   pub text-low : getD s a 0 < 128 → goodPairs n (drop a s) ≡ goodText n (drop a s)
-  text-low h = rw (first, lt-ltb (getD s a 0) 128 h)
+  text-low h = rw (byte-at s a, lt-ltb (getD s a 0) 128 h)
 
 -- ---- the walk: the bytes after a, up to i, are good
 pub record Walked (s : List ℕ) (a i : ℕ) : Type 0 where
