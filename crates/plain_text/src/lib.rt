@@ -4,7 +4,7 @@ ghost use Prim.Native.Nat.{_+_, _≤_};
 ghost use lib.ListN.{length, take, drop};
 ghost use Rattle.plain_text.specs.Plain.{plainByte, plain};
 
-// Whether every byte of s is from 1 to 127. Eight bytes are looked at together, the last eight once more.
+// Whether every byte of s is from 1 to 127. Eight bytes are looked at together; where some are left, the last eight once more.
 pub fn is_plain(s: &[u8]) -> bool
     ensures { λ r. ⌜ r ≡ plain (now (s .entry)) ⌝ }
 {
@@ -17,6 +17,9 @@ pub fn is_plain(s: &[u8]) -> bool
             return false;
         }
         i += 8;
+    }
+    if i == s.len() {
+        return true;
     }
     eight(s, s.len() - 8)
 }

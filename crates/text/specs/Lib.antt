@@ -11,8 +11,10 @@ pub mod Utf8Laws
 pub mod TrimLaws
 pub mod Single
 pub mod Runs
+pub mod Letters
 pub mod States
 pub mod Padded
+pub mod EachPaddedLaws
 pub mod Pairs
 pub mod PaddedAnswer
 pub mod PaddedAnswerLaws

@@ -3,13 +3,13 @@ use Prim.Native.Nat.{ℕ, zero, suc, _-_}
 use native.Mathlib.Nat.{sub-zero}
 use native.Mathlib.Omega.{arith}
 use mathlib.Core.Path.{_≡_, refl, sym, ap, _∙_}
-use mathlib.Core.Bool.{true, false}
+use mathlib.Core.Bool.{Bool, true, false, not}
 use mathlib.Core.List.{List, [], _∷_, _++_}
 use lib.Dec.{eqb·zero-suc}
 use lib.ListN.{length, take, replicate}
 use Rattle.codec.specs.Codec.{among}
 use Rattle.text.specs.Trim.{kept, trimmedLen}
-use Rattle.text.specs.TrimLaws.{zeros-trimmed}
+use Rattle.text.specs.TrimLaws.{zeros-trimmed, trimmed-split}
 use Rattle.text.specs.Padded.{nuls, nulPadded, beforeNul}
 
 -- NULs are as many as there are bytes
@@ -57,3 +57,12 @@ name-padded [] zero e = (refl, refl)
 name-padded [] (suc n) e = (nuls-of n, refl)
 name-padded (zero ∷ t) n e = let z : _≡_ {A = ℕ} 0 1 = cc in absurd (omega arith)
 name-padded (suc b ∷ t) n e = let (p, q) = name-padded t n (rw (eqb·zero-suc b) at e) in (p, ap (λ v. suc b ∷ v) q)
+
+-- only NULs follow a NUL where the bytes without the NULs at the end hold none
+pub trimmed-no-nul : (s : List ℕ) → not (among 0 (take (trimmedLen s) s)) ≡ nulPadded s
+trimmed-no-nul s = go (nulPadded s) (among 0 (take (trimmedLen s) s)) refl refl
+  where
+    go : (p a : Bool) → nulPadded s ≡ p → among 0 (take (trimmedLen s) s) ≡ a → not a ≡ p
+    go true a e f = let n = padded-name s e in ap not (sym f ∙ ap (among 0) (n .is) ∙ n .no-nul)
+    go false true e f = refl
+    go false false e f = sym (ap nulPadded (trimmed-split s) ∙ name-padded (take (trimmedLen s) s) (length s - trimmedLen s) f .0) ∙ e

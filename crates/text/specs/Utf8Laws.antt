@@ -1,6 +1,6 @@
 -- Laws of `utf8`: of a text after another, and of a text with zeros at its end, at every width.
 -- Assumes nothing.
-use mathlib.Core.Path.{_≡_, _∙_, refl, sym, subst}
+use mathlib.Core.Path.{_≡_, _∙_, refl, sym, ap, subst}
 use mathlib.Core.Bool.{Bool, true, false, cond}
 use mathlib.Core.List.{List, [], _∷_, _++_, append-assoc, append-nil}
 use mathlib.Core.Option.{none, some}
@@ -34,14 +34,6 @@ unfolding utf8
 utf8-append a b h = goes-append (some []) a b h
 
 -- ---- zeros at the end
-pub utf8-zeros : (n : ℕ) → utf8 (replicate n 0) ≡ true
-unfolding utf8
-utf8-zeros zero = refl
-utf8-zeros (suc n) = utf8-zeros n
-
--- a text filled up with zeros is a text
-pub utf8-padded : (t : List ℕ) (n : ℕ) → utf8 t ≡ true → utf8 (t ++ replicate n 0) ≡ true
-utf8-padded t n h = utf8-append t (replicate n 0) h ∙ utf8-zeros n
 
 -- no zero is in the ranges
 abbrev high : List Range → Bool
@@ -82,25 +74,26 @@ low-first zero b t = absurd t
 low-first (suc lo) b t = rw (lt-leb (suc lo) 0 (omega arith))
 
 -- a zero stands only where no row is begun
-zero-last : (e : Expect) → High e → ended (step e 0) ≡ true → ended e ≡ true
-zero-last none h t = t
-zero-last (some []) h t = refl
-zero-last (some ((lo to hi) ∷ rs)) h t =
+zero-last : (e : Expect) → High e → ended (step e 0) ≡ ended e
+zero-last none h = refl
+zero-last (some []) h = refl
+zero-last (some ((lo to hi) ∷ rs)) h =
     let z : within 0 (lo to hi) ≡ false = low-first lo (leb 0 hi) (both-parts (ltb 0 lo) (high rs) h .0) in
-    absurd-true (rw z at t)
+    rw z
 
-goes-init : (e : Expect) (t : List ℕ) → High e → goes e (t ++ (0 ∷ [])) ≡ true → goes e t ≡ true
-goes-init e [] h g = zero-last e h g
-goes-init e (b ∷ t) h g = goes-init (step e b) t (step-high e b h) g
+goes-init : (e : Expect) (t : List ℕ) → High e → goes e (t ++ (0 ∷ [])) ≡ goes e t
+goes-init e [] h = zero-last e h
+goes-init e (b ∷ t) h = goes-init (step e b) t (step-high e b h)
 
-pub utf8-init : (t : List ℕ) → utf8 (t ++ (0 ∷ [])) ≡ true → utf8 t ≡ true
+utf8-init : (t : List ℕ) → utf8 (t ++ (0 ∷ [])) ≡ utf8 t
 unfolding utf8
-utf8-init t g = goes-init (some []) t tt g
+utf8-init t = goes-init (some []) t tt
 
-utf8-unpadded : (t : List ℕ) (n : ℕ) → utf8 (t ++ replicate n 0) ≡ true → utf8 t ≡ true
-utf8-unpadded t zero g = subst (λ v. utf8 v ≡ true) (append-nil t) g
-utf8-unpadded t (suc n) g = utf8-init t (utf8-unpadded (t ++ (0 ∷ [])) n (subst (λ v. utf8 v ≡ true) (sym (append-assoc t (0 ∷ []) (replicate n 0))) g))
+-- bytes filled up with zeros are a text just where they are one without
+pub utf8-padded : (t : List ℕ) (n : ℕ) → utf8 (t ++ replicate n 0) ≡ utf8 t
+utf8-padded t zero = ap utf8 (append-nil t)
+utf8-padded t (suc n) = ap utf8 (sym (append-assoc t (0 ∷ []) (replicate n 0))) ∙ utf8-padded (t ++ (0 ∷ [])) n ∙ utf8-init t
 
--- trimming keeps a text a text
-pub utf8-trimmed : (s : List ℕ) → utf8 s ≡ true → utf8 (take (trimmedLen s) s) ≡ true
-utf8-trimmed s g = utf8-unpadded (take (trimmedLen s) s) (length s - trimmedLen s) (subst (λ v. utf8 v ≡ true) (trimmed-split s) g)
+-- and trimmed just where they are one whole
+pub utf8-trimmed : (s : List ℕ) → utf8 (take (trimmedLen s) s) ≡ utf8 s
+utf8-trimmed s = sym (ap utf8 (trimmed-split s) ∙ utf8-padded (take (trimmedLen s) s) (length s - trimmedLen s))

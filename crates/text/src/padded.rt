@@ -1,18 +1,15 @@
 // Texts of a fixed width that are filled up with NULs, as the dataset and the symbols are: after a NUL only NULs follow.
-use crate::tables::CLASS;
-use crate::tables::WORD;
+use crate::trim::trimmed_len;
 use crate::utf8::is_utf8;
-use crate::utf8::next;
-use crate::utf8::or_all;
 ghost use mathlib.Core.Path.{_≡_};
 ghost use mathlib.Core.Bool.{_&&_};
-ghost use Prim.Native.Nat.{_+_, _<_, _≤_};
+ghost use Prim.Native.Nat.{_+_, _-_, _/_, _<_, _≤_};
 ghost use lib.ListN.{length, drop};
+ghost use Rattle.codec.specs.Codec.{among};
 ghost use Rattle.text.specs.Ascii.{ascii};
-ghost use Rattle.text.specs.Padded.{nuls, nulPadded};
-ghost use Rattle.text.specs.Pairs.{goodPair, goodPairs};
+ghost use Rattle.text.specs.Padded.{nulPadded, eachPadded};
+ghost use Rattle.text.specs.Pairs.{goodPair, goodPairs, goodText};
 ghost use Rattle.text.specs.PaddedAnswer.{told, paddedOf};
-ghost use Rattle.text.specs.States.{Rule};
 
 // What is wrong with such a text, if anything: it is not UTF-8; or it is, and another byte follows a NUL.
 pub enum Padded {
@@ -21,15 +18,27 @@ pub enum Padded {
     AfterNul,
 }
 
-// Whether s is UTF-8, and then whether only NULs follow a NUL. One walk tells both of bytes below 128; other texts go through the
-// table from the first byte on.
+// Whether s is UTF-8, and then whether only NULs follow a NUL. One walk tells both of bytes below 128; of other texts the bytes
+// before the NULs at the end are UTF-8 where s is, and hold no NUL where only NULs follow one.
 pub fn check_padded(s: &[u8]) -> Padded
     ensures { λ r. ⌜ r ≡ paddedOf (now (s .entry)) ⌝ }
 {
     if is_padded_ascii(s) {
         return Padded::Fine;
     }
-    by_table(&CLASS, &WORD, s)
+    let part = &s[..trimmed_len(s)];
+    tell(is_utf8(part), !has_nul(part))
+}
+
+// Whether a byte of s is a NUL. There is no branch in it.
+fn has_nul(s: &[u8]) -> bool
+    ensures { λ r. ⌜ r ≡ among 0 (now (s .entry)) ⌝ }
+{
+    let mut found = false;
+    for j in 0..s.len() {
+        found = found | (s[j] == 0);
+    }
+    found
 }
 
 // Whether every byte of s is below 128 and only NULs follow a NUL. Sixteen bytes are looked at together, each with the one
@@ -57,6 +66,72 @@ pub fn is_padded_ascii(s: &[u8]) -> bool
     good_pairs(s, last - 16, 16)
 }
 
+// Whether each of the texts of `width` bytes that s is made of is below 128 and has only NULs after a NUL. What is left over at
+// the end is not looked at.
+pub fn are_padded_ascii(s: &[u8], width: usize) -> bool
+    ensures { λ r. ⌜ r ≡ eachPadded width (length (now (s .entry)) / width) (now (s .entry)) ⌝ }
+{
+    if width == 0 {
+        return true;
+    }
+    if width < 17 {
+        return are_short(s, width);
+    }
+    are_long(s, width)
+}
+
+// The same, where a text has any bytes. Those after its first are looked at together.
+fn are_short(s: &[u8], width: usize) -> bool
+    requires { ⌜ 0 < width ⌝ }
+    ensures { λ r. ⌜ r ≡ eachPadded width (length (now (s .entry)) / width) (now (s .entry)) ⌝ }
+{
+    let mut p = 0;
+    while width <= s.len() - p {
+        if 128 <= s[p] {
+            return false;
+        }
+        if !good_pairs(s, p, width - 1) {
+            return false;
+        }
+        p += width;
+    }
+    true
+}
+
+// The same, of texts of more than sixteen bytes, each by sixteen at a time.
+fn are_long(s: &[u8], width: usize) -> bool
+    requires { ⌜ 16 < width ⌝ }
+    ensures { λ r. ⌜ r ≡ eachPadded width (length (now (s .entry)) / width) (now (s .entry)) ⌝ }
+{
+    let mut p = 0;
+    while width <= s.len() - p {
+        if !good_long(s, p, p + width - 17) {
+            return false;
+        }
+        p += width;
+    }
+    true
+}
+
+// Whether the byte at a is below 128, and each after it up to place e + 16 is and follows no NUL where it is none. Sixteen bytes
+// are looked at together, the last sixteen once more.
+fn good_long(s: &[u8], a: usize, e: usize) -> bool
+    requires { ⌜ (a ≤ e) × (e + 16 < length (now s)) ⌝ }
+    ensures { λ r. ⌜ r ≡ goodText (e + 16 - a) (drop a (now (s .entry))) ⌝ }
+{
+    if 128 <= s[a] {
+        return false;
+    }
+    let mut i = a;
+    while i < e {
+        if !good_pairs(s, i, 16) {
+            return false;
+        }
+        i += 16;
+    }
+    good_pairs(s, e, 16)
+}
+
 // Whether each of the n bytes after place a is below 128, and follows no NUL where it is none. There is no branch in it.
 fn good_pairs(s: &[u8], a: usize, n: usize) -> bool
     requires { ⌜ a + n < length (now s) ⌝ }
@@ -74,35 +149,6 @@ fn good_pair(before: u8, b: u8) -> bool
     ensures { λ r. ⌜ r ≡ goodPair before b ⌝ }
 {
     ((0 < before) | (b == 0)) & (b < 128)
-}
-
-// The verdict on s by the tables: the bytes before the first NUL one by one, those from it on together.
-fn by_table(classes: &[u8; 256], words: &[u64; 12], s: &[u8]) -> Padded
-    requires { ⌜ Rule (now classes) (now words) ⌝ }
-    ensures { λ r. ⌜ r ≡ paddedOf (now (s .entry)) ⌝ }
-{
-    let mut st: u64 = 0;
-    let mut i = 0;
-    while i < s.len() {
-        if s[i] == 0 {
-            let closed = are_nuls(s, i);
-            if closed & (st == 0) {
-                return Padded::Fine;
-            }
-            return tell(is_utf8(s), closed);
-        }
-        st = next(classes, words, st, s[i]);
-        i += 1;
-    }
-    tell(st == 0, true)
-}
-
-// Whether all bytes of s from a on are NULs.
-fn are_nuls(s: &[u8], a: usize) -> bool
-    requires { ⌜ a ≤ length (now s) ⌝ }
-    ensures { λ r. ⌜ r ≡ nuls (drop a (now (s .entry))) ⌝ }
-{
-    or_all(s, a, s.len() - a) == 0
 }
 
 // What is wrong with a text, by whether it is UTF-8 and whether only NULs follow a NUL.

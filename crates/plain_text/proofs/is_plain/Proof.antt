@@ -1,11 +1,11 @@
--- `is_plain` meets its contract: what is left tells the same, and the last eight bytes tell of what is left.
+-- `is_plain` meets its contract: what is left tells the same; the last eight bytes tell of what is left, if anything.
 -- Assumes nothing.
 use Prim.Native.Nat.{_-_}
 use mathlib.Core.Path.{refl, sym, _∙_}
 use native.Mathlib.Omega.{arith}
 use lib.ListN.{length}
 use borrow.Author.Tests.{not-true, not-false}
-use Rattle.text.specs.AllLaws.{Scan}
+use Rattle.text.specs.AllLaws.{Scan, scan-end}
 use Rattle.plain_text.specs.Plain.{plainByte}
 use Rattle.plain_text.proofs.Eights.{eight-miss, eight-next, last-eight}
 use borrow.Author.Needs.{needs}
@@ -28,7 +28,10 @@ loop-again : tie.Need-loop-again Inv-loop μ-loop
 loop-again c = eight-next (c .before .before .before .loop .inv) (sym (not-false (c .before .eight .result) (c .if2 .left)) ∙ c .before .eight .ensures) (search needs)
 
 returns-3 : tie.Need-returns-3 Inv-loop μ-loop
-returns-3 c = c .eight2 .ensures ∙ last-eight (c .before .before .loop .inv) (search needs) (search needs)
+returns-3 c = scan-end (c .before .before .loop .inv) (omega arith)
+
+returns-4 : tie.Need-returns-4 Inv-loop μ-loop
+returns-4 c = c .eight2 .ensures ∙ last-eight (c .before .before .before .loop .inv) (search needs) (search needs)
 
 pub is-plain-spec : {M : Type 1} → statement M
 is-plain-spec =
@@ -45,6 +48,7 @@ is-plain-spec =
     (λ c. search needs)
     (λ c. search needs)
     loop-again
+    returns-3
     (λ c. search needs)
     (λ c κs. search needs)
-    returns-3)
+    returns-4)
