@@ -1,6 +1,7 @@
 -- Bytes with the ones before, all at once, in parts and one after the other. Assumes nothing.
-use Prim.Native.Nat.{ℕ, zero, suc, _+_, _-_, _≤_, _<_}
-use native.Mathlib.Nat.{zero-add, suc-add, add-zero}
+use Prim.Native.Nat.{ℕ, zero, suc, _+_, _-_, _/_, _≤_, _<_}
+use native.Mathlib.Nat.{zero-add, suc-add, add-zero, sub-zero, div-eq-of-lt, div-eq-sub-div}
+use native.Mathlib.Numerals.{add-one}
 use native.Mathlib.Omega.{arith}
 use mathlib.Core.Path.{_≡_, refl, sym, ap, _∙_}
 use mathlib.Core.Bool.{Bool, true, false, _&&_}
@@ -9,13 +10,14 @@ use mathlib.Core.Option.{some}
 use lib.Bits.{bitOr}
 use lib.Dec.{ltb, eqb, eqb·suc-zero}
 use lib.ListN.{length, getD, take, drop, length-drop, drop-of-length-le}
-use lib.Seq.{drop-cons, drop-drop, getD-drop, take-all}
+use lib.Seq.{drop-cons, drop-drop, getD-drop, take-all, length-take-le}
 use borrow.Author.Tests.{lt-ltb, le-ltb, ne-eqb}
 use Rattle.text.specs.Utf8.{goes}
 use Rattle.text.specs.Ascii.{ascii}
 use Rattle.text.specs.AndLaws.{and-left, and-true, and-false, and-join}
-use Rattle.text.specs.Padded.{nuls, nulPadded}
-use Rattle.text.specs.Pairs.{goodPair, goodPairs}
+use Rattle.text.specs.Padded.{nuls, nulPadded, eachPadded}
+use Rattle.text.specs.EachPaddedLaws.{each-none, each-more}
+use Rattle.text.specs.Pairs.{goodPair, goodPairs, goodText}
 use Rattle.text.specs.Runs.{ored}
 use Rattle.text.proofs.Or.{or-left, or-right}
 
@@ -59,44 +61,105 @@ pub pairs-empty : (s : List ℕ) → length s ≡ 0 → true ≡ (ascii s && nul
 pairs-empty [] e = refl
 pairs-empty (b ∷ t) e = absurd (omega arith)
 
--- the first byte is above 127
-pub pairs-high : (s : List ℕ) → 0 < length s → 128 ≤ getD s 0 0 → false ≡ (ascii s && nulPadded s)
-pairs-high [] h e = absurd (omega arith)
-pairs-high (b ∷ t) h e = sym (pairs-all b t ∙ rw (le-ltb b 128 e))
+-- a text, whole
+pub pairs-whole : (s : List ℕ) → 0 < length s → goodText (length s - 1) s ≡ (ascii s && nulPadded s)
+pairs-whole [] h = absurd (omega arith)
+pairs-whole (b ∷ t) h = let e : suc (length t) - 1 ≡ length t = omega arith in rw e (sym (pairs-all b t))
 
--- or below 128
-module _ (s : List ℕ) (any : 0 < length s) (low : getD s 0 0 < 128) where
-  pub pairs-whole : goodPairs (length s - 1) s ≡ (ascii s && nulPadded s)
-  pairs-whole = go s any low
-    where
-      go : (s : List ℕ) → 0 < length s → getD s 0 0 < 128 → goodPairs (length s - 1) s ≡ (ascii s && nulPadded s)
-      go [] h l = absurd (omega arith)
-      go (b ∷ t) h l = let e : suc (length t) - 1 ≡ length t = omega arith in rw e (sym (pairs-all b t ∙ rw (lt-ltb b 128 l)))
+-- what follows the n bytes says nothing of them
+pairs-take : (n : ℕ) (s : List ℕ) → goodPairs n (take (suc n) s) ≡ goodPairs n s
+pairs-take zero s = refl
+pairs-take (suc n) [] = refl
+pairs-take (suc n) (b ∷ []) = refl
+pairs-take (suc n) (b ∷ c ∷ t) = ap (λ x. goodPair b c && x) (pairs-take n (c ∷ t))
 
-  -- ---- the walk: the first i are good
-  module _ (i : ℕ) (good : goodPairs i s ≡ true) where
-    -- and so are the next n
-    pub pairs-next : (n : ℕ) → true ≡ goodPairs n (drop i s) → goodPairs (i + n) s ≡ true
-    pairs-next n e = pairs-add i n s ∙ rw good (sym e)
+-- a text that is the first w bytes
+pub text-first : (s : List ℕ) (w : ℕ) → 0 < w → w ≤ length s → goodText (w - 1) s ≡ (ascii (take w s) && nulPadded (take w s))
+text-first s zero any fits = absurd (omega arith)
+text-first [] (suc n) any fits = absurd (omega arith)
+text-first (b ∷ t) (suc n) any fits =
+    let long : length (take (suc n) (b ∷ t)) ≡ suc n = length-take-le (suc n) (b ∷ t) fits in
+    let one : suc n - 1 ≡ n = omega arith in
+    let whole = pairs-whole (take (suc n) (b ∷ t)) (omega arith) in
+    rw one (ap (λ x. ltb b 128 && x) (sym (pairs-take n (b ∷ t))) ∙ rw (long, one) at whole)
 
-    -- or not
-    pub pairs-miss : (n : ℕ) → i + n < length s → false ≡ goodPairs n (drop i s) → false ≡ (ascii s && nulPadded s)
-    pairs-miss n fits e =
-        let place : i + n + (length s - 1 - (i + n)) ≡ length s - 1 = omega arith in
-        let bad : goodPairs (i + n) s ≡ false = pairs-add i n s ∙ rw good (sym e) in
-        let all : goodPairs (length s - 1) s ≡ false =
-        ap (λ k. goodPairs k s) (sym place) ∙ pairs-add (i + n) (length s - 1 - (i + n)) s ∙ ap (λ x. x && goodPairs (length s - 1 - (i + n)) (drop (i + n) s)) bad in
-        sym all ∙ pairs-whole
+-- ---- a text that starts at a
+module _ (s : List ℕ) (a n : ℕ) where
+  first : getD (drop a s) 0 0 ≡ getD s a 0
+  first = getD-drop a s 0 0 ∙ ap (λ p. getD s p 0) (add-zero a)
 
-    -- the last n tell the rest
-    pub pairs-last : (n : ℕ) → n < length s → length s - 1 ≤ i + n → goodPairs n (drop (length s - 1 - n) s) ≡ (ascii s && nulPadded s)
-    pairs-last n fits near =
-        let a = length s - 1 - n in
-        let place : a + n ≡ length s - 1 = omega arith in
-        let split : a + (i - a) ≡ i = omega arith in
-        let first : goodPairs a s ≡ true = and-left (goodPairs a s) (goodPairs (i - a) (drop a s)) (sym (pairs-add a (i - a) s) ∙ ap (λ k. goodPairs k s) split ∙ good) in
-        let all : goodPairs (length s - 1) s ≡ goodPairs n (drop a s) = ap (λ k. goodPairs k s) (sym place) ∙ pairs-add a n s ∙ ap (λ x. x && goodPairs n (drop a s)) first in
-        sym all ∙ pairs-whole
+  -- its first byte is above 127
+  pub text-high : 128 ≤ getD s a 0 → false ≡ goodText n (drop a s)
+  text-high h = rw (first, le-ltb (getD s a 0) 128 h)
+
+  -- or below 128
+  pub text-low : getD s a 0 < 128 → goodPairs n (drop a s) ≡ goodText n (drop a s)
+  text-low h = rw (first, lt-ltb (getD s a 0) 128 h)
+
+-- ---- the walk: the bytes after a, up to i, are good
+pub record Walked (s : List ℕ) (a i : ℕ) : Type 0 where
+  pub on : a ≤ i
+  pub good : goodPairs (i - a) (drop a s) ≡ true
+
+pub walked-none : (s : List ℕ) (a : ℕ) → Walked s a a
+walked-none s a = record { on = omega arith; good = let none : a - a ≡ 0 = omega arith in rw none }
+
+-- n more tell all of the m
+walked-rest : {s : List ℕ} {a i : ℕ} → Walked s a i → (n m : ℕ) → i + n ≡ a + m → goodPairs n (drop i s) ≡ goodPairs m (drop a s)
+walked-rest {s} {a} {i} v n m e =
+    let place : a + (i - a) ≡ i = omega (arith, v .on) in
+    let count : m ≡ i - a + n = omega (arith, v .on) in
+    sym (ap (λ j. goodPairs j (drop a s)) count ∙ pairs-add (i - a) n (drop a s) ∙ rw (v .good, drop-drop (i - a) a s, place))
+
+module _ {s : List ℕ} {a i : ℕ} (v : Walked s a i) where
+  -- the next n are good
+  pub walked-next : (n : ℕ) → true ≡ goodPairs n (drop i s) → Walked s a (i + n)
+  walked-next n e = record { on = omega (arith, v .on); good = sym (e ∙ walked-rest v n (i + n - a) (omega (arith, v .on))) }
+
+  -- or not
+  pub walked-miss : (n m : ℕ) → i + n ≤ a + m → false ≡ goodPairs n (drop i s) → false ≡ goodPairs m (drop a s)
+  walked-miss n m fits e =
+      let k = i + n - a in
+      let count : k + (m - k) ≡ m = omega (arith, v .on) in
+      let bad : goodPairs k (drop a s) ≡ false = sym (e ∙ walked-rest v n k (omega (arith, v .on))) in
+      sym (ap (λ j. goodPairs j (drop a s)) (sym count) ∙ pairs-add k (m - k) (drop a s) ∙ ap (λ x. x && goodPairs (m - k) (drop k (drop a s))) bad)
+
+  -- the last n of the m, from e on, tell the rest
+  pub walked-last : (n m e : ℕ) → a ≤ e → e ≤ i → e + n ≡ a + m → goodPairs n (drop e s) ≡ goodPairs m (drop a s)
+  walked-last n m e low near last =
+      let count : e - a + (i - e) ≡ i - a = omega arith in
+      let split = pairs-add (e - a) (i - e) (drop a s) in
+      let before = and-left (goodPairs (e - a) (drop a s)) (goodPairs (i - e) (drop (e - a) (drop a s))) (sym split ∙ ap (λ j. goodPairs j (drop a s)) count ∙ v .good) in
+      walked-rest (record { on = low; good = before }) n m last
+
+-- ---- texts of w bytes, one after the other: those before p are good
+pub record Texts (w : ℕ) (s : List ℕ) (p : ℕ) : Type 0 where
+  pub bound : p ≤ length s
+  pub same : eachPadded w (length s / w) s ≡ eachPadded w ((length s - p) / w) (drop p s)
+
+pub texts-none : (w : ℕ) (s : List ℕ) → Texts w s 0
+texts-none w s = record { bound = omega arith; same = rw (sub-zero (length s)) }
+
+module _ {w : ℕ} {s : List ℕ} {p : ℕ} (v : Texts w s p) where
+  pub texts-end : length s - p < w → true ≡ eachPadded w (length s / w) s
+  texts-end h = sym (v .same ∙ rw (div-eq-of-lt h) (each-none w (drop p s)))
+
+  module _ (any : 0 < w) (fits : w ≤ length s - p) where
+    one : eachPadded w (length s / w) s ≡ (goodText (w - 1) (drop p s) && eachPadded w ((length s - (p + w)) / w) (drop (p + w) s))
+    one =
+        let left : length s - p - w ≡ length s - (p + w) = omega arith in
+        let count : (length s - p) / w ≡ suc ((length s - (p + w)) / w) = div-eq-sub-div any fits ∙ rw left (add-one ((length s - (p + w)) / w)) in
+        let text = text-first (drop p s) w any (rw (length-drop p s) fits) in
+        v .same
+        ∙ ap (λ n. eachPadded w n (drop p s)) count
+        ∙ each-more w ((length s - (p + w)) / w) (drop p s)
+        ∙ rw (sym text, drop-drop w p s)
+
+    pub texts-miss : false ≡ goodText (w - 1) (drop p s) → false ≡ eachPadded w (length s / w) s
+    texts-miss e = sym (one ∙ rw (sym e))
+
+    pub texts-next : true ≡ goodText (w - 1) (drop p s) → Texts w s (p + w)
+    texts-next e = record { bound = omega (arith, v .bound); same = one ∙ rw (sym e) }
 
 -- ---- one byte after the other
 

@@ -13,6 +13,7 @@ pub mod Single
 pub mod Runs
 pub mod States
 pub mod Padded
+pub mod EachPaddedLaws
 pub mod Pairs
 pub mod PaddedAnswer
 pub mod PaddedAnswerLaws

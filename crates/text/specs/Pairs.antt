@@ -13,3 +13,7 @@ goodPair before b = (ltb 0 before || eqb b 0) && ltb b 128
 abbrev pub goodPairs : ℕ → List ℕ → Bool
 goodPairs zero s = true
 goodPairs (suc n) s = goodPair (getD s 0 0) (getD s 1 0) && goodPairs n (drop 1 s)
+
+-- a first byte below 128, and each of the n bytes after it
+abbrev pub goodText : ℕ → List ℕ → Bool
+goodText n s = ltb (getD s 0 0) 128 && goodPairs n s

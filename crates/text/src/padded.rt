@@ -6,11 +6,11 @@ use crate::utf8::next;
 use crate::utf8::or_all;
 ghost use mathlib.Core.Path.{_≡_};
 ghost use mathlib.Core.Bool.{_&&_};
-ghost use Prim.Native.Nat.{_+_, _<_, _≤_};
+ghost use Prim.Native.Nat.{_+_, _-_, _/_, _<_, _≤_};
 ghost use lib.ListN.{length, drop};
 ghost use Rattle.text.specs.Ascii.{ascii};
-ghost use Rattle.text.specs.Padded.{nuls, nulPadded};
-ghost use Rattle.text.specs.Pairs.{goodPair, goodPairs};
+ghost use Rattle.text.specs.Padded.{nuls, nulPadded, eachPadded};
+ghost use Rattle.text.specs.Pairs.{goodPair, goodPairs, goodText};
 ghost use Rattle.text.specs.PaddedAnswer.{told, paddedOf};
 ghost use Rattle.text.specs.States.{Rule};
 
@@ -55,6 +55,72 @@ pub fn is_padded_ascii(s: &[u8]) -> bool
         i += 16;
     }
     good_pairs(s, last - 16, 16)
+}
+
+// Whether each of the texts of `width` bytes that s is made of is below 128 and has only NULs after a NUL. What is left over at
+// the end is not looked at.
+pub fn are_padded_ascii(s: &[u8], width: usize) -> bool
+    ensures { λ r. ⌜ r ≡ eachPadded width (length (now (s .entry)) / width) (now (s .entry)) ⌝ }
+{
+    if width == 0 {
+        return true;
+    }
+    if width < 17 {
+        return are_short(s, width);
+    }
+    are_long(s, width)
+}
+
+// The same, where a text has any bytes. Those after its first are looked at together.
+fn are_short(s: &[u8], width: usize) -> bool
+    requires { ⌜ 0 < width ⌝ }
+    ensures { λ r. ⌜ r ≡ eachPadded width (length (now (s .entry)) / width) (now (s .entry)) ⌝ }
+{
+    let mut p = 0;
+    while width <= s.len() - p {
+        if 128 <= s[p] {
+            return false;
+        }
+        if !good_pairs(s, p, width - 1) {
+            return false;
+        }
+        p += width;
+    }
+    true
+}
+
+// The same, of texts of more than sixteen bytes, each by sixteen at a time.
+fn are_long(s: &[u8], width: usize) -> bool
+    requires { ⌜ 16 < width ⌝ }
+    ensures { λ r. ⌜ r ≡ eachPadded width (length (now (s .entry)) / width) (now (s .entry)) ⌝ }
+{
+    let mut p = 0;
+    while width <= s.len() - p {
+        if !good_long(s, p, p + width - 17) {
+            return false;
+        }
+        p += width;
+    }
+    true
+}
+
+// Whether the byte at a is below 128, and each after it up to place e + 16 is and follows no NUL where it is none. Sixteen bytes
+// are looked at together, the last sixteen once more.
+fn good_long(s: &[u8], a: usize, e: usize) -> bool
+    requires { ⌜ (a ≤ e) × (e + 16 < length (now s)) ⌝ }
+    ensures { λ r. ⌜ r ≡ goodText (e + 16 - a) (drop a (now (s .entry))) ⌝ }
+{
+    if 128 <= s[a] {
+        return false;
+    }
+    let mut i = a;
+    while i < e {
+        if !good_pairs(s, i, 16) {
+            return false;
+        }
+        i += 16;
+    }
+    good_pairs(s, e, 16)
 }
 
 // Whether each of the n bytes after place a is below 128, and follows no NUL where it is none. There is no branch in it.
