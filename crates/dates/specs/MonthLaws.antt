@@ -13,7 +13,7 @@ use Rattle.dates.specs.Date.{isLeap, daysIn, isDay, isDate}
 use Rattle.dates.specs.Day.{daysBefore, daysTo, dayNumber, dayOf, dayOn}
 use Rattle.dates.specs.declared.Calendar.the-variants.{Has, Lacks}
 use Rattle.dates.specs.DayLaws.{month-most, month-below, year-most}
-use Rattle.dates.specs.Months.{daysOf, monthWord, kept, entryAt, wordIn, monthsAfter, isDateIn, dayIn, Right}
+use Rattle.dates.specs.Months.{daysOf, monthWord, kept, entryAt, wordIn, monthsAfter, monthsTested, isDateIn, dayIn, Right}
 
 -- ---- a month in one number
 
@@ -90,6 +90,11 @@ none = refl
 pub right-none : (n : ℕ) → Right (replicate n 0)
 right-none n = record { entry = λ i. rw (zero-at n i) none }
 
+-- a test of a date of a month that is kept
+pub tested-known : (ws : List ℕ) (q : ℕ) → eqb (entryAt ws q / 8589934592) q ≡ true → monthsTested ws q ≡ ws
+unfolding monthsTested monthsAfter
+tested-known ws q is = by-bool (eqb (entryAt ws q) 0) (λ e. rw (e, is)) (λ e. rw e)
+
 module _ (ws : List ℕ) (h : Right ws) where
   pub word-right : (q : ℕ) → wordIn ws q ≡ monthWord q
   unfolding wordIn
@@ -118,3 +123,8 @@ module _ (ws : List ℕ) (h : Right ws) where
           (λ le. rw (set-out ws (q % 64) (kept q) le) (h .entry i))
           (λ lt. rw (f, getD-set-same ws (q % 64) (kept q) 0 lt) is))
           (λ e f. rw (getD-set-other ws (q % 64) i (kept q) 0 f) (h .entry i))
+
+  -- so does a test
+  pub right-tested : (q : ℕ) → q ≤ 42949672 → Right (monthsTested ws q)
+  unfolding monthsTested
+  right-tested q small = by-bool (eqb (entryAt ws q) 0) (λ e. rw e (right-after q small)) (λ e. rw e h)

@@ -33,6 +33,10 @@ wordIn ws q = cond (eqb (entryAt ws q / 8589934592) q) (entryAt ws q % 858993459
 unfoldable pub monthsAfter : List ℕ → ℕ → List ℕ
 monthsAfter ws q = cond (eqb (entryAt ws q / 8589934592) q) ws (set ws (q % 64) (kept q))
 
+-- the months after a test of a date of month q: a look, but only where its place is empty
+unfoldable pub monthsTested : List ℕ → ℕ → List ℕ
+monthsTested ws q = cond (eqb (entryAt ws q) 0) (monthsAfter ws q) ws
+
 -- whether a number is a date, and the number of its day, by what is known of its month
 unfoldable pub isDateIn : List ℕ → ℕ → Bool
 isDateIn ws n = cond (leb 1 (n % 100)) (leb (n % 100) (wordIn ws (n / 100) / 268435456)) false

@@ -5,7 +5,7 @@ use mathlib.Core.Bool.{Bool}
 use mathlib.Core.List.{List}
 use Prim.Native.Nat.{ℕ, _/_}
 use Rattle.dates.specs.Day.{dayOn, dateOn}
-use Rattle.dates.specs.Months.{isDateIn, dayIn, monthsAfter}
+use Rattle.dates.specs.Months.{isDateIn, dayIn, monthsAfter, monthsTested}
 use Rattle.dates.specs.declared.Calendar.{Calendar}
 
 one : {A : Type 0} {x y z : A} → x ≡ z → y ≡ z → x ≡ y
@@ -22,7 +22,7 @@ both-one : {A : Type 0} {x y z : A} {u v w : List ℕ} → (x ≡ z) × (u ≡ w
 both-one f g = (one (f .0) (g .0), one (f .1) (g .1))
 
 pub is-date-in-one : (ws : List ℕ) (n : ℕ) {a b : Bool} {u v : List ℕ}
-    → (a ≡ isDateIn ws n) × (u ≡ monthsAfter ws (n / 100)) → (b ≡ isDateIn ws n) × (v ≡ monthsAfter ws (n / 100)) → (a ≡ b) × (u ≡ v)
+    → (a ≡ isDateIn ws n) × (u ≡ monthsTested ws (n / 100)) → (b ≡ isDateIn ws n) × (v ≡ monthsTested ws (n / 100)) → (a ≡ b) × (u ≡ v)
 is-date-in-one ws n f g = both-one f g
 
 pub day-number-in-one : (ws : List ℕ) (n : ℕ) {a b : ℕ} {u v : List ℕ}

@@ -4,7 +4,7 @@ ghost use Prim.Native.Nat.{_/_, _≤_, _<_};
 ghost use Rattle.dates.specs.Date.{isLeap, daysIn};
 ghost use Rattle.dates.specs.Day.{daysBefore, daysOfYear, dayOn, dateOn, yearOf, monthOf, inYear};
 ghost use Rattle.dates.specs.DayLaws.{In, leapDay};
-ghost use Rattle.dates.specs.Months.{daysOf, monthWord, wordIn, monthsAfter, isDateIn, dayIn};
+ghost use Rattle.dates.specs.Months.{daysOf, monthWord, wordIn, monthsAfter, monthsTested, isDateIn, dayIn};
 
 // What a month's own days count in the number for a month, and what the month counts in that number where it is kept: 2^28 and 2^33.
 const DAYS: u64 = 268435456;
@@ -45,14 +45,14 @@ pub fn date_of_day(day: u32) -> Calendar
 
 // Whether n is a date, by the months that are kept: zeros at first, and then what these functions made of them.
 pub fn is_date_in(months: &mut [u64; 64], n: u32) -> bool
-    ensures { λ r. ⌜ (r ≡ isDateIn (now (months .entry)) n) × (now (months .exit) ≡ monthsAfter (now (months .entry)) (n / 100)) ⌝ }
+    ensures { λ r. ⌜ (r ≡ isDateIn (now (months .entry)) n) × (now (months .exit) ≡ monthsTested (now (months .entry)) (n / 100)) ⌝ }
 {
-    let word = word_in(months, n / 100);
+    let days = days_known(months, n / 100);
     let d = n % 100;
     if d < 1 {
         return false;
     }
-    d as u64 <= word / DAYS
+    d <= days
 }
 
 // The number of the day of the date n, by the months that are kept. Of any other number, the days of the years and months before it, and
@@ -67,6 +67,22 @@ pub fn day_number_in(months: &mut [u64; 64], n: u32) -> u32
         return first;
     }
     first + d - 1
+}
+
+// The days of a month, written year x 100 + month, by the months that are kept; the month is kept after that where its place was empty.
+// Where another month stands there the days before this one are not counted.
+fn days_known(months: &mut [u64; 64], month: u32) -> u32
+    requires { ⌜ month ≤ 42949672 ⌝ }
+    ensures { λ r. ⌜ (r ≡ wordIn (now (months .entry)) month / 268435456) × (now (months .exit) ≡ monthsTested (now (months .entry)) month) ⌝ }
+{
+    let known = months[(month % 64) as usize];
+    if known / MONTH == month as u64 {
+        return (known % MONTH / DAYS) as u32;
+    }
+    if known == 0 {
+        return (word_in(months, month) / DAYS) as u32;
+    }
+    days_of(month / 100, month % 100)
 }
 
 // What is known of a month, written year x 100 + month, by the months that are kept, where it is kept after that.

@@ -12,5 +12,6 @@ pub mod Demand2
 pub mod StartThenFrames
 pub mod WriterAccepts
 pub mod InColumns
+pub mod OwnerLaws
 pub mod Owners
 pub mod Witnesses

@@ -5,11 +5,11 @@ use mathlib.Core.List.{List}
 use lib.ListN.{length}
 use Rattle.codec.specs.Codec.{ok}
 use Rattle.table.specs.Columns.{cell}
-use Rattle.symbology.specs.OwnerLaws.{Whose, rows-owned, whose-same}
 use Rattle.block.specs.Block.{Block, blockOf}
 use Rattle.block.specs.Read.{sixes, nines, Promise}
 use Rattle.block.specs.declared.BlockAnswer.{BlockAnswer}
 use Rattle.demands.specs.InColumns.{in-columns}
+use Rattle.demands.specs.OwnerLaws.{Whose, rows-owned, whose-same}
 
 -- of every row of an accepted block of any version, in a table that holds its rows: a mapping's intervals are the rows after it, as many as
 -- its x counts; an interval's owner is such a mapping before it; every other row is its own
