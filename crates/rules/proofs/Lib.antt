@@ -1,4 +1,5 @@
 pub mod Search
+pub mod InOrder
 pub mod Loops
 pub mod Walks
 pub mod Turns

@@ -17,7 +17,7 @@ by-leb {ℓ} : {P : Type ℓ} (a b : ℕ) → (leb a b ≡ true → a ≤ b → 
 by-leb a b f g = by-bool (leb a b) (λ e. f e (leb-true a b e)) (λ e. g e (leb-false a b e))
 
 -- no span starts below k
-abbrev From : ℕ → List Span → Type 0
+abbrev pub From : ℕ → List Span → Type 0
 From k [] = Unit {0}
 From k (s ∷ ss) = (k ≤ s .0) × From k ss
 
@@ -25,7 +25,7 @@ abbrev Ordered : List Span → Type 0
 Ordered [] = Unit {0}
 Ordered (s ∷ ss) = From (s .0) ss × Ordered ss
 
-from-down : (j k : ℕ) (t : List Span) → j ≤ k → From k t → From j t
+pub from-down : (j k : ℕ) (t : List Span) → j ≤ k → From k t → From j t
 from-down j k [] h f = tt
 from-down j k (s ∷ t) h f = (le-trans h (f .0), from-down j k t h (f .1))
 

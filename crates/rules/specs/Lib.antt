@@ -7,6 +7,7 @@ pub mod RowLaws
 pub mod Entries
 pub mod EntryLaws
 pub mod Search
+pub mod InOrder
 pub mod Ids
 pub mod Items
 pub mod LayoutRules

@@ -29,6 +29,22 @@ pub struct Source {
     pub count: usize,
 }
 
+// How far a walk over the entries has come: whether each of either side began where the one before it on that side ends; and where the
+// next of the base and the next past the base are to begin.
+pub struct Course {
+    pub in_order: bool,
+    pub cursor: usize,
+    pub beyond: usize,
+}
+
+// What one walk over the entries tells: the first of numbers 71 to 80, or 0; whether each entry of either side begins where the one
+// before it on that side ends; and where the last of the base ends.
+pub struct Walked {
+    pub fault: u32,
+    pub in_order: bool,
+    pub end: usize,
+}
+
 // What a search finds: the end of an entry, or 0, and the entries after it.
 pub struct Hit {
     pub end: usize,

@@ -1,23 +1,27 @@
 // One record or struct: its alignment, and numbers 71 to 83.
+use crate::Course;
 use crate::GAVE_UP;
 use crate::How;
 use crate::Item;
 use crate::Source;
+use crate::Walked;
 use crate::by_marks;
 use crate::by_search;
 use crate::entries;
 use crate::walk;
 use fields::Frame;
 ghost use mathlib.Core.Path.{_≡_};
-ghost use mathlib.Core.Bool.{true, false};
+ghost use mathlib.Core.Bool.{true, false, cond};
 ghost use mathlib.Core.List.{[]};
 ghost use Prim.Native.Nat.{_<_, _≤_, max};
+ghost use lib.Dec.{eqb};
 ghost use Rattle.marks.specs.Marks.{Marks, Only};
 ghost use Rattle.rules.specs.Rules.{structAlign, fieldsFault, tilingFault, seqFault, judged};
 ghost use Rattle.rules.specs.Engines.{Passed};
 ghost use Rattle.plain_tiling.specs.Places.{Unowned};
 ghost use Rattle.rules.specs.Tried.{Tried};
 ghost use Rattle.rules.specs.Entries.{entriesOf, InSlice};
+ghost use Rattle.rules.specs.InOrder.{InTurn, Onward};
 ghost use Rattle.rules.specs.Ids.{idsOf, notedMarks, OnlyIds, Clean};
 
 fn larger(a: u16, b: u16) -> u16
@@ -53,7 +57,38 @@ fn note(sheet: &[u16; 520], marks: &mut [u64; 1024], e: [u8; 11])
     marks::mark(marks, c.id);
 }
 
-// The first of rules 71 to 80 that an entry breaks, in order, or 0. The ids are marked, and no others.
+// The course after one more entry: in order where it was and the entry begins where it is to begin.
+fn onward(frame: Frame, so: Course, e: [u8; 11]) -> Course
+    ensures { λ r. ⌜ Onward (frame .«is_record») (frame .base) e so r ⌝ }
+{
+    let x = fields::extent_of(frame, false, e);
+    if x.other {
+        return Course {
+            in_order: so.in_order & (x.off == so.beyond),
+            cursor: so.cursor,
+            beyond: x.end,
+        };
+    }
+    Course {
+        in_order: so.in_order & (x.off == so.cursor),
+        cursor: x.end,
+        beyond: so.beyond,
+    }
+}
+
+// What a walk tells.
+fn walked(fault: u32, in_order: bool, end: usize) -> Walked
+    ensures { λ r. ⌜ (r .fault ≡ fault) × ((r .«in_order» ≡ «in_order») × (r .end ≡ end)) ⌝ }
+{
+    Walked {
+        fault,
+        in_order,
+        end,
+    }
+}
+
+// The first of rules 71 to 80 that an entry breaks, in order, or 0; whether the entries of either side stand in order, and where the last
+// of the base then ends. The ids are marked, and no others.
 fn fields_fault(
     sheet: &[u16; 520],
     aligns: &[u16],
@@ -62,25 +97,32 @@ fn fields_fault(
     src: Source,
     frame: Frame,
     marks: &mut [u64; 1024],
-) -> u32
+) -> Walked
     requires { ⌜ InSlice (now layout) (now rows) src ⌝ }
     requires { ⌜ Marks (now marks) [] ⌝ }
-    ensures { λ r. ⌜ r ≡ fieldsFault (now (sheet .entry)) (frame .width) (frame .labels) (now (aligns .entry)) (frame .«is_record») (frame .base) [] (entriesOf (now (layout .entry)) (now (rows .entry)) src) ⌝ }
-    ensures { λ r. ⌜ OnlyIds r (entriesOf (now (layout .entry)) (now (rows .entry)) src) (now (marks .exit)) ⌝ }
+    ensures { λ r. ⌜ r .fault ≡ fieldsFault (now (sheet .entry)) (frame .width) (frame .labels) (now (aligns .entry)) (frame .«is_record») (frame .base) [] (entriesOf (now (layout .entry)) (now (rows .entry)) src) ⌝ }
+    ensures { λ r. ⌜ OnlyIds (r .fault) (entriesOf (now (layout .entry)) (now (rows .entry)) src) (now (marks .exit)) ⌝ }
+    ensures { λ r. ⌜ (r .«in_order» ≡ true → InTurn (frame .«is_record») (frame .base) 0 (frame .base) (entriesOf (now (layout .entry)) (now (rows .entry)) src) (r .end)) ⌝ }
 {
     let mut left = src;
+    let mut so = Course {
+        in_order: true,
+        cursor: 0,
+        beyond: frame.base,
+    };
     while 0 < left.count {
         let e = entries::entry_at(layout, rows, left);
         let c = fields::class_of(sheet, e);
         let seen = marks::is_marked(marks, c.id);
         let v = fields::check_field(sheet, aligns, frame, seen, e);
         if v != 0 {
-            return v;
+            return walked(v, false, 0);
         }
         note(sheet, marks, e);
+        so = onward(frame, so, e);
         left = entries::rest(left);
     }
-    0
+    walked(0, so.in_order, so.cursor)
 }
 
 // Clears the marks of the entries' ids.
@@ -109,23 +151,39 @@ fn looks(count: usize, base: usize, lent: usize) -> usize {
     2 * entries + places + 1024
 }
 
-// The first of numbers 81 to 83 that entries give which passed 71 to 80, or 0: by search, unless `by_marks` holds; by marks where
-// no search is made or it gives up; or there are too few owners for the marks. The owners come back as they were lent.
+// 82, or 0, where the entries of the base stand in order and the last ends at `end`.
+fn unfilled(end: usize, base: usize) -> u32
+    ensures { λ r. ⌜ r ≡ cond (eqb end base) 0 82 ⌝ }
+{
+    if end == base {
+        return 0;
+    }
+    refusal::BASE_UNFILLED
+}
+
+// The first of numbers 81 to 83 that entries give which passed 71 to 80, or 0: unless `by_marks` holds, from the walk where they stand in
+// order, else by search; by marks where no search is made or it gives up; or there are too few owners for the marks. The owners come
+// back as they were lent.
 fn tiling(
     layout: &[u8],
     rows: &[u32],
     src: Source,
     frame: Frame,
+    walked: Walked,
     by_marks: bool,
     owners: &mut [u16],
 ) -> u32
     requires { ⌜ InSlice (now layout) (now rows) src ⌝ }
     requires { ⌜ Passed (frame .«is_record») (frame .base) (entriesOf (now layout) (now rows) src) ⌝ }
+    requires { ⌜ (walked .«in_order» ≡ true → InTurn (frame .«is_record») (frame .base) 0 (frame .base) (entriesOf (now layout) (now rows) src) (walked .end)) ⌝ }
     requires { ⌜ Unowned (now owners) ⌝ }
     ensures { λ r. ⌜ Tried (now (owners .entry)) (tilingFault (frame .«is_record») (frame .base) (entriesOf (now (layout .entry)) (now (rows .entry)) src)) r ⌝ }
     ensures { λ _. ⌜ now (owners .exit) ≡ now (owners .entry) ⌝ }
 {
     if !by_marks {
+        if walked.in_order {
+            return unfilled(walked.end, frame.base);
+        }
         let spare = looks(src.count, frame.base, owners.len());
         let v = by_search::tiling_by_search(layout, rows, src, frame, spare);
         if v != GAVE_UP {
@@ -167,9 +225,9 @@ pub(crate) fn seq_fault(
         labels: how.labels,
     };
     let a = fields_fault(sheet, aligns, layout, rows, src, frame, marks);
-    if a != 0 {
-        return a;
+    if a.fault != 0 {
+        return a.fault;
     }
     wipe_ids(sheet, layout, rows, src, marks);
-    tiling(layout, rows, src, frame, how.by_marks, owners)
+    tiling(layout, rows, src, frame, a, how.by_marks, owners)
 }

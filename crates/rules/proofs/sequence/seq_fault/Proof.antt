@@ -10,21 +10,22 @@ use Rattle.rules.proofs.sequence.seq_fault.Statement.{statement}
 use Rattle.rules.proofs.sequence.seq_fault.Tie as tie
 
 returns : tie.Need-returns
-returns c = (answered (seq-fields _ _ _ _ _ _ _ _ _ (c .before .fields-fault .ensures .0) (c .if1 .taken)), (λ z. absurd (c .if1 .taken z), refl))
+returns c = (answered (seq-fields _ _ _ _ _ _ _ _ _ (c .before .before .fields-fault .ensures .0) (c .if1 .taken)), (λ z. absurd (c .if1 .taken z), refl))
 
 wipe-ids-requires : tie.Need-wipe-ids-requires
-wipe-ids-requires c κs = (c .before .before .before .before .before .before .before .before .before .pre .0, (c .before .before .fields-fault .ensures .1) (c .before .if1 .left))
+wipe-ids-requires c κs = (c .before .before .before .before .before .before .before .before .before .before .pre .0, (c .before .before .before .fields-fault .ensures .1 .0) (c .before .if1 .left))
 
 tiling-requires : tie.Need-tiling-requires
 tiling-requires c κs =
-    let pre = c .before .before .before .before .before .before .before .before .before .before .before .pre in
-    (pre .0, (passed _ _ _ _ _ _ _ _ (pre .1 .1 .0) (sym (c .before .before .before .before .fields-fault .ensures .0) ∙ (c .before .before .before .if1 .left)), (pre .1 .1 .1)))
+    let pre = c .before .before .before .before .before .before .before .before .before .before .before .before .pre in
+    let walked = c .before .before .before .before .before .fields-fault .ensures in
+    (pre .0, (passed _ _ _ _ _ _ _ _ (pre .1 .1 .0) (sym (walked .0) ∙ (c .before .before .before .if1 .left)), (walked .1 .1, (pre .1 .1 .1))))
 
 same-length : tie.Need-same-length
 same-length c = ap length (c .before .before .tiling .ensures .1)
 
 returns-2 : tie.Need-returns-2
-returns-2 c = (tried-as (λ e. seq-tiling _ _ _ _ _ _ _ _ _ (c .before .before .before .before .before .before .before .fields-fault .ensures .0) (c .before .before .before .before .before .before .if1 .left) e) (c .before .before .tiling .ensures .0), (λ _. (c .before .before .before .before .wipe-ids .ensures), (c .before .before .tiling .ensures .1)))
+returns-2 c = (tried-as (λ e. seq-tiling _ _ _ _ _ _ _ _ _ (c .before .before .before .before .before .before .before .before .fields-fault .ensures .0) (c .before .before .before .before .before .before .if1 .left) e) (c .before .before .tiling .ensures .0), (λ _. (c .before .before .before .before .wipe-ids .ensures), (c .before .before .tiling .ensures .1)))
 
 pub seq-fault-spec : {M : Type 1} → statement M
 seq-fault-spec =
