@@ -1,18 +1,20 @@
 -- Rows as the code walks over them: the numbers of one, counts of kinds, sections. Assumes nothing.
-use Prim.Native.Nat.{ℕ, suc, _+_, _-_, _*_, _≤_, _<_}
+use Prim.Native.Nat.{ℕ, zero, suc, _+_, _-_, _*_, _≤_, _<_}
+use native.Mathlib.Decide.{decLt}
 use native.Mathlib.Omega.{arith}
 use mathlib.Core.Path.{_≡_, refl, sym, ap, _∙_}
 use mathlib.Core.Bool.{Bool, true, false, _&&_, cond}
 use mathlib.Core.List.{List}
 use lib.ListN.{length}
 use lib.Dec.{eqb}
+use borrow.Author.Tests.{ne-eqb}
 use Rattle.text.specs.AndLaws.{and-true}
 use Rattle.plain_text.specs.Plain.{plain}
 use Rattle.plain_text.specs.PlainLaws.{plain-utf8}
 use Rattle.wire.specs.NameLaws.{plain-nul}
-use Rattle.rows_check.specs.Tree.{cell, rowCount, nextSection, countKind}
-use Rattle.rows_check.specs.Check.{both, every, clean, sectionInPlace, walk}
-use Rattle.rows_check.specs.CheckLaws.{every-none, every-next, in-place}
+use Rattle.rows_check.specs.Tree.{cell, rowCount, namesFrom, nextSection, skip, countKind, kinds, structsFrom, labelsFrom}
+use Rattle.rows_check.specs.Check.{both, every, clean, nameKind, sectionInPlace, walk, risesAt}
+use Rattle.rows_check.specs.CheckLaws.{every-none, every-next, every-all, Places, Formed, next-more, in-place}
 
 -- ---- a plain name
 
@@ -65,3 +67,45 @@ module _ (kind : ℕ) (rows text : List ℕ) (q n : ℕ) where
 
 pub own-row-in-place : (kind : ℕ) (rows text : List ℕ) (q : ℕ) → sectionInPlace kind rows text q ≡ true → 9 * (q + 1) ≤ length rows
 own-row-in-place kind rows text q e = let h = in-place rows text kind q e .first in omega arith
+
+-- ---- the kinds of the rows of sections
+
+-- sections in place have no row of a kind that is none of theirs
+pub kinds-in-places : (kind : ℕ) (rows : List ℕ) (k : ℕ) → (kind ≡ k → ⊥) → (11 ≡ k → ⊥) → (nameKind kind ≡ k → ⊥) → (n q : ℕ) → Places kind rows q n → (j : ℕ) → q ≤ j → j < skip kind rows q n → cell rows j 0 ≡ k → ⊥
+unfolding Places skip
+kinds-in-places kind rows k a b d zero q p j g h e = absurd (omega arith)
+kinds-in-places kind rows k a b d (suc n) q p j g h e =
+    let own = p .0 in
+    elim (decLt j (nextSection kind rows q)) [
+      | no l ↦ kinds-in-places kind rows k a b d n (nextSection kind rows q) (p .1) j (omega arith) h e
+      | yes l ↦
+          elim (decLt j (namesFrom kind rows q)) [
+            | no m ↦ d (sym (own .names j (omega arith) l) ∙ e)
+            | yes m ↦
+                elim (decLt q j) [
+                  | yes o ↦ b (sym (own .fields j (omega arith) m) ∙ e)
+                  | no o ↦ let z : q ≡ j = omega arith in a (sym (own .head) ∙ ap (λ (i : ℕ). cell rows i 0) z ∙ e)
+                ]
+          ]
+    ]
+
+-- no row before the first label def is a label, so none breaks the order of labels
+pub rises-before : (rows text : List ℕ) → Formed rows text → every (risesAt rows) 0 (labelsFrom rows) ≡ true
+unfolding risesAt nameKind
+rises-before rows text w = every-all (risesAt rows) 0 (labelsFrom rows) (λ j a b. rw (ne-eqb (cell rows j 0) 15 (no-label j b)))
+  where
+    no-label : (j : ℕ) → j < 0 + labelsFrom rows → cell rows j 0 ≡ 15 → ⊥
+    no-label j h =
+        elim (decLt j (structsFrom rows)) [
+          | yes l ↦ kinds-in-places 10 rows 15 (λ e. omega arith) (λ e. omega arith) (λ e. omega arith) (kinds rows 10) 0 (w .records) j (omega arith) l
+          | no g ↦ kinds-in-places 13 rows 15 (λ e. omega arith) (λ e. omega arith) (λ e. omega arith) (kinds rows 13) (structsFrom rows) (w .structs) j (omega arith) (omega arith)
+        ]
+
+-- sections end further on
+skip-more : (kind : ℕ) (rows : List ℕ) (n q : ℕ) → q ≤ skip kind rows q n
+unfolding skip
+skip-more kind rows zero q = omega arith
+skip-more kind rows (suc n) q = omega (arith, next-more kind rows q, skip-more kind rows n (nextSection kind rows q))
+
+pub label-defs-inside : (rows text : List ℕ) → Formed rows text → labelsFrom rows ≤ rowCount rows
+label-defs-inside rows text w = omega (arith, w .all, skip-more 14 rows (kinds rows 14) (labelsFrom rows))

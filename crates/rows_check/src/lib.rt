@@ -64,11 +64,12 @@ fn whole_size(good: bool, rows: &[u32], text: &[u8], r: usize, s: usize, l: usiz
     if !fits::all_pass(good, 93, rows, text) {
         return refused(refusal::NAME_TEXT);
     }
-    let bytes = sizes::total_size(rows, text, r, s, l);
+    let counted = sizes::total_size(rows, text, r, s, l);
+    let bytes = counted.size;
     if sizes::CAP <= bytes {
         return refused(refusal::SECTION_LARGE);
     }
-    if !order::labels_rise(rows) {
+    if !order::labels_rise(rows, counted.row) {
         return refused(refusal::LABELS_NOT_RISING);
     }
     Sized::Length {

@@ -6,7 +6,7 @@ ghost use mathlib.Core.Path.{_≡_};
 ghost use Prim.Native.Nat.{_+_, _-_, _*_, _/_, _≤_, _<_};
 ghost use lib.ListN.{length};
 ghost use lib.Dec.{eqb};
-ghost use mathlib.Core.Bool.{cond};
+ghost use mathlib.Core.Bool.{true, cond};
 ghost use Rattle.rows_check.specs.Tree.{rowCount, kinds};
 ghost use Rattle.rows_check.specs.Answers.{AllGood};
 ghost use Rattle.rows_check.specs.Check.{every, sectionInPlace, walk, inOrder, wellFormed, groupsFit, countsFit, risesAt};
@@ -155,12 +155,14 @@ fn groups_fit(r: usize, s: usize, l: usize) -> bool
     l <= 65535
 }
 
-// 95: of two labels one after the other the second has the larger code.
-pub(crate) fn labels_rise(rows: &[u32]) -> bool
+// 95: of two labels one after the other the second has the larger code. Before row `from` this is known.
+pub(crate) fn labels_rise(rows: &[u32], from: usize) -> bool
+    requires { ⌜ from ≤ rowCount (now rows) ⌝ }
+    requires { ⌜ every (risesAt (now rows)) 0 from ≡ true ⌝ }
     ensures { λ r. ⌜ r ≡ every (risesAt (now (rows .entry))) 0 (rowCount (now (rows .entry)) - 1) ⌝ }
 {
-    let mut p: usize = 0;
-    let mut todo = one_less(rows.len() / 9);
+    let mut p: usize = from;
+    let mut todo = one_less(rows.len() / 9 - from);
     while 0 < todo {
         if !rises_at(rows, p) {
             return false;
