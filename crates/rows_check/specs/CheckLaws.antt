@@ -150,7 +150,8 @@ module _ (rows text : List ℕ) where
         names = λ j g h. kind-of rows text (nameKind kind) j (inr (name-kind-is kind)) (every-at _ _ _ (both-right _ _ b) j g h);
       }
 
-  walk-places : (kind n q : ℕ) → walk kind rows text q n ≤ rowCount rows → Places kind rows q n × (walk kind rows text q n ≡ skip kind rows q n)
+  -- sections that are walked over are in place
+  pub walk-places : (kind n q : ℕ) → walk kind rows text q n ≤ rowCount rows → Places kind rows q n × (walk kind rows text q n ≡ skip kind rows q n)
   unfolding walk Places skip
   walk-places kind zero q h = (tt, refl)
   walk-places kind (suc n) q h = go (sectionInPlace kind rows text q) refl (λ g. walk-places kind n (nextSection kind rows q) g)
@@ -167,7 +168,7 @@ module _ (rows text : List ℕ) where
           absurd (omega (arith, h, k))
 
   -- what was walked from is within the table
-  walk-from : (kind n q : ℕ) → walk kind rows text q n ≤ rowCount rows → q ≤ rowCount rows
+  pub walk-from : (kind n q : ℕ) → walk kind rows text q n ≤ rowCount rows → q ≤ rowCount rows
   unfolding walk
   walk-from kind zero q h = h
   walk-from kind (suc n) q h = go (sectionInPlace kind rows text q) refl

@@ -29,14 +29,14 @@ pub enum Sized {
 pub fn layout_size(rows: &[u32], text: &[u8], whole: bool) -> Sized
     ensures { λ r. ⌜ r ≡ sizedOf whole (now (rows .entry)) (now (text .entry)) ⌝ }
 {
-    let k = order::kinds_of(rows);
+    let good = fits::all_good(rows, text);
+    let k = order::well_formed(good, rows, text);
+    if !k.good {
+        return refused(refusal::ROWS_MALFORMED);
+    }
     let r = k.records;
     let s = k.structs;
     let l = k.labels;
-    let good = fits::all_good(rows, text);
-    if !order::well_formed(good, rows, text, r, s, l) {
-        return refused(refusal::ROWS_MALFORMED);
-    }
     if whole {
         return whole_size(good, rows, text, r, s, l);
     }

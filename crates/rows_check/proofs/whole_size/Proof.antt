@@ -1,7 +1,6 @@
 -- Each way out has its law.
 -- Assumes nothing.
 use mathlib.Core.Path.{sym, _∙_}
-use denote.Ref.{now}
 use borrow.Author.Tests.{not-true, not-false}
 use Rattle.rows_check.specs.CheckLaws.{formed}
 use Rattle.rows_check.specs.AnswerLaws.{good-91, good-92, good-93}
