@@ -1,10 +1,10 @@
 -- What the parts of the check answer. Assumes nothing.
-use Prim.Native.Nat.{ℕ, _+_, _*_, min}
+use Prim.Native.Nat.{ℕ, _+_, _*_, _≤_, _<_, min}
 use mathlib.Core.Path.{_≡_}
 use mathlib.Core.Bool.{Bool, true, cond}
 use mathlib.Core.List.{List}
-use Rattle.rows_check.specs.Tree.{rowCount, byKind, kinds}
-use Rattle.rows_check.specs.Check.{both, rowFits, countFits, nameShort, nameClean, passes, size, fault}
+use Rattle.rows_check.specs.Tree.{cell, rowCount, byKind, kinds}
+use Rattle.rows_check.specs.Check.{both, rowFits, countFits, nameShort, nameClean, passes, walk, size, fault}
 use lib.Dec.{eqb}
 use Rattle.codec.specs.Codec.{refusal}
 use Rattle.layout.specs.LayoutOf.{D}
@@ -18,6 +18,22 @@ rowGood rows text q = both (rowFits rows text q) (both (countFits rows q) (both 
 -- where b holds every row passes the test
 pub record AllGood (b : Bool) (which : ℕ) (rows text : List ℕ) : Type 0 where
   pub passed : b ≡ true → passes which rows text 0 (rowCount rows) ≡ true
+
+-- n sections of that kind from row q on end at row r, where no further one begins
+pub record Ends (kind : ℕ) (rows text : List ℕ) (q n r : ℕ) : Type 0 where
+  pub walked : walk kind rows text q n ≡ r
+  pub inside : r ≤ rowCount rows
+  pub stops : r < rowCount rows → cell rows r 0 ≡ kind → ⊥
+
+-- n sections end at row r, which lies past the rows where no number of sections ends
+pub record Reaches (kind : ℕ) (rows text : List ℕ) (q n r : ℕ) : Type 0 where
+  pub ends : r ≤ rowCount rows → Ends kind rows text q n r
+  pub only : (m s : ℕ) → Ends kind rows text q m s → s ≡ r
+
+-- b tells whether x holds, and where it does the numbers are those of the rows that begin a record, a struct and a label def
+pub record Counts (x : Bool) (rows : List ℕ) (b : Bool) (r s l : ℕ) : Type 0 where
+  pub told : b ≡ x
+  pub counts : b ≡ true → (r ≡ kinds rows 10) × ((s ≡ kinds rows 13) × (l ≡ kinds rows 14))
 
 -- the length of a section's body with n fields or labels, names apart
 unfoldable pub namelessSize : ℕ → ℕ → ℕ

@@ -1,6 +1,6 @@
 -- What the tests of rows tell. Assumes nothing.
 use Prim.Native.Nat.{ℕ, zero, suc, _+_, _-_, _*_, _%_, _≤_, _<_}
-use native.Mathlib.Nat.{eq-or-lt-of-le}
+use native.Mathlib.Nat.{add-zero, eq-or-lt-of-le}
 use native.Mathlib.Omega.{arith}
 use mathlib.Core.Path.{_≡_, refl, sym, ap, _∙_, subst}
 use mathlib.Core.Bool.{Bool, true, false, cond}
@@ -49,6 +49,26 @@ every-at f q (suc k) e j a b =
     ⊎-elim (λ p. ap f (sym p) ∙ both-left (f q) _ n)
     (λ l. every-at f (q + 1) k (rw s at (both-right (f q) _ n)) j (omega arith) (omega arith))
     (eq-or-lt-of-le a)
+
+-- what passes at each place passes at every one
+pub every-all : (f : ℕ → Bool) (q k : ℕ) → ((j : ℕ) → q ≤ j → j < q + k → f j ≡ true) → every f q k ≡ true
+unfolding every both
+every-all f q zero h = refl
+every-all f q (suc k) h = rw (h q (omega arith) (omega arith)) (every-all f (q + 1) k (λ j a b. h j (omega arith) (omega arith)))
+
+-- after m places at which it passes, the others are left
+pub every-past : (f : ℕ → Bool) (q m k : ℕ) → every f q m ≡ true → every f q k ≡ every f (q + m) (k - m)
+unfolding every both
+every-past f q zero k e =
+    let z : k - 0 ≡ k = omega arith in
+    rw (z, add-zero q)
+every-past f q (suc m) zero e =
+    let z : 0 - suc m ≡ 0 = omega arith in
+    rw z
+every-past f q (suc m) (suc k) e =
+    let s : suc k - suc m ≡ k - m = omega arith in
+    let p : q + suc m ≡ q + 1 + m = omega arith in
+    rw (s, p, both-left (f q) _ e) (every-past f (q + 1) m k (both-right (f q) _ e))
 
 -- ---- one row
 
@@ -130,7 +150,8 @@ module _ (rows text : List ℕ) where
         names = λ j g h. kind-of rows text (nameKind kind) j (inr (name-kind-is kind)) (every-at _ _ _ (both-right _ _ b) j g h);
       }
 
-  walk-places : (kind n q : ℕ) → walk kind rows text q n ≤ rowCount rows → Places kind rows q n × (walk kind rows text q n ≡ skip kind rows q n)
+  -- sections that are walked over are in place
+  pub walk-places : (kind n q : ℕ) → walk kind rows text q n ≤ rowCount rows → Places kind rows q n × (walk kind rows text q n ≡ skip kind rows q n)
   unfolding walk Places skip
   walk-places kind zero q h = (tt, refl)
   walk-places kind (suc n) q h = go (sectionInPlace kind rows text q) refl (λ g. walk-places kind n (nextSection kind rows q) g)
@@ -147,7 +168,7 @@ module _ (rows text : List ℕ) where
           absurd (omega (arith, h, k))
 
   -- what was walked from is within the table
-  walk-from : (kind n q : ℕ) → walk kind rows text q n ≤ rowCount rows → q ≤ rowCount rows
+  pub walk-from : (kind n q : ℕ) → walk kind rows text q n ≤ rowCount rows → q ≤ rowCount rows
   unfolding walk
   walk-from kind zero q h = h
   walk-from kind (suc n) q h = go (sectionInPlace kind rows text q) refl

@@ -29,14 +29,14 @@ pub enum Sized {
 pub fn layout_size(rows: &[u32], text: &[u8], whole: bool) -> Sized
     ensures { λ r. ⌜ r ≡ sizedOf whole (now (rows .entry)) (now (text .entry)) ⌝ }
 {
-    let k = order::kinds_of(rows);
+    let good = fits::all_good(rows, text);
+    let k = order::well_formed(good, rows, text);
+    if !k.good {
+        return refused(refusal::ROWS_MALFORMED);
+    }
     let r = k.records;
     let s = k.structs;
     let l = k.labels;
-    let good = fits::all_good(rows, text);
-    if !order::well_formed(good, rows, text, r, s, l) {
-        return refused(refusal::ROWS_MALFORMED);
-    }
     if whole {
         return whole_size(good, rows, text, r, s, l);
     }
@@ -64,11 +64,12 @@ fn whole_size(good: bool, rows: &[u32], text: &[u8], r: usize, s: usize, l: usiz
     if !fits::all_pass(good, 93, rows, text) {
         return refused(refusal::NAME_TEXT);
     }
-    let bytes = sizes::total_size(rows, text, r, s, l);
+    let counted = sizes::total_size(rows, text, r, s, l);
+    let bytes = counted.size;
     if sizes::CAP <= bytes {
         return refused(refusal::SECTION_LARGE);
     }
-    if !order::labels_rise(rows) {
+    if !order::labels_rise(rows, counted.row) {
         return refused(refusal::LABELS_NOT_RISING);
     }
     Sized::Length {

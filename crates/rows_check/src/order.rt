@@ -5,66 +5,87 @@ use super::kinds;
 ghost use mathlib.Core.Path.{_≡_};
 ghost use Prim.Native.Nat.{_+_, _-_, _*_, _/_, _≤_, _<_};
 ghost use lib.ListN.{length};
-ghost use lib.Dec.{eqb};
-ghost use mathlib.Core.Bool.{cond};
+ghost use mathlib.Core.Bool.{true, false};
 ghost use Rattle.rows_check.specs.Tree.{rowCount, kinds};
-ghost use Rattle.rows_check.specs.Answers.{AllGood};
-ghost use Rattle.rows_check.specs.Check.{every, sectionInPlace, walk, inOrder, wellFormed, groupsFit, countsFit, risesAt};
+ghost use Rattle.rows_check.specs.Answers.{AllGood, Reaches, Counts};
+ghost use Rattle.rows_check.specs.Check.{every, sectionInPlace, inOrder, wellFormed, groupsFit, countsFit, risesAt};
 
-// How many rows begin a record, a struct and a label def.
-pub(crate) struct Kinds {
+// Whether the rows stand in their places, and then how many begin a record, a struct and a label def.
+pub(crate) struct Order {
+    pub good: bool,
     pub records: usize,
     pub structs: usize,
     pub labels: usize,
 }
 
+// The row after some sections, and how many they are.
+struct Reached {
+    row: usize,
+    count: usize,
+}
+
 // 90: rows of nine whose numbers fit, each kind in its place.
-pub(crate) fn well_formed(
-    good: bool,
-    rows: &[u32],
-    text: &[u8],
-    r: usize,
-    s: usize,
-    l: usize,
-) -> bool
-    requires { ⌜ (r ≡ kinds (now rows) 10) × ((s ≡ kinds (now rows) 13) × (l ≡ kinds (now rows) 14)) ⌝ }
+pub(crate) fn well_formed(good: bool, rows: &[u32], text: &[u8]) -> Order
     requires { ⌜ AllGood good 90 (now rows) (now text) ⌝ }
-    ensures { λ b. ⌜ b ≡ wellFormed (now (rows .entry)) (now (text .entry)) ⌝ }
+    ensures { λ r. ⌜ Counts (wellFormed (now (rows .entry)) (now (text .entry))) (now (rows .entry)) (r .good) (r .records) (r .structs) (r .labels) ⌝ }
 {
     if rows.len() % 9 != 0 {
-        return false;
+        return malformed();
     }
     if !fits::all_pass(good, 90, rows, text) {
-        return false;
+        return malformed();
     }
-    in_order(rows, text, r, s, l)
+    in_order(rows, text)
+}
+
+// What is answered of rows that do not stand in their places.
+fn malformed() -> Order
+    ensures { λ r. ⌜ r .good ≡ false ⌝ }
+{
+    Order {
+        good: false,
+        records: 0,
+        structs: 0,
+        labels: 0,
+    }
 }
 
 // Record sections, then struct sections, then label defs, and no row besides.
-fn in_order(rows: &[u32], text: &[u8], r: usize, s: usize, l: usize) -> bool
-    requires { ⌜ (r ≡ kinds (now rows) 10) × ((s ≡ kinds (now rows) 13) × (l ≡ kinds (now rows) 14)) ⌝ }
-    ensures { λ b. ⌜ b ≡ inOrder (now (rows .entry)) (now (text .entry)) ⌝ }
+fn in_order(rows: &[u32], text: &[u8]) -> Order
+    ensures { λ r. ⌜ Counts (inOrder (now (rows .entry)) (now (text .entry))) (now (rows .entry)) (r .good) (r .records) (r .structs) (r .labels) ⌝ }
 {
-    let a = walk_sections(kinds::RECORD, rows, text, 0, r);
-    let b = walk_sections(kinds::STRUCT, rows, text, a, s);
-    let d = walk_sections(kinds::LABEL_DEF, rows, text, b, l);
-    d == rows.len() / 9
+    let a = walk_sections(kinds::RECORD, rows, text, 0);
+    let b = walk_sections(kinds::STRUCT, rows, text, a.row);
+    let d = walk_sections(kinds::LABEL_DEF, rows, text, b.row);
+    Order {
+        good: d.row == rows.len() / 9,
+        records: a.count,
+        structs: b.count,
+        labels: d.count,
+    }
 }
 
-// The row after n sections of a kind, or one past the last where one is not in place.
-fn walk_sections(kind: usize, rows: &[u32], text: &[u8], q: usize, n: usize) -> usize
-    ensures { λ r. ⌜ r ≡ walk kind (now (rows .entry)) (now (text .entry)) q n ⌝ }
+// The row after all sections of a kind from row q on, and how many they are; one past the last row where one is not in place.
+fn walk_sections(kind: usize, rows: &[u32], text: &[u8], q: usize) -> Reached
+    ensures { λ r. ⌜ Reaches kind (now (rows .entry)) (now (text .entry)) q (r .count) (r .row) ⌝ }
 {
+    let nr = rows.len() / 9;
     let mut p = q;
-    let mut todo = n;
-    while 0 < todo {
+    let mut n: usize = 0;
+    while p < nr {
+        if cells::cell_of(rows, p, 0) != kind {
+            return Reached { row: p, count: n };
+        }
         if !section_in_place(kind, rows, text, p) {
-            return rows.len() / 9 + 1;
+            return Reached {
+                row: nr + 1,
+                count: n,
+            };
         }
         p = cells::next_section(kind, rows, p);
-        todo -= 1;
+        n += 1;
     }
-    p
+    Reached { row: p, count: n }
 }
 
 // A section of that kind stands at row q.
@@ -89,39 +110,6 @@ fn section_in_place(kind: usize, rows: &[u32], text: &[u8], q: usize) -> bool
         return false;
     }
     fits::rows_pass(cells::name_kind(kind), rows, text, from, n)
-}
-
-// How many rows are of the kinds that begin a section.
-pub(crate) fn kinds_of(rows: &[u32]) -> Kinds
-    ensures { λ r. ⌜ (r .records ≡ kinds (now (rows .entry)) 10) × ((r .structs ≡ kinds (now (rows .entry)) 13) × (r .labels ≡ kinds (now (rows .entry)) 14)) ⌝ }
-{
-    let mut r: usize = 0;
-    let mut s: usize = 0;
-    let mut l: usize = 0;
-    let mut p: usize = 0;
-    let mut todo = rows.len() / 9;
-    while 0 < todo {
-        let kind = cells::cell_of(rows, p, 0);
-        r += one_if(kind, kinds::RECORD);
-        s += one_if(kind, kinds::STRUCT);
-        l += one_if(kind, kinds::LABEL_DEF);
-        p += 1;
-        todo -= 1;
-    }
-    Kinds {
-        records: r,
-        structs: s,
-        labels: l,
-    }
-}
-
-fn one_if(a: usize, b: usize) -> usize
-    ensures { λ r. ⌜ (r ≡ cond (eqb a b) 1 0) × (r ≤ 1) ⌝ }
-{
-    if a == b {
-        return 1;
-    }
-    0
 }
 
 // 91: the counts of fields and labels, and those of records, structs and label defs, which are given.
@@ -155,12 +143,14 @@ fn groups_fit(r: usize, s: usize, l: usize) -> bool
     l <= 65535
 }
 
-// 95: of two labels one after the other the second has the larger code.
-pub(crate) fn labels_rise(rows: &[u32]) -> bool
+// 95: of two labels one after the other the second has the larger code. Before row `from` this is known.
+pub(crate) fn labels_rise(rows: &[u32], from: usize) -> bool
+    requires { ⌜ from ≤ rowCount (now rows) ⌝ }
+    requires { ⌜ every (risesAt (now rows)) 0 from ≡ true ⌝ }
     ensures { λ r. ⌜ r ≡ every (risesAt (now (rows .entry))) 0 (rowCount (now (rows .entry)) - 1) ⌝ }
 {
-    let mut p: usize = 0;
-    let mut todo = one_less(rows.len() / 9);
+    let mut p: usize = from;
+    let mut todo = one_less(rows.len() / 9 - from);
     while 0 < todo {
         if !rises_at(rows, p) {
             return false;

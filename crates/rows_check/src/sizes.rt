@@ -14,23 +14,26 @@ ghost use Rattle.rows_check.specs.Answers.{namelessSize, clip, sizeOf};
 pub(crate) const CAP: usize = 4294967296;
 
 // A size, and the row after what was counted.
-struct Counted {
-    size: usize,
-    row: usize,
+pub(crate) struct Counted {
+    pub size: usize,
+    pub row: usize,
 }
 
-// The length of the layout, or 2^32 where it or a section is too long.
-pub(crate) fn total_size(rows: &[u32], text: &[u8], r: usize, s: usize, l: usize) -> usize
+// The length of the layout, or 2^32 where it or a section is too long; and the row of the first label def.
+pub(crate) fn total_size(rows: &[u32], text: &[u8], r: usize, s: usize, l: usize) -> Counted
     requires { ⌜ (r ≡ kinds (now rows) 10) × ((s ≡ kinds (now rows) 13) × (l ≡ kinds (now rows) 14)) ⌝ }
     requires { ⌜ Sections 10 (now rows) (now text) 0 (kinds (now rows) 10) ⌝ }
     requires { ⌜ Sections 13 (now rows) (now text) (structsFrom (now rows)) (kinds (now rows) 13) ⌝ }
     requires { ⌜ Sections 14 (now rows) (now text) (labelsFrom (now rows)) (kinds (now rows) 14) ⌝ }
-    ensures { λ n. ⌜ n ≡ sizeOf (sectionsFit (now (rows .entry)) (now (text .entry))) (size (now (rows .entry)) (now (text .entry))) ⌝ }
+    ensures { λ n. ⌜ (n .size ≡ sizeOf (sectionsFit (now (rows .entry)) (now (text .entry))) (size (now (rows .entry)) (now (text .entry)))) × (n .row ≡ labelsFrom (now (rows .entry))) ⌝ }
 {
     let a = sections_size(kinds::RECORD, rows, text, 0, r, 8);
     let b = sections_size(kinds::STRUCT, rows, text, a.row, s, a.size);
     let d = sections_size(kinds::LABEL_DEF, rows, text, b.row, l, b.size);
-    d.size
+    Counted {
+        size: d.size,
+        row: b.row,
+    }
 }
 
 // The sum with k sections from row q on.

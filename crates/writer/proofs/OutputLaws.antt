@@ -6,7 +6,7 @@ use native.Mathlib.Numerals.{add-one}
 use native.Mathlib.Omega.{arith}
 use mathlib.Core.Path.{_≡_, refl, sym, ap, ap₂, _∙_}
 use mathlib.Core.List.{List, [], _∷_, _++_, append-assoc, append-nil}
-use lib.ListN.{length, take, drop, set, getD, length-append, length-take, length-drop, take-append-drop, drop-of-length-le, replicate}
+use lib.ListN.{length, take, drop, set, getD, length-append, length-take, length-drop, length-set, take-append-drop, drop-of-length-le, replicate}
 use lib.Seq.{length-take-le, take-at, drop-at, take-append-le, take-take, drop-drop, set-split, drop-cons, take-all}
 use Rattle.codec.specs.Codec.{little}
 use Rattle.rows_check.specs.Sections.{many}
@@ -94,6 +94,13 @@ left-done {a = a} {bs = bs} {o = o} l e =
       bytes = sym (put-nil a o) ∙ (rw e at (l .bytes));
     }
 
+-- all that is left is written at once
+pub left-all : {at : ℕ} {bs₀ o₀ : List ℕ} {a : ℕ} {bs o : List ℕ} → Left at bs₀ o₀ a bs o → RoomFor a bs o
+left-all {bs = bs} l = left-room l [] (sym (append-nil bs))
+
+pub left-rest : {at : ℕ} {bs₀ o₀ : List ℕ} {a : ℕ} {bs o o′ : List ℕ} {r : ℕ} → Left at bs₀ o₀ a bs o → Wrote a bs o o′ r → Wrote at bs₀ o₀ o′ r
+left-rest {bs = bs} l w = left-done (left-step l (sym (append-nil bs)) w) refl
+
 pub wrote-length : {at : ℕ} {bs o o′ : List ℕ} {r : ℕ} → Wrote at bs o o′ r → length o′ ≡ length o
 wrote-length {at} {bs} {o} w = ap length (w .bytes) ∙ put-length at bs o (w .room)
 
@@ -112,14 +119,32 @@ wrote-then {at} {xs} {ys} {o} {o′} v w =
 pub wrote-is : {at : ℕ} {xs ys o o′ : List ℕ} {a : ℕ} → Wrote at xs o o′ a → xs ≡ ys → Wrote at ys o o′ a
 wrote-is w e = rw e at w
 
--- one store
+-- one store, and the place after it
+wrote-one : {at v : ℕ} {o : List ℕ} {r : ℕ} → at < length o → r ≡ at + 1 → Wrote at (v ∷ []) o (set o at v) r
+wrote-one {at} {v} {o} h e = record { room = omega arith; next = e; bytes = put-set at v o h }
+
 pub wrote-set : {at v : ℕ} {o : List ℕ} → RoomFor at (v ∷ []) o → Wrote at (v ∷ []) o (set o at v) (at + 1)
-wrote-set {at} {v} {o} h = record { room = h .fits; next = refl; bytes = put-set at v o (omega (arith, h .fits)) }
+wrote-set h = wrote-one (omega (arith, h .fits)) refl
+
+-- four stores
+pub wrote-four : {at a b c d : ℕ} {o : List ℕ} → RoomFor at (a ∷ b ∷ c ∷ d ∷ []) o → Wrote at (a ∷ b ∷ c ∷ d ∷ []) o (set (set (set (set o at a) (at + 1) b) (at + 2) c) (at + 3) d) (at + 4)
+wrote-four {at} h =
+    wrote-then (wrote-one {r = at + 1} (omega (arith, h .fits)) refl)
+    (wrote-then (wrote-one {r = at + 2} (simp length-set (omega (arith, h .fits))) (omega arith))
+    (wrote-then (wrote-one {r = at + 3} (simp length-set (omega (arith, h .fits))) (omega arith))
+    (wrote-one {r = at + 4} (simp length-set (omega (arith, h .fits))) (omega arith))))
 
 -- ---- the rest of a slice, of some zeros, of some items
 
 pub drop-next : (xs : List ℕ) (j : ℕ) → j < length xs → drop j xs ≡ (getD xs j 0 ∷ []) ++ drop (j + 1) xs
 drop-next xs j h = rw (add-one, drop-cons xs j 0)
+
+pub drop-next-four : (xs : List ℕ) (j : ℕ) → j + 4 ≤ length xs → drop j xs ≡ (getD xs j 0 ∷ getD xs (j + 1) 0 ∷ getD xs (j + 2) 0 ∷ getD xs (j + 3) 0 ∷ []) ++ drop (j + 4) xs
+drop-next-four xs j h =
+    let two : j + 1 + 1 ≡ j + 2 = omega arith in
+    let three : j + 2 + 1 ≡ j + 3 = omega arith in
+    let four : j + 3 + 1 ≡ j + 4 = omega arith in
+    rw (drop-next xs j (omega arith), drop-next xs (j + 1) (omega arith), two, drop-next xs (j + 2) (omega arith), three, drop-next xs (j + 3) (omega arith), four)
 
 pub zeros-next : (k : ℕ) → 0 < k → replicate {A = ℕ} k 0 ≡ (0 ∷ []) ++ replicate (k - 1) 0
 zeros-next zero h = absurd (omega arith)

@@ -36,17 +36,34 @@ pub(crate) fn put_u32(out: &mut [u8], at: usize, v: usize) -> usize
     put_u16(out, a, v / 256 / 256)
 }
 
+// Four bytes at a step, then single ones.
 pub(crate) fn put_bytes(out: &mut [u8], at: usize, src: &[u8]) -> usize
     requires { ⌜ RoomFor at (now src) (now out) ⌝ }
     ensures { λ r. ⌜ Wrote at (now (src .entry)) (now (out .entry)) (now (out .exit)) r ⌝ }
 {
     let mut a = at;
     let mut j = 0;
+    while j + 4 <= src.len() {
+        a = put_four(out, a, src[j], src[j + 1], src[j + 2], src[j + 3]);
+        j += 4;
+    }
     while j < src.len() {
         a = put_u8(out, a, src[j]);
         j += 1;
     }
     a
+}
+
+// All four are known before the first is stored.
+fn put_four(out: &mut [u8], at: usize, a: u8, b: u8, c: u8, d: u8) -> usize
+    requires { ⌜ RoomFor at (a ∷ b ∷ c ∷ d ∷ []) (now out) ⌝ }
+    ensures { λ r. ⌜ Wrote at (a ∷ b ∷ c ∷ d ∷ []) (now (out .entry)) (now (out .exit)) r ⌝ }
+{
+    out[at] = a;
+    out[at + 1] = b;
+    out[at + 2] = c;
+    out[at + 3] = d;
+    at + 4
 }
 
 pub(crate) fn put_zeros(out: &mut [u8], at: usize, n: usize) -> usize

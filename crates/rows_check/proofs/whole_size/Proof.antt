@@ -1,11 +1,11 @@
 -- Each way out has its law.
 -- Assumes nothing.
 use mathlib.Core.Path.{sym, _∙_}
-use denote.Ref.{now}
 use borrow.Author.Tests.{not-true, not-false}
 use Rattle.rows_check.specs.CheckLaws.{formed}
 use Rattle.rows_check.specs.AnswerLaws.{good-91, good-92, good-93}
 use Rattle.rows_check.specs.SectionLaws.{record-sections, struct-sections, label-def-sections}
+use Rattle.rows_check.proofs.WalkLaws.{rises-before, label-defs-inside}
 use Rattle.rows_check.proofs.SizeLaws.{exit-91, exit-92, exit-93, exit-94, exit-95, done}
 use borrow.Author.Needs.{needs}
 use Rattle.rows_check.proofs.whole_size.Statement.{statement}
@@ -37,18 +37,23 @@ total-size-requires c κs = let w = formed _ _ (c .before .before .before .befor
 returns-4 : tie.Need-returns-4
 returns-4 c =
     c .refused4 .ensures ∙ exit-94 _ _ (c .before .before .before .before .before .before .before .before .before .before .before .pre .1 .1) (sym (c .before .before .before .before .before .before .before .before .counts-fit .ensures) ∙ not-false (c .before .before .before .before .before .before .before .before .counts-fit .result) (c .before .before .before .before .before .before .before .if1 .left)) (sym (c .before .before .before .before .before .before .all-pass .ensures) ∙ not-false (c .before .before .before .before .before .before .all-pass .result) (c .before .before .before .before .before .if2 .left))
-    (sym (c .before .before .before .before .all-pass2 .ensures) ∙ not-false (c .before .before .before .before .all-pass2 .result) (c .before .before .before .if3 .left)) (c .before .before .total-size .result) (c .before .before .total-size .ensures) (c .before .if4 .taken)
+    (sym (c .before .before .before .before .all-pass2 .ensures) ∙ not-false (c .before .before .before .before .all-pass2 .result) (c .before .before .before .if3 .left)) (c .before .before .total-size .result .size) (c .before .before .total-size .ensures .0) (c .before .if4 .taken)
+
+labels-rise-requires : tie.Need-labels-rise-requires
+labels-rise-requires c κs =
+    let w = formed _ _ (c .before .before .before .before .before .before .before .before .before .before .pre .1 .1) in
+    rw (c .before .total-size .ensures .1) (label-defs-inside _ _ w, rises-before _ _ w)
 
 returns-5 : tie.Need-returns-5
 returns-5 c =
     c .refused5 .ensures ∙ exit-95 _ _ (c .before .before .before .before .before .before .before .before .before .before .before .before .before .pre .1 .1) (sym (c .before .before .before .before .before .before .before .before .before .before .counts-fit .ensures) ∙ not-false (c .before .before .before .before .before .before .before .before .before .before .counts-fit .result) (c .before .before .before .before .before .before .before .before .before .if1 .left)) (sym (c .before .before .before .before .before .before .before .before .all-pass .ensures) ∙ not-false (c .before .before .before .before .before .before .before .before .all-pass .result) (c .before .before .before .before .before .before .before .if2 .left))
-    (sym (c .before .before .before .before .before .before .all-pass2 .ensures) ∙ not-false (c .before .before .before .before .before .before .all-pass2 .result) (c .before .before .before .before .before .if3 .left)) (c .before .before .before .before .total-size .result) (c .before .before .before .before .total-size .ensures) (c .before .before .before .if4 .left) (sym (c .before .before .labels-rise .ensures) ∙ not-true (c .before .before .labels-rise .result) (c .before .if5 .taken))
+    (sym (c .before .before .before .before .before .before .all-pass2 .ensures) ∙ not-false (c .before .before .before .before .before .before .all-pass2 .result) (c .before .before .before .before .before .if3 .left)) (c .before .before .before .before .total-size .result .size) (c .before .before .before .before .total-size .ensures .0) (c .before .before .before .if4 .left) (sym (c .before .before .labels-rise .ensures) ∙ not-true (c .before .before .labels-rise .result) (c .before .if5 .taken))
 
 returns-6 : tie.Need-returns-6
 returns-6 c =
     let pre = c .before .before .before .before .before .before .before .before .before .before .before .before .pre in
     done _ _ (pre .1 .1) (sym (c .before .before .before .before .before .before .before .before .before .counts-fit .ensures) ∙ not-false (c .before .before .before .before .before .before .before .before .before .counts-fit .result) (c .before .before .before .before .before .before .before .before .if1 .left)) (sym (c .before .before .before .before .before .before .before .all-pass .ensures) ∙ not-false (c .before .before .before .before .before .before .before .all-pass .result) (c .before .before .before .before .before .before .if2 .left))
-    (sym (c .before .before .before .before .before .all-pass2 .ensures) ∙ not-false (c .before .before .before .before .before .all-pass2 .result) (c .before .before .before .before .if3 .left)) (c .before .before .before .total-size .result) (c .before .before .before .total-size .ensures) (c .before .before .if4 .left) (sym (c .before .labels-rise .ensures) ∙ not-false (c .before .labels-rise .result) (c .if5 .left))
+    (sym (c .before .before .before .before .before .all-pass2 .ensures) ∙ not-false (c .before .before .before .before .before .all-pass2 .result) (c .before .before .before .before .if3 .left)) (c .before .before .before .total-size .result .size) (c .before .before .before .total-size .ensures .0) (c .before .before .if4 .left) (sym (c .before .labels-rise .ensures) ∙ not-false (c .before .labels-rise .result) (c .if5 .left))
     _ _ _ (pre .0 .0) (pre .0 .1 .0) (pre .0 .1 .1)
 
 pub whole-size-spec : {M : Type 1} → statement M
@@ -67,7 +72,7 @@ whole-size-spec =
     total-size-requires
     (λ c κs. search needs)
     returns-4
-    (λ c κs. search needs)
+    labels-rise-requires
     (λ c κs. search needs)
     returns-5
     returns-6)

@@ -21,7 +21,10 @@ sections-size-requires-3 c κs =
 returns : tie.Need-returns
 returns c =
     let start = c .before .before .before .before .before in
-    c .sections-size3 .ensures .0 ∙ rw (c .before .sections-size2 .ensures .1, c .before .sections-size2 .ensures .0, c .before .before .sections-size .ensures .1, c .before .before .sections-size .ensures .0, start .pre .0 .0, start .pre .0 .1 .0, start .pre .0 .1 .1) (total (now (start .args .rows)) (now (start .args .text)))
+    let counts = start .pre .0 in
+    let first = c .before .before .sections-size .ensures in
+    let second = c .before .sections-size2 .ensures in
+    (c .sections-size3 .ensures .0 ∙ rw (second .1, second .0, first .1, first .0, counts .0, counts .1 .0, counts .1 .1) (total (now (start .args .rows)) (now (start .args .text))), second .1 ∙ rw (first .1, counts .0, counts .1 .0))
 
 pub total-size-spec : {M : Type 1} → statement M
 total-size-spec =
