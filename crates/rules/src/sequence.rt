@@ -161,29 +161,23 @@ fn unfilled(end: usize, base: usize) -> u32
     refusal::BASE_UNFILLED
 }
 
-// The first of numbers 81 to 83 that entries give which passed 71 to 80, or 0: unless `by_marks` holds, from the walk where they stand in
-// order, else by search; by marks where no search is made or it gives up; or there are too few owners for the marks. The owners come
-// back as they were lent.
+// The first of numbers 81 to 83 that entries give which passed 71 to 80, or 0: by search, unless `by_marks` holds; by marks where
+// no search is made or it gives up; or there are too few owners for the marks. The owners come back as they were lent.
 fn tiling(
     layout: &[u8],
     rows: &[u32],
     src: Source,
     frame: Frame,
-    walked: Walked,
     by_marks: bool,
     owners: &mut [u16],
 ) -> u32
     requires { ⌜ InSlice (now layout) (now rows) src ⌝ }
     requires { ⌜ Passed (frame .«is_record») (frame .base) (entriesOf (now layout) (now rows) src) ⌝ }
-    requires { ⌜ (walked .«in_order» ≡ true → InTurn (frame .«is_record») (frame .base) 0 (frame .base) (entriesOf (now layout) (now rows) src) (walked .end)) ⌝ }
     requires { ⌜ Unowned (now owners) ⌝ }
     ensures { λ r. ⌜ Tried (now (owners .entry)) (tilingFault (frame .«is_record») (frame .base) (entriesOf (now (layout .entry)) (now (rows .entry)) src)) r ⌝ }
     ensures { λ _. ⌜ now (owners .exit) ≡ now (owners .entry) ⌝ }
 {
     if !by_marks {
-        if walked.in_order {
-            return unfilled(walked.end, frame.base);
-        }
         let spare = looks(src.count, frame.base, owners.len());
         let v = by_search::tiling_by_search(layout, rows, src, frame, spare);
         if v != GAVE_UP {
@@ -196,8 +190,8 @@ fn tiling(
     by_marks::tiling_by_marks(layout, rows, src, frame, owners)
 }
 
-// The first of numbers 71 to 83 that a record or a struct gives, or 0, with 81 to 83 as `tiling` has them. The marks of ids
-// are clear before, and after 0; the owners come back as they were lent.
+// The first of numbers 71 to 83 that a record or a struct gives, or 0, with 81 to 83 as `tiling` has them where the walk over 71 to 80 has
+// not told them. The marks of ids are clear before, and after 0; the owners come back as they were lent.
 pub(crate) fn seq_fault(
     sheet: &[u16; 520],
     aligns: &[u16],
@@ -229,5 +223,10 @@ pub(crate) fn seq_fault(
         return a.fault;
     }
     wipe_ids(sheet, layout, rows, src, marks);
-    tiling(layout, rows, src, frame, a, how.by_marks, owners)
+    if !how.by_marks {
+        if a.in_order {
+            return unfilled(a.end, frame.base);
+        }
+    }
+    tiling(layout, rows, src, frame, how.by_marks, owners)
 }

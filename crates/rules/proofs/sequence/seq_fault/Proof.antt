@@ -4,6 +4,7 @@ use lib.ListN.{length}
 use Rattle.rules.specs.Tried.{answered}
 use Rattle.rules.specs.TriedLaws.{tried-as}
 use Rattle.rules.specs.EngineLaws.{passed}
+use Rattle.rules.proofs.InOrder.{tiling-order}
 use Rattle.rules.proofs.Loops.{seq-fields, seq-tiling}
 use borrow.Author.Needs.{needs}
 use Rattle.rules.proofs.sequence.seq_fault.Statement.{statement}
@@ -15,17 +16,23 @@ returns c = (answered (seq-fields _ _ _ _ _ _ _ _ _ (c .before .before .fields-f
 wipe-ids-requires : tie.Need-wipe-ids-requires
 wipe-ids-requires c κs = (c .before .before .before .before .before .before .before .before .before .before .pre .0, (c .before .before .before .fields-fault .ensures .1 .0) (c .before .if1 .left))
 
+returns-2 : tie.Need-returns-2
+returns-2 c =
+    let pre = c .before .before .before .before .before .before .before .before .before .before .before .before .before .before .before .pre in
+    let walked = c .before .before .before .before .before .before .before .before .fields-fault .ensures in
+    let none = c .before .before .before .before .before .before .if1 .left in
+    (answered (seq-tiling _ _ _ _ _ _ _ _ _ (walked .0) none (tiling-order (passed _ _ _ _ _ _ _ _ (pre .1 .1 .0) (sym (walked .0) ∙ none)) (walked .1 .1 (c .before .if3 .taken)) (c .unfilled .ensures))), (λ _. (c .before .before .before .before .wipe-ids .ensures), refl))
+
 tiling-requires : tie.Need-tiling-requires
 tiling-requires c κs =
-    let pre = c .before .before .before .before .before .before .before .before .before .before .before .before .pre in
-    let walked = c .before .before .before .before .before .fields-fault .ensures in
-    (pre .0, (passed _ _ _ _ _ _ _ _ (pre .1 .1 .0) (sym (walked .0) ∙ (c .before .before .before .if1 .left)), (walked .1 .1, (pre .1 .1 .1))))
+    let pre = c .before .before .before .before .before .before .before .before .before .before .before .before .before .before .pre in
+    (pre .0, (passed _ _ _ _ _ _ _ _ (pre .1 .1 .0) (sym (c .before .before .before .before .before .before .before .fields-fault .ensures .0) ∙ (c .before .before .before .before .before .if1 .left)), (pre .1 .1 .1)))
 
 same-length : tie.Need-same-length
 same-length c = ap length (c .before .before .tiling .ensures .1)
 
-returns-2 : tie.Need-returns-2
-returns-2 c = (tried-as (λ e. seq-tiling _ _ _ _ _ _ _ _ _ (c .before .before .before .before .before .before .before .before .fields-fault .ensures .0) (c .before .before .before .before .before .before .if1 .left) e) (c .before .before .tiling .ensures .0), (λ _. (c .before .before .before .before .wipe-ids .ensures), (c .before .before .tiling .ensures .1)))
+returns-3 : tie.Need-returns-3
+returns-3 c = (tried-as (λ e. seq-tiling _ _ _ _ _ _ _ _ _ (c .before .before .before .before .before .before .before .before .before .before .fields-fault .ensures .0) (c .before .before .before .before .before .before .before .before .if1 .left) e) (c .before .before .tiling .ensures .0), (λ _. (c .before .before .before .before .before .before .wipe-ids .ensures), (c .before .before .tiling .ensures .1)))
 
 pub seq-fault-spec : {M : Type 1} → statement M
 seq-fault-spec =
@@ -34,6 +41,8 @@ seq-fault-spec =
     (λ c κs. search needs)
     returns
     wipe-ids-requires
+    (λ c κs. search needs)
+    returns-2
     tiling-requires
     same-length
-    returns-2)
+    returns-3)

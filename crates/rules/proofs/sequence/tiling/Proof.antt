@@ -1,51 +1,41 @@
--- From the walk where the entries stand in order, else by search, or by marks where it gives up and there are enough owners.
--- Assumes nothing.
+-- By search, or by marks where it gives up and there are enough owners. Assumes nothing.
 use mathlib.Core.Path.{refl, ap}
 use lib.ListN.{length}
 use borrow.Author.Needs.{needs}
 use Rattle.rules.specs.Tried.{answered, gave-up}
 use Rattle.rules.specs.TriedLaws.{tried-is}
-use Rattle.rules.proofs.InOrder.{tiling-order}
 use Rattle.rules.proofs.sequence.tiling.Statement.{statement}
 use Rattle.rules.proofs.sequence.tiling.Tie as tie
 
 returns : tie.Need-returns
-returns c = let pre = c .before .before .before .before .before .before .pre in (answered (tiling-order (pre .1 .0) (pre .1 .1 .0 (c .before .if2 .taken)) (c .unfilled .ensures)), refl)
-
-tiling-by-search-requires : tie.Need-tiling-by-search-requires
-tiling-by-search-requires c κs = let pre = c .before .before .before .before .before .before .pre in (pre .0, pre .1 .0)
-
-returns-2 : tie.Need-returns-2
-returns-2 c = (answered (tried-is (c .before .tiling-by-search .ensures) (c .if3 .taken)), refl)
+returns c = (answered (tried-is (c .before .tiling-by-search .ensures) (c .if2 .taken)), refl)
 
 too-few-requires : tie.Need-too-few-requires
 too-few-requires c κs = let pre = c .before .before .before .before .pre in (pre .0, pre .1 .0)
 
-returns-3 : tie.Need-returns-3
-returns-3 c = (gave-up refl (c .before .too-few .ensures .1 (c .if4 .taken)), refl)
+returns-2 : tie.Need-returns-2
+returns-2 c = (gave-up refl (c .before .too-few .ensures .1 (c .if3 .taken)), refl)
 
 tiling-by-marks-requires : tie.Need-tiling-by-marks-requires
 tiling-by-marks-requires c κs =
     let pre = c .before .before .before .before .before .before .before .pre in
-    (pre .0, (pre .1 .0, (c .before .before .too-few .ensures .0 (c .before .if4 .left), pre .1 .1 .1)))
+    (pre .0, (pre .1 .0, (c .before .before .too-few .ensures .0 (c .before .if3 .left), pre .1 .1)))
 
 same-length : tie.Need-same-length
 same-length c = ap length (c .before .before .tiling-by-marks .ensures .1)
 
-returns-4 : tie.Need-returns-4
-returns-4 c = (answered (c .before .before .tiling-by-marks .ensures .0), c .before .before .tiling-by-marks .ensures .1)
+returns-3 : tie.Need-returns-3
+returns-3 c = (answered (c .before .before .tiling-by-marks .ensures .0), c .before .before .tiling-by-marks .ensures .1)
 
 pub tiling-spec : {M : Type 1} → statement M
 tiling-spec =
     tie.close
     (tie.spec
     (λ c κs. search needs)
-    returns
     (λ c κs. search needs)
-    tiling-by-search-requires
-    returns-2
+    returns
     too-few-requires
-    returns-3
+    returns-2
     tiling-by-marks-requires
     same-length
-    returns-4)
+    returns-3)
