@@ -11,7 +11,7 @@
 #[cfg(not(target_pointer_width = "64"))]
 compile_error!("the library dbn_c is for machines whose size_t has 64 bits");
 
-/// The README's example compiles.
+/// The README's examples compile.
 #[cfg(doctest)]
 #[doc = include_str!("../README.md")]
 struct Readme;
