@@ -24,7 +24,8 @@ impl Default for Limits {
     }
 }
 
-/// Row tables to read into. They grow to what a block or a layout needs, up to a limit, and can be used again.
+/// Row tables to read into. They grow to what a block or a layout may need by its length, and then to what it needs, up to a limit, and can be
+/// used again.
 #[derive(Debug, Clone)]
 pub struct Tables {
     pub(crate) symbology: Vec<u32>,
