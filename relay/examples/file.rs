@@ -1,20 +1,15 @@
 //! file FILE: shows the start of a DBN file below version 4, and tells why where it is refused.
 use dbn_start::{Day, Feed, Limits, Step};
-use std::{error::Error, fs::File, io::Read, process::ExitCode};
+use std::{error::Error, fs::File, process::ExitCode};
 
 /// Reads the start of a file, and nothing past it.
 fn start(file: &mut File) -> Result<Feed, Box<dyn Error>> {
     // A version 4 file also wants a type sheet: Feed::new(limits).with_sheet(sheet).
     let mut feed = Feed::new(Limits::default());
-    let mut buffer = vec![0; 1 << 16];
-    while let Step::Needs(needed) = feed.step()? {
-        let most = needed.min(buffer.len());
-        match file.read(&mut buffer[..most])? {
-            0 => return Err(format!("the file ends {needed} bytes before the start does").into()),
-            n => feed.feed(&buffer[..n])?,
-        };
+    match feed.read_from(file)? {
+        Step::Done => Ok(feed),
+        Step::Needs(needed) => Err(format!("the file ends {needed} bytes before the start does").into()),
     }
-    Ok(feed)
 }
 
 /// Prints what a start says.

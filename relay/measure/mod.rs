@@ -1,6 +1,8 @@
 //! What the benchmarks measure, and with which clock. The package's own benchmark and the oracle's each use a part.
 #![allow(dead_code)]
+pub mod calls;
 pub mod frames;
+pub mod hostile;
 pub mod shapes;
 
 use std::hint::black_box;
@@ -37,15 +39,19 @@ pub fn beside<A, B>(mut one: impl FnMut() -> A, mut two: impl FnMut() -> B) -> (
 }
 
 /// Medians of the time of each of some pieces of work, which take turns.
-pub fn in_turn<const N: usize>(mut works: [&mut dyn FnMut(); N]) -> [f64; N] {
+pub fn in_turn<const N: usize>(works: [&mut dyn FnMut(); N]) -> [f64; N] {
+    medians(&turns_of(101, works))
+}
+
+/// Samples of the time of each of some pieces of work, so many of each: one of every piece makes a turn.
+pub fn turns_of<const N: usize>(count: usize, mut works: [&mut dyn FnMut(); N]) -> Vec<[f64; N]> {
     let inner = works.each_mut().map(turns);
-    let mut times = [const { Vec::new() }; N];
-    for _ in 0..101 {
-        for ((work, inner), times) in works.iter_mut().zip(inner).zip(&mut times) {
-            times.push(sample(work, inner));
-        }
-    }
-    times.map(median)
+    (0..count).map(|_| std::array::from_fn(|i| sample(&mut works[i], inner[i]))).collect()
+}
+
+/// The median of each piece's samples.
+pub fn medians<const N: usize>(turns: &[[f64; N]]) -> [f64; N] {
+    std::array::from_fn(|i| median(turns.iter().map(|turn| turn[i]).collect()))
 }
 
 /// The median of the time of a piece of work.

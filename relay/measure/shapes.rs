@@ -111,12 +111,15 @@ pub fn intervals(intervals: usize, months: usize) -> Vec<u8> {
     out
 }
 
-/// Symbols of two-byte letters to their full width (an even one).
-pub fn foreign(width: usize, symbols: usize) -> Vec<u8> {
+/// Symbols of these letters in turn, as many as the width has room for, then NULs.
+pub fn lettered(width: usize, symbols: usize, letters: &str) -> Vec<u8> {
+    let mut text = String::new();
+    text.extend(letters.chars().cycle().scan(width, |left, letter| {
+        *left = left.checked_sub(letter.len_utf8())?;
+        Some(letter)
+    }));
     let mut out = (symbols as u32).to_le_bytes().to_vec();
-    for _ in 0..symbols {
-        out.extend("é".repeat(width / 2).bytes());
-    }
+    out.extend(padded(&text, width).repeat(symbols));
     out.extend([0; 12]);
     out
 }

@@ -1,6 +1,6 @@
 use crate::{
     ffi::{self, LAYOUT_ROW},
-    promise,
+    layout, promise,
     symbology::Symbology,
     text, Columns, Day, Interval, Layout, Mapping, Refusal, RefusalKind, Sheet, Tables,
 };
@@ -10,6 +10,8 @@ use std::fmt;
 pub(crate) const TABLE_SHORT: u32 = RefusalKind::TableShort.number();
 /// The first version that has a layout.
 const WITH_LAYOUT: u8 = 4;
+/// The fewest bytes of a block that a row of symbology is guessed for.
+const SYMBOL_LEAST: usize = 16;
 /// What is lent where a stream has no layout to judge.
 const NO_TYPES: &[u16; ffi::SHEET] = &[0; ffi::SHEET];
 
@@ -69,15 +71,7 @@ impl<'a> Block<'a> {
         sheet: impl Into<Option<&'s Sheet>>,
         tables: &'a mut Tables,
     ) -> Result<Self, Refusal> {
-        let sheet = lent(version, sheet.into())?;
-        let mut out = [0; 16];
-        let mut number = call(version, bytes, sheet, tables, &mut out);
-        if number == TABLE_SHORT {
-            tables.grow(out[10], out[11])?;
-            number = call(version, bytes, sheet, tables, &mut out);
-            assert_ne!(number, TABLE_SHORT, "the library dbn_c broke its promise: the rows it needs are not enough");
-        }
-        Refusal::unless_read(number, out[ffi::PLACE])?;
+        let out = judged(version, bytes, sheet.into(), tables)?;
         Ok(Self::accepted(version, bytes, &out, tables))
     }
 
@@ -226,6 +220,45 @@ impl fmt::Debug for Block<'_> {
     }
 }
 
+/// The numbers of a block that is accepted. It is read once where the guessed rows are enough, and else twice: the first reading tells how
+/// many it needs.
+pub(crate) fn judged(
+    version: u8,
+    bytes: &[u8],
+    sheet: Option<&Sheet>,
+    tables: &mut Tables,
+) -> Result<[u64; 16], Refusal> {
+    let sheet = lent(version, sheet)?;
+    let [symbology, layout] = guessed(version, bytes);
+    tables.guess(symbology, layout);
+    let mut out = [0; 16];
+    let mut number = call(version, bytes, sheet, tables, &mut out);
+    if number == TABLE_SHORT {
+        tables.grow(out[10], out[11])?;
+        number = call(version, bytes, sheet, tables, &mut out);
+        assert_ne!(number, TABLE_SHORT, "the library dbn_c broke its promise: the rows it needs are not enough");
+    }
+    Refusal::unless_read(number, out[ffi::PLACE])?;
+    Ok(out)
+}
+
+/// The rows of symbology and of layout that a block may have, by its bytes. Each row of symbology has a symbol of the stated width in it, so below
+/// version 4 this is enough for symbols that are [`SYMBOL_LEAST`] wide or wider. A guess that is too low costs a second reading.
+///
+/// A row of symbology takes 24 bytes of a table and one of a layout 36. So what is guessed takes at most three times the block's own bytes,
+/// whatever the block claims.
+fn guessed(version: u8, bytes: &[u8]) -> [usize; 2] {
+    let number = |at: usize, count: usize| {
+        bytes.get(at..at + count).map_or(0, |part| part.iter().rev().fold(0, |sum, &byte| sum << 8 | byte as usize))
+    };
+    let (width, layout) = match version {
+        1 => (22, 0),
+        WITH_LAYOUT => (number(67, 2), number(100, 4).min(bytes.len())),
+        _ => (number(45, 2), 0),
+    };
+    [(bytes.len() - layout) / width.max(SYMBOL_LEAST), layout / layout::ROW_LEAST]
+}
+
 /// One reading of a block with the tables as they are.
 fn call(version: u8, bytes: &[u8], sheet: &[u16; ffi::SHEET], tables: &mut Tables, out: &mut [u64; 16]) -> u32 {
     let Tables { symbology, layout, .. } = tables;
@@ -242,5 +275,54 @@ fn call(version: u8, bytes: &[u8], sheet: &[u16; ffi::SHEET], tables: &mut Table
             layout.len(),
             out,
         )
+    }
+}
+
+#[cfg(test)]
+mod tests {
+    use super::*;
+
+    /// A block of that version, width and count of symbols, which are NULs, and its rows.
+    fn of_symbols(version: u8, width: u16, count: usize) -> Vec<u8> {
+        let mut bytes = vec![0; 104];
+        if version > 1 {
+            bytes[45..47].copy_from_slice(&width.to_le_bytes());
+        }
+        bytes.extend((count as u32).to_le_bytes());
+        bytes.resize(108 + count * width as usize + 12, 0);
+        bytes
+    }
+
+    #[test]
+    fn a_guess_is_enough_for_wide_symbols_and_no_more_than_the_bytes_hold() {
+        for (version, width) in [(1, 22), (2, 16), (2, 71), (3, 71), (3, 1_000)] {
+            for count in [0, 1, 3, 1_000] {
+                let bytes = of_symbols(version, width, count);
+                let [symbology, layout] = guessed(version, &bytes);
+                assert!(symbology >= count && symbology * SYMBOL_LEAST <= bytes.len(), "{symbology} for {count}");
+                assert_eq!(layout, 0);
+                let mut tables = Tables::new(symbology);
+                assert_eq!(Block::read(version, &bytes, None, &mut tables).map(|block| block.rows().len()), Ok(count));
+            }
+        }
+    }
+
+    #[test]
+    fn a_guess_that_is_too_low_costs_no_more_than_a_second_reading() {
+        let bytes = of_symbols(3, 1, 1_000);
+        assert_eq!(guessed(3, &bytes), [1_120 / SYMBOL_LEAST, 0]);
+        let mut tables = Tables::new(1_000);
+        assert_eq!(Block::read(3, &bytes, None, &mut tables).map(|block| block.rows().len()), Ok(1_000));
+        assert_eq!(tables.symbology.len(), 6_000);
+    }
+
+    #[test]
+    fn bytes_that_are_no_block_are_guessed_too() {
+        for version in 0..=255 {
+            for length in 0..110 {
+                let [symbology, layout] = guessed(version, &vec![0xFF; length]);
+                assert!(24 * symbology + 36 * layout <= 3 * length, "version {version}, {length} bytes");
+            }
+        }
     }
 }

@@ -1,11 +1,16 @@
 use crate::{
-    block::{lent, TABLE_SHORT},
-    ffi, prelude, Block, Limits, Prelude, Refusal, RefusalKind, Sheet, Tables,
+    block::{judged, lent},
+    prelude, Block, Limits, Prelude, Refusal, RefusalKind, Sheet, Tables,
 };
-use std::fmt;
+use std::{
+    fmt,
+    io::{self, Read},
+};
 
 /// The length of a prelude.
 const PRELUDE: usize = 8;
+/// The room that the first bytes of a block are given, where the block is not shorter.
+const FIRST: usize = 32 << 10;
 
 /// A stream start that arrives in pieces, cut anywhere.
 ///
@@ -72,12 +77,28 @@ impl Feed {
         while let (Step::Needs(needed), false) = (step, rest.is_empty()) {
             let (now, later) = rest.split_at(needed.min(rest.len()));
             rest = later;
-            if let Err(refusal) = self.take(now) {
-                self.stage = Stage::Refused(refusal);
-            }
+            self.unless_refused(|feed| feed.hold(now).and_then(|()| feed.go_on()))?;
             step = self.step()?;
         }
         Ok(Fed { taken: piece.len() - rest.len(), step })
+    }
+
+    /// Reads what the start still needs from a source, straight into the feed's own store, and no byte after the start. [`Step::Needs`] is the
+    /// answer where the source ends before. Where the source has an error, what came until then is held, and another call goes on. A refusal
+    /// is in the error, and [`Feed::step`] has it too.
+    pub fn read_from(&mut self, source: &mut (impl Read + ?Sized)) -> io::Result<Step> {
+        let mut step = self.step().map_err(io::Error::other)?;
+        while let Step::Needs(needed) = step {
+            self.unless_refused(|feed| feed.room(1)).map_err(io::Error::other)?;
+            let most = needed.min(self.store.capacity() - self.store.len());
+            let came = (&mut *source).take(most as u64).read_to_end(&mut self.store);
+            self.unless_refused(Self::go_on).map_err(io::Error::other)?;
+            step = self.step().map_err(io::Error::other)?;
+            if came? < most {
+                break;
+            }
+        }
+        Ok(step)
     }
 
     /// How far the start has come. Nothing is read for that.
@@ -113,14 +134,38 @@ impl Feed {
         self.store.clear();
     }
 
-    /// Holds bytes of the present stage, and goes on to the next where they end it.
-    fn take(&mut self, bytes: &[u8]) -> Result<(), Refusal> {
+    /// Holds bytes of the present stage.
+    fn hold(&mut self, bytes: &[u8]) -> Result<(), Refusal> {
+        self.room(bytes.len())?;
+        self.store.extend_from_slice(bytes);
+        Ok(())
+    }
+
+    /// Makes room for so many bytes more of the present stage. The room doubles as they come and never passes the stage's end. So it is at most
+    /// [`FIRST`] or twice what came, whatever the prelude claims, and half as much more while the store moves.
+    fn room(&mut self, more: usize) -> Result<(), Refusal> {
+        let (held, room) = (self.store.len(), self.store.capacity());
+        if more <= room - held {
+            return Ok(());
+        }
         let whole = if let Stage::Block(whole) = self.stage { whole } else { PRELUDE };
-        hold(&mut self.store, bytes, whole)?;
-        if self.store.len() == whole {
-            self.stage = if whole == PRELUDE { self.announced()? } else { self.read()? };
+        let room = (2 * room).max(FIRST).min(whole).max(held + more);
+        self.store.try_reserve_exact(room - held).map_err(|_| Refusal::own(RefusalKind::NoMemory))
+    }
+
+    /// Goes on to the next stage where what is held ends the present one.
+    fn go_on(&mut self) -> Result<(), Refusal> {
+        match self.stage {
+            Stage::Prelude if self.store.len() == PRELUDE => self.stage = self.announced()?,
+            Stage::Block(whole) if self.store.len() == whole => self.stage = self.read()?,
+            _ => {}
         }
         Ok(())
+    }
+
+    /// Does a part of the work. A refusal is the feed's last stage.
+    fn unless_refused(&mut self, work: impl FnOnce(&mut Self) -> Result<(), Refusal>) -> Result<(), Refusal> {
+        work(self).inspect_err(|&refusal| self.stage = Stage::Refused(refusal))
     }
 
     /// The stage after a whole prelude.
@@ -137,40 +182,7 @@ impl Feed {
 
     /// The stage after a whole block, whose bytes are all held.
     fn read(&mut self) -> Result<Stage, Refusal> {
-        let mut out = [0; 20];
-        let mut number = self.call(&mut out)?;
-        if number == TABLE_SHORT {
-            self.tables.grow(out[10], out[11])?;
-            number = self.call(&mut out)?;
-            assert_ne!(number, TABLE_SHORT, "the library dbn_c broke its promise: the rows it needs are not enough");
-        }
-        Refusal::unless_read(number, out[ffi::PLACE])?;
-        let whole = self.store.len() as u64;
-        assert_eq!(out[16..19], [0, whole, 0], "the library dbn_c broke its promise: a whole start is not done");
-        Ok(Stage::Done(*out.first_chunk().expect("sixteen of twenty numbers")))
-    }
-
-    /// The reader's answer on a store that is all held.
-    fn call(&mut self, out: &mut [u64; 20]) -> Result<u32, Refusal> {
-        let sheet = lent(self.store[3], self.sheet.as_deref())?;
-        let Tables { symbology, layout, .. } = &mut self.tables;
-        let (store, nothing) = (&mut self.store, [0u8; 0]);
-        // SAFETY: each pointer and length are those of a slice, and no two of them overlap.
-        Ok(unsafe {
-            ffi::dbn_feed(
-                store.len() as u64,
-                store.as_mut_ptr(),
-                store.len(),
-                nothing.as_ptr(),
-                0,
-                sheet,
-                symbology.as_mut_ptr(),
-                symbology.len(),
-                layout.as_mut_ptr(),
-                layout.len(),
-                out,
-            )
-        })
+        judged(self.store[3], &self.store[PRELUDE..], self.sheet.as_deref(), &mut self.tables).map(Stage::Done)
     }
 }
 
@@ -180,15 +192,4 @@ impl fmt::Debug for Feed {
         shown.field("held", &self.store.len()).field("step", &self.step()).field("limits", &self.limits);
         shown.field("sheet", &self.sheet.is_some()).finish_non_exhaustive()
     }
-}
-
-/// Puts bytes after those that are held. The room doubles as they come, and never passes `whole`.
-fn hold(store: &mut Vec<u8>, bytes: &[u8], whole: usize) -> Result<(), Refusal> {
-    let wanted = store.len() + bytes.len();
-    if wanted > store.capacity() {
-        let room = (2 * store.capacity()).clamp(wanted, whole);
-        store.try_reserve_exact(room - store.len()).map_err(|_| Refusal::own(RefusalKind::NoMemory))?;
-    }
-    store.extend_from_slice(bytes);
-    Ok(())
 }

@@ -7,6 +7,10 @@ use crate::{
 };
 use std::fmt;
 
+/// The fewest bytes of a layout that one of its rows is guessed for. The row itself takes 36, so what is guessed is at most three times the
+/// layout's own bytes.
+pub(crate) const ROW_LEAST: usize = 12;
+
 /// An accepted layout, with every name a part of the layout's own bytes.
 #[derive(Clone, Copy)]
 pub struct Layout<'a> {
@@ -19,6 +23,7 @@ impl<'a> Layout<'a> {
     /// Reads a layout for a stream of that symbol width. The table grows as needed, up to its limit.
     pub fn read(bytes: &'a [u8], width: u16, sheet: &Sheet, tables: &'a mut Tables) -> Result<Self, Refusal> {
         let mut out = [0; 16];
+        tables.guess(0, bytes.len() / ROW_LEAST);
         let mut number = call(bytes, width, sheet, tables, &mut out);
         if number == TABLE_SHORT {
             tables.grow(0, out[11])?;

@@ -1,8 +1,8 @@
 //! The start of a DBN stream: prelude, metadata, symbology and layout, and the records after it in versions 1 to 3, read by proved code.
 //!
 //! The reading itself is done by the C functions of the library `dbn_c` ([`ffi`]), whose promises are proved. This package lends
-//! them their buffers and gives back names as parts of the caller's own bytes. [`Feed`] takes a stream's start in pieces
-//! and [`Frames`] the records after it, [`Block`] and [`Layout`] take what is already whole, and [`Refusal`] tells what was refused, and at which byte.
+//! them their buffers and gives back names as parts of the caller's own bytes. [`Feed`] reads a stream's start from a source or takes it in pieces,
+//! and [`Frames`] takes the records after it, [`Block`] and [`Layout`] take what is already whole, and [`Refusal`] tells what was refused, and at which byte.
 //! The dates of an interval are [`Day`]s, which can be subtracted, and an interval tells its [`Mapping`]. [`Columns`] has the symbology by column.
 //!
 //! Nothing here stands in for what is missing: where the library broke its promise, the call panics and says which promise.
@@ -11,7 +11,7 @@
 #[cfg(not(target_pointer_width = "64"))]
 compile_error!("the library dbn_c is for machines whose size_t has 64 bits");
 
-/// The README's example compiles.
+/// The README's examples compile.
 #[cfg(doctest)]
 #[doc = include_str!("../README.md")]
 struct Readme;

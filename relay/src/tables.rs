@@ -2,11 +2,13 @@ use crate::{
     ffi::{LAYOUT_ROW, SYMBOLOGY_ROW},
     promise, Refusal, RefusalKind,
 };
+use std::alloc::{alloc_zeroed, Layout};
 
 /// The most that a stream start may take.
 ///
 /// A [`Feed`](crate::Feed) takes less than `2 * bytes + 36 * rows` bytes and 4 KiB of memory: what has come, twice while the store grows,
-/// and 24 bytes for a row of symbology or 36 for one of a layout. Memory grows with what arrives, not with what a prelude claims.
+/// and 24 bytes for a row of symbology or 36 for one of a layout. Memory grows with what arrives, not with what a prelude claims. The first
+/// tables for a block are guessed, and have at most three times its bytes.
 #[derive(Debug, Clone, Copy, PartialEq, Eq)]
 pub struct Limits {
     /// The most bytes of a stream start, the prelude's eight among them. One that announces more is refused by 2.
@@ -22,7 +24,8 @@ impl Default for Limits {
     }
 }
 
-/// Row tables to read into. They grow to what a block or a layout needs, up to a limit, and can be used again.
+/// Row tables to read into. They grow to what a block or a layout may need by its length, and then to what it needs, up to a limit, and can be
+/// used again.
 #[derive(Debug, Clone)]
 pub struct Tables {
     pub(crate) symbology: Vec<u32>,
@@ -42,8 +45,28 @@ impl Tables {
         if symbology.checked_add(layout).is_none_or(|rows| rows > self.most) {
             return Err(Refusal::own(RefusalKind::TableShort));
         }
+        self.keep_within(symbology, layout);
         room(&mut self.symbology, symbology, SYMBOLOGY_ROW)?;
         room(&mut self.layout, layout, LAYOUT_ROW)
+    }
+
+    /// Makes room for rows that may be needed, as far as the limit and the memory go.
+    pub(crate) fn guess(&mut self, symbology: usize, layout: usize) {
+        let symbology = symbology.min(self.most);
+        let layout = layout.min(self.most - symbology);
+        self.keep_within(symbology, layout);
+        // Where there is no memory for a guess, the rows that are needed may still find some.
+        let _ = room(&mut self.symbology, symbology, SYMBOLOGY_ROW);
+        let _ = room(&mut self.layout, layout, LAYOUT_ROW);
+    }
+
+    /// Gives both tables back where one that is kept would pass the limit with what the other grows to.
+    fn keep_within(&mut self, symbology: usize, layout: usize) {
+        let symbology = symbology.max(self.symbology.len() / SYMBOLOGY_ROW);
+        let layout = layout.max(self.layout.len() / LAYOUT_ROW);
+        if symbology.saturating_add(layout) > self.most {
+            (self.symbology, self.layout) = (Vec::new(), Vec::new());
+        }
     }
 }
 
@@ -61,10 +84,19 @@ fn room(table: &mut Vec<u32>, rows: usize, width: usize) -> Result<(), Refusal> 
     if table.len() < numbers {
         // The old numbers are given back first, so that never both are there.
         *table = Vec::new();
-        table.try_reserve_exact(numbers).map_err(|_| no_memory)?;
-        table.resize(numbers, 0);
+        *table = zeroed(numbers).ok_or(no_memory)?;
     }
     Ok(())
+}
+
+/// So many numbers, one or more, all 0, or `None` where there is no memory. The system gives large ones as pages that hold zeros already, so rows
+/// that are never written cost nothing.
+fn zeroed(numbers: usize) -> Option<Vec<u32>> {
+    let layout = Layout::array::<u32>(numbers).ok().filter(|layout| layout.size() > 0)?;
+    // SAFETY: the layout has a size, which is not 0.
+    let at = unsafe { alloc_zeroed(layout) }.cast::<u32>();
+    // SAFETY: where it is not null, the memory is the allocator's, for so many numbers, and each of them is 0.
+    (!at.is_null()).then(|| unsafe { Vec::from_raw_parts(at, numbers, numbers) })
 }
 
 /// The numbers of a table as rows that stand one after the other.

@@ -79,6 +79,29 @@ fn every_piece_is_answered_as_the_library_answers_it() {
 }
 
 #[test]
+fn a_source_is_answered_as_its_bytes_are() {
+    let mut ends = [0; 3];
+    for seed in 0..2_000 {
+        let mut r = Rng::new(seed);
+        let sheet = gen::plain_sheet();
+        let version = 1 + r.below(4) as u8;
+        let mut bytes = gen::stream(&mut r, &sheet, version);
+        for _ in 0..r.pick(&[0, 1, 2]) {
+            bytes = gen::damage(&mut r, &bytes);
+        }
+        let mut feeds = [(); 2].map(|()| Feed::new(Limits::default()).with_sheet(Sheet::from(sheet.0)));
+        let [fed, read] = &mut feeds;
+        let taken = fed.feed(&bytes).map(|fed| fed.taken).unwrap_or(fed.held().len());
+        let mut source = &bytes[..];
+        assert_eq!(read.read_from(&mut source).ok(), fed.step().ok(), "seed {seed}");
+        assert_eq!((read.step().map_err(told), read.held()), (fed.step().map_err(told), fed.held()), "seed {seed}");
+        assert_eq!(source, &bytes[taken..], "seed {seed}");
+        ends[fed.step().map_or(0, |step| if step == Step::Done { 1 } else { 2 })] += 1;
+    }
+    assert!(ends.iter().all(|&end| end > 100), "refused, done, waiting: {ends:?}");
+}
+
+#[test]
 fn after_done_and_after_a_refusal_nothing_is_taken() {
     let (bytes, _) = capture();
     let mut feed = Feed::new(Limits::default());

@@ -1,5 +1,5 @@
 //! What a feed takes of the machine: it grows with what arrives, stays below the stated bound, and is told where there is none. Records take nothing.
-use dbn_start::{Feed, Frames, Limits, Refusal, RefusalKind, Step};
+use dbn_start::{Block, Feed, Frames, Limits, Refusal, RefusalKind, Sheet, Step, Tables};
 use std::{
     alloc::{GlobalAlloc, Layout, System},
     cell::Cell,
@@ -51,6 +51,9 @@ fn bound(limits: Limits) -> usize {
     2 * limits.bytes + 36 * limits.rows + 4096
 }
 
+/// The room that the first bytes of a block are given.
+const FIRST: usize = 32 << 10;
+
 /// A version 3 start with `count` symbols of one byte.
 fn one_byte_symbols(count: usize) -> Vec<u8> {
     let mut block = vec![0; 104];
@@ -82,14 +85,69 @@ fn eight_bytes_that_claim_the_limit_take_less_than_64_kib() {
     let ((step, _), took) = most(|| fed(&claim, limits));
     assert_eq!(step, Ok(Step::Needs((1 << 32) - 8)));
     assert!(took < 64 << 10, "{took} bytes");
-    // And so on: never more than a few times what came.
+    // And so on: never more than a few times what came, and the first room.
     for came in [100, 10_000, 1_000_000] {
         let mut bytes = claim.to_vec();
         bytes.resize(came, 0);
         let ((step, _), took) = most(|| fed(&bytes, limits));
         assert_eq!(step, Ok(Step::Needs((1 << 32) - came)));
-        assert!(took < 3 * came + 4096, "{took} bytes for {came}");
+        assert!(took < 3 * came + FIRST, "{took} bytes for {came}");
+        let (feed, took) = most(|| {
+            let mut feed = Feed::new(limits);
+            assert_eq!(feed.read_from(&mut &bytes[..]).expect("no refusal"), Step::Needs((1 << 32) - came));
+            feed
+        });
+        assert!(took < 3 * came + FIRST, "{took} bytes for {came}");
+        assert_eq!(feed.held(), bytes);
     }
+}
+
+#[test]
+fn a_block_that_is_refused_takes_a_few_times_its_bytes() {
+    for came in [200, 5_000, 300_000] {
+        // Every width and every length of a layout that the bytes can claim, and bytes that no version accepts.
+        for (version, filler) in (1..5).flat_map(|version| [0x00, 0x01, 0x10, 0xFF].map(|filler| (version, filler))) {
+            let mut block = vec![filler; came];
+            block[..16].fill(0xFF);
+            let sheet = Sheet::from([0; 520]);
+            let (number, took) = most(|| {
+                Block::read(version, &block, &sheet, &mut Tables::default()).map(|_| ()).map_err(Refusal::number)
+            });
+            assert_eq!(number, Err(20), "a dataset that is no text");
+            assert!(took <= 3 * came, "{took} bytes for {came} of version {version}");
+        }
+    }
+}
+
+/// A version 4 start with `count` structs of nothing.
+fn empty_structs(count: u16) -> Vec<u8> {
+    let mut layout = vec![1, 0, 0, 0];
+    layout.extend(count.to_le_bytes());
+    layout.extend([8, 0, 0, 0, 0, 0, 0, 0].repeat(count as usize));
+    layout.extend([0; 2]);
+    let mut block = vec![0; 100];
+    block.extend((layout.len() as u32).to_le_bytes());
+    block.extend(layout);
+    block.extend(16u32.to_le_bytes());
+    block.extend([0; 16]);
+    let mut stream = b"DBN\x04".to_vec();
+    stream.extend((block.len() as u32).to_le_bytes());
+    stream.extend(block);
+    stream
+}
+
+#[test]
+fn streams_of_many_kinds_after_each_other_stay_below_the_bound() {
+    let limits = Limits { bytes: 500_000, rows: 50_000 };
+    let streams = [one_byte_symbols(50_000), empty_structs(50_000), one_byte_symbols(50_000), empty_structs(20_000)];
+    let (_, took) = most(|| {
+        let mut feed = Feed::new(limits).with_sheet(Sheet::from([0; 520]));
+        for stream in &streams {
+            feed.reset();
+            assert_eq!(feed.feed(stream).map(|fed| fed.step), Ok(Step::Done));
+        }
+    });
+    assert!(took < bound(limits), "{took} bytes");
 }
 
 #[test]

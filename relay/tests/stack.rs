@@ -178,7 +178,7 @@ fn inputs() -> (Vec<Measured>, Vec<u8>) {
         ("60,000 structs", shapes::structs(60_000), LARGE),
         ("3,600 fields in reverse", tiled(3_600, 1, 1, Order::Reverse), LARGE),
     ];
-    (layouts, shapes::block(3, 70, &shapes::foreign(70, 100)))
+    (layouts, shapes::block(3, 70, &shapes::lettered(70, 100, "é")))
 }
 
 #[test]

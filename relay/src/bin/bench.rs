@@ -3,28 +3,65 @@
 //! First texts beside the standard library, then records beside a plain loop, what a relay meets every day, and what a hostile sender would make, at
 //! three sizes each: a cost that grows with the bytes doubles from one size to the next. `relay/bench` prints the same days
 //! beside the crate dbn.
+//!
+//! `bench --shapes` lists the hostile shapes of the C functions, and `bench --shape NAME N` makes one call on one of them at size N, without a clock:
+//! `relay/instructions` counts its instructions.
 #[path = "../../measure/mod.rs"]
 mod bench;
 
 use bench::{
-    alone, beside, frames, in_turn,
-    shapes::{self, Order},
+    alone, beside,
+    calls::{Answer, Function},
+    frames,
+    hostile::Shape,
+    in_turn, median, medians, shapes, turns_of,
 };
-use dbn_start::{ffi, Feed, Frames, Limits, Step};
-use std::hint::black_box;
+use dbn_start::{Block, Feed, Frames, Limits, Step, Tables};
+use std::{env, hint::black_box, io::Read, process::ExitCode};
 
-fn main() {
-    texts();
-    records();
-    daily();
-    hostile();
+fn main() -> ExitCode {
+    let words: Vec<String> = env::args().skip(1).collect();
+    match &words.iter().map(String::as_str).collect::<Vec<_>>()[..] {
+        [] => {
+            texts();
+            records();
+            daily();
+            hostile();
+        }
+        ["--shapes"] => {
+            Shape::all().iter().for_each(|shape| println!("{} {} {}", shape.function, shape.n, shape.name()));
+        }
+        ["--shape", name, n] => return one_call(name, n),
+        _ => return usage(),
+    }
+    ExitCode::SUCCESS
+}
+
+fn usage() -> ExitCode {
+    eprintln!("usage: bench, bench --shapes or bench --shape NAME N");
+    ExitCode::FAILURE
+}
+
+/// One call on a shape.
+fn one_call(name: &str, n: &str) -> ExitCode {
+    let shape = Shape::all().into_iter().find(|shape| shape.name() == name);
+    let (Some(shape), Ok(n)) = (shape, n.parse()) else { return usage() };
+    let bytes = shape.bytes(n);
+    assert_eq!(shape.ample(&bytes)().number, shape.number(), "{name}");
+    ExitCode::SUCCESS
 }
 
 fn texts() {
     println!("texts: dbn_text beside std::str::from_utf8, a symbol each");
-    for (width, letters) in
-        [(22, "SYMBL"), (71, "SYMBL"), (22, "ÄPFEL"), (71, "ÄPFEL"), (71, "Съешь ещё этих мягких французских булок")]
-    {
+    for (width, letters) in [
+        (22, "SYMBL"),
+        (71, "SYMBL"),
+        (22, "ÄPFEL"),
+        (71, "ÄPFEL"),
+        (22, "€SYMBL"),
+        (71, "€SYMBL"),
+        (71, "Съешь ещё этих мягких французских булок"),
+    ] {
         let mut symbol = letters.as_bytes().to_vec();
         symbol.truncate(width);
         while std::str::from_utf8(&symbol).is_err() {
@@ -69,169 +106,153 @@ fn records() {
     tell("the bare copy", copied);
 }
 
-/// The time of `dbn_block` with tables that are long enough.
-fn block(version: u8, bytes: &[u8]) -> f64 {
-    let sheet = shapes::sheet();
-    let mut out = [0; 16];
-    let mut call = |symbology: &mut [u32], layout: &mut [u32]| {
-        // SAFETY: every pointer is to a buffer of the given length, and no two overlap.
-        let number = unsafe {
-            ffi::dbn_block(
-                version,
-                black_box(bytes).as_ptr(),
-                bytes.len(),
-                sheet.numbers(),
-                symbology.as_mut_ptr(),
-                symbology.len(),
-                layout.as_mut_ptr(),
-                layout.len(),
-                &mut out,
-            )
-        };
-        (number, out[10] as usize, out[11] as usize)
-    };
-    let (number, s, l) = call(&mut [], &mut []);
-    assert_eq!(number, 3, "accepted, with rows");
-    let (mut symbology, mut layout) = (vec![0; s * ffi::SYMBOLOGY_ROW], vec![0; l * ffi::LAYOUT_ROW]);
-    assert_eq!(call(&mut symbology, &mut layout), (0, s, l));
-    alone(|| call(&mut symbology, &mut layout))
+/// The time of a call with tables that are just long enough, and its answer.
+fn timed(function: Function, version: u8, bytes: &[u8]) -> (f64, Answer) {
+    let mut call = function.exact(version, bytes);
+    let answer = call();
+    (alone(call), answer)
 }
 
-/// The time of the README's loop over a start in pieces, by a new feed and by one whose tables are long enough.
-fn feed(version: u8, block: &[u8]) -> (f64, f64) {
-    let stream = shapes::stream_of(version, block);
-    let read = |feed: &mut Feed| {
-        let mut socket = &stream[..];
-        while let Ok(Step::Needs(n)) = feed.step() {
-            let (piece, later) = socket.split_at(n.min(4096).min(socket.len()));
-            socket = later;
-            feed.feed(black_box(piece)).expect("an accepted start");
-        }
-    };
-    let mut feed = Feed::new(Limits::default());
-    let again = |feed: &mut Feed| {
-        feed.reset();
-        read(feed);
-    };
-    (alone(|| read(&mut Feed::new(Limits::default()))), alone(|| again(&mut feed)))
-}
-
-/// The time of `dbn_layout` with a table that is long enough, and its answer.
-fn layout(bytes: &[u8]) -> (f64, u32) {
-    let sheet = shapes::sheet();
-    let mut out = [0; 16];
-    let mut call = |rows: &mut [u32]| {
-        // SAFETY: every pointer is to a buffer of the given length, and no two overlap.
-        let number = unsafe {
-            let bytes = black_box(bytes);
-            ffi::dbn_layout(bytes.as_ptr(), bytes.len(), 71, sheet.numbers(), rows.as_mut_ptr(), rows.len(), &mut out)
-        };
-        (number, out[11] as usize)
-    };
-    let (number, rows) = call(&mut []);
-    let mut table = vec![0; if number == 3 { rows * 9 } else { 0 }];
-    let number = call(&mut table).0;
-    (alone(|| call(&mut table)), number)
-}
-
-/// The time of `dbn_write_layout` for the rows of a layout.
-fn write(bytes: &[u8]) -> f64 {
-    let (sheet, mut table) = (shapes::sheet(), dbn_start::Tables::default());
-    let read = dbn_start::Layout::read(bytes, 71, &sheet, &mut table).expect("an accepted layout");
-    let mut output = vec![0; bytes.len()];
-    let mut call = || dbn_start::write_layout(black_box(read.numbers()), bytes, 1, 71, &sheet, &mut output);
-    assert_eq!(call(), Ok(bytes.len()));
-    alone(call)
+/// A block of version 3, 1,000 symbols of 71 bytes and 100 mappings of 4 intervals: (a).
+fn usual() -> Vec<u8> {
+    shapes::block(3, 71, &shapes::symbology(71, 1000, 100, 4))
 }
 
 fn daily() {
     println!("daily: bytes, time, bytes per ns");
-    let tell = |what: &str, bytes: &[u8], time: f64| {
-        println!("  {what}: {} bytes, {:.1} us, {:.2}", bytes.len(), time / 1e3, bytes.len() as f64 / time);
+    let tell = |what: &str, function: Function, version: u8, bytes: &[u8]| {
+        let (time, answer) = timed(function, version, bytes);
+        assert_eq!(answer.number, 0, "{what}");
+        println!("  {function}, {what}: {} bytes, {:.1} us, {:.2}", bytes.len(), time / 1e3, bytes.len() as f64 / time);
     };
-    let many = shapes::block(3, 71, &shapes::symbology(71, 1000, 100, 4));
-    tell("dbn_block, version 3, width 71, 1,000 symbols, 100 mappings of 4", &many, block(3, &many));
-    let (first, again) = feed(3, &many);
-    tell("a new Feed, version 3, the same in pieces of 4,096 bytes", &many, first);
-    tell("a Feed that begins anew, the same", &many, again);
-    let many = shapes::block(1, 22, &shapes::symbology(22, 1000, 100, 4));
-    tell("dbn_block, version 1, the same", &many, block(1, &many));
+    tell("version 3, width 71, 1,000 symbols, 100 mappings of 4 (a)", Function::Block, 3, &usual());
+    starts(3, &usual());
+    tell("version 1, the same", Function::Block, 1, &shapes::block(1, 22, &shapes::symbology(22, 1000, 100, 4)));
     let inner = shapes::daily();
-    let many = shapes::block4(&inner);
-    tell("dbn_block, version 4, 20 records with 405 fields", &many, block(4, &many));
-    tell("dbn_write_layout, that layout", &inner, write(&inner));
+    tell("version 4, 20 records with 405 fields", Function::Block, 4, &shapes::block4(&inner));
+    tell("that layout", Function::Write, 4, &inner);
+}
+
+/// A way to read a start.
+type Way = fn(&mut Feed, &[u8]);
+
+/// The start of a stream beside one `Block::read` of the same bytes: a new feed beside new tables, and one that begins anew beside tables that
+/// are kept. A feed holds what comes, so every byte is copied once at least, and the bare copy is told too.
+fn starts(version: u8, block: &[u8]) {
+    let stream = shapes::stream_of(version, block);
+    let ways: [(&str, Way); 4] = [
+        ("Feed::read_from a slice", read_from),
+        ("Feed::feed, pieces of 4,096 bytes", |feed, stream| in_pieces(feed, stream, 4_096)),
+        ("Feed::feed, pieces of 65,536 bytes", |feed, stream| in_pieces(feed, stream, 65_536)),
+        ("Feed::feed, pieces of 4,096 bytes that are read from a slice", through_a_buffer),
+    ];
+    let mut store = stream.clone();
+    let mut copy = || black_box(&mut store).copy_from_slice(black_box(&stream));
+    for (what, read) in ways {
+        let mut first = || read(&mut Feed::new(Limits::default()), black_box(&stream));
+        let mut made = || block_read(version, block, &mut Tables::default());
+        let turns = turns_of(301, [&mut first, &mut made, &mut copy]);
+        tell_start(&format!("{what}, a new Feed beside Block::read with new tables"), &turns);
+        let (mut feed, mut tables) = (Feed::new(Limits::default()), Tables::default());
+        let mut again = || {
+            feed.reset();
+            read(&mut feed, black_box(&stream));
+        };
+        let mut kept = || block_read(version, block, &mut tables);
+        let turns = turns_of(301, [&mut again, &mut kept, &mut copy]);
+        tell_start(&format!("{what}, a Feed that begins anew beside Block::read with kept tables"), &turns);
+    }
+}
+
+/// The ratios are medians of those of each turn.
+fn tell_start(what: &str, turns: &[[f64; 3]]) {
+    let of_block = |i: usize| median(turns.iter().map(|turn| turn[i] / turn[1]).collect());
+    let [feed, block, _] = medians(turns).map(|time| time / 1e3);
+    println!("  {what}: {feed:.1} us, {block:.1} us, {:.2} of it; the bare copy {:.2}", of_block(0), of_block(2));
+}
+
+fn block_read(version: u8, bytes: &[u8], tables: &mut Tables) {
+    black_box(Block::read(version, black_box(bytes), None, tables).expect("an accepted block"));
+}
+
+/// The README's start. What the slice copies into the feed's store counts.
+fn read_from(feed: &mut Feed, mut socket: &[u8]) {
+    assert_eq!(feed.read_from(&mut socket).expect("an accepted start"), Step::Done);
+}
+
+/// The start in pieces of at most so many bytes, and none past the block. The pieces are parts of the stream, so what a socket copies does not count.
+fn in_pieces(feed: &mut Feed, mut socket: &[u8], most: usize) {
+    while let Step::Needs(n) = feed.step().expect("an accepted start") {
+        let (piece, later) = socket.split_at(n.min(most).min(socket.len()));
+        socket = later;
+        feed.feed(black_box(piece)).expect("an accepted start");
+    }
+}
+
+/// The same, where what a socket copies into a buffer counts.
+fn through_a_buffer(feed: &mut Feed, mut socket: &[u8]) {
+    let mut buffer = [0; 4_096];
+    while let Step::Needs(n) = feed.step().expect("an accepted start") {
+        let n = socket.read(&mut buffer[..n.min(4_096)]).expect("a piece");
+        feed.feed(black_box(&buffer[..n])).expect("an accepted start");
+    }
 }
 
 fn hostile() {
-    println!("hostile: bytes, time, and times the time of half the size");
-    type Shape = fn(usize) -> Vec<u8>;
-    let shapes: [(&str, usize, Shape); 13] = [
-        ("structs with nothing in them", 65_535, shapes::structs),
-        ("fields that name the last of as many structs, which has as many fields", 3_600, shapes::last_struct),
-        ("records of one field", 60_000, shapes::records),
-        ("labels in one def", 16_000, |n| shapes::labels(n, false)),
-        ("labels in one def, the last code twice (55)", 16_000, |n| shapes::labels(n, true)),
-        ("label defs of one label", 60_000, shapes::label_defs),
-        ("fields in order", 3_600, |n| shapes::tiled(n, 1, 1, Order::Rising)),
-        ("fields in reverse", 3_600, |n| shapes::tiled(n, 1, 1, Order::Reverse)),
-        ("fields shuffled", 3_600, |n| shapes::tiled(n, 1, 1, Order::Shuffled)),
-        ("records of 3,600 fields in order", 50, |n| shapes::tiled(3_600, 1, n, Order::Rising)),
-        ("records of 3,600 fields in reverse", 50, |n| shapes::tiled(3_600, 1, n, Order::Reverse)),
-        ("records of 3,600 fields shuffled", 50, |n| shapes::tiled(3_600, 1, n, Order::Shuffled)),
-        ("records of 64 fields of 1,000 bytes in reverse", 2_700, |n| shapes::tiled(64, 1_000, n, Order::Reverse)),
-    ];
-    for (what, n, shape) in shapes {
-        rising(&format!("dbn_layout, {what}"), n, |n| {
-            let bytes = shape(n);
-            let (time, number) = layout(&bytes);
-            assert_eq!(number, if what.ends_with("(55)") { 55 } else { 0 }, "{what}");
-            (bytes.len(), time)
+    println!("hostile: bytes, time, times the time of half the size; and the time for each byte as a multiple of that of (a), dbn_block of the");
+    println!("  version 3 block above. Bytes read or written count, and 24 for each row that is written, or read by the writer");
+    let usual = usual();
+    let mut worst = (0.0, String::new());
+    for shape in Shape::all() {
+        let name = shape.name();
+        let times = rising(&name, shape.n, &usual, |n, measure| {
+            let bytes = shape.bytes(n);
+            let mut call = shape.exact(&bytes);
+            let answer = call();
+            assert_eq!(answer.number, shape.number(), "{name}");
+            measure(&mut || _ = black_box(call()), bytes.len(), answer.cost(bytes.len()));
         });
-        if !what.ends_with("(55)") {
-            rising(&format!("dbn_write_layout, {what}"), n, |n| {
-                let bytes = shape(n);
-                (bytes.len(), write(&bytes))
-            });
+        println!();
+        if times > worst.0 {
+            worst = (times, name);
         }
     }
-    let blocks: [(&str, usize, Shape); 6] = [
-        ("symbols of 22 bytes", 200_000, |n| shapes::block(3, 22, &shapes::symbology(22, n, 0, 0))),
-        ("symbols of one byte", 1_000_000, |n| shapes::block(3, 1, &shapes::symbology(1, n, 0, 0))),
-        ("mappings of no intervals, width 0", 500_000, |n| shapes::block(3, 0, &shapes::symbology(0, 0, n, 0))),
-        ("symbols of 70 bytes of two-byte letters", 50_000, |n| shapes::block(3, 70, &shapes::foreign(70, n))),
-        ("intervals with dates of a year, width 0", 200_000, |n| shapes::block(3, 0, &shapes::intervals(n, 12))),
-        ("intervals with dates of all years, width 0", 200_000, |n| {
-            shapes::block(3, 0, &shapes::intervals(n, 120_000))
-        }),
-    ];
-    for (what, n, shape) in blocks {
-        rising(&format!("dbn_block, {what}"), n, |n| {
-            let bytes = shape(n);
-            let time = block(3, &bytes);
-            (bytes.len(), time)
-        });
-    }
-    hostile_records();
+    println!("  the worst is {:.2} of (a): {}", worst.0, worst.1);
+    hostile_records(&usual);
 }
 
-/// Records of one length, in pieces of one byte and of 64 KiB.
-fn hostile_records() {
+/// Records of one length, in pieces of one byte and of 64 KiB. These are calls: each piece is one, and so is each record.
+fn hostile_records(usual: &[u8]) {
     for (words, n, piece) in [(4, 65_536, 1), (4, 65_536, 64 << 10), (255, 1_024, 1)] {
-        rising(&format!("Frames, records of {} bytes in pieces of {piece}", 4 * words as usize), n, |n| {
+        let name = format!("Frames, records of {} bytes in pieces of {piece}", 4 * words as usize);
+        rising(&name, n, usual, |n, measure| {
             let stream = [words].repeat(4 * words as usize * n);
-            (stream.len(), alone(|| read_records(black_box(&stream[..]).chunks(piece))))
+            let mut read = || _ = black_box(read_records(black_box(&stream[..]).chunks(piece)));
+            measure(&mut read, stream.len(), stream.len() as f64);
         });
+        println!("{}", if piece == 1 { ", apart: a call for each byte" } else { ", apart: a call for each record" });
     }
 }
 
-/// Prints the times of a quarter, a half and the whole of `n`.
-fn rising(what: &str, n: usize, time: impl Fn(usize) -> (usize, f64)) {
-    let mut before = None;
-    let times = [n / 4, n / 2, n].map(|n| {
-        let (bytes, time) = time(n);
-        let ratio = before.map_or(String::new(), |before| format!(" (x {:.2})", time / before));
-        before = Some(time);
-        format!("{bytes} bytes {:.0} us{ratio}", time / 1e3)
-    });
-    println!("  {n} {what}: {}", times.join(", "));
+/// Measures work on so many bytes, which cost as much as so many.
+type Measure<'a> = &'a mut dyn FnMut(&mut dyn FnMut(), usize, f64);
+
+/// Prints the times of a quarter, a half and the whole of `n`, and gives the time for each byte of the whole as a multiple of that of (a).
+fn rising(what: &str, n: usize, usual: &[u8], work: impl Fn(usize, Measure)) -> f64 {
+    let mut call = Function::Block.exact(3, usual);
+    let usual = call().cost(usual.len());
+    let (mut before, mut of_usual) = (None, 0.0);
+    print!("  {n} {what}:");
+    for n in [n / 4, n / 2, n] {
+        work(n, &mut |work, bytes, cost| {
+            let turns = turns_of(31, [work, &mut || _ = black_box(call())]);
+            let time = medians(&turns)[0];
+            of_usual = median(turns.iter().map(|turn| turn[0] / turn[1] * usual / cost).collect());
+            let ratio = before.map_or(String::new(), |before| format!(" (x {:.2})", time / before));
+            print!(" {bytes} bytes {:.0} us{ratio},", time / 1e3);
+            before = Some(time);
+        });
+    }
+    print!(" {of_usual:.2} of (a)");
+    of_usual
 }
