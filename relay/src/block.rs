@@ -71,7 +71,16 @@ impl<'a> Block<'a> {
         sheet: impl Into<Option<&'s Sheet>>,
         tables: &'a mut Tables,
     ) -> Result<Self, Refusal> {
-        let out = judged(version, bytes, sheet.into(), tables)?;
+        let sheet = lent(version, sheet.into())?;
+        guess(version, bytes, tables);
+        let mut out = [0; 16];
+        let mut number = call(version, bytes, sheet, tables, &mut out);
+        if number == TABLE_SHORT {
+            tables.grow(out[10], out[11])?;
+            number = call(version, bytes, sheet, tables, &mut out);
+            assert_ne!(number, TABLE_SHORT, "the library dbn_c broke its promise: the rows it needs are not enough");
+        }
+        Refusal::unless_read(number, out[ffi::PLACE])?;
         Ok(Self::accepted(version, bytes, &out, tables))
     }
 
@@ -220,26 +229,11 @@ impl fmt::Debug for Block<'_> {
     }
 }
 
-/// The numbers of a block that is accepted. It is read once where the guessed rows are enough, and else twice: the first reading tells how
-/// many it needs.
-pub(crate) fn judged(
-    version: u8,
-    bytes: &[u8],
-    sheet: Option<&Sheet>,
-    tables: &mut Tables,
-) -> Result<[u64; 16], Refusal> {
-    let sheet = lent(version, sheet)?;
+/// Makes room for the rows that a block may have. Where that is enough the block is read once, and else twice: the first reading tells how
+/// many rows it needs.
+pub(crate) fn guess(version: u8, bytes: &[u8], tables: &mut Tables) {
     let [symbology, layout] = guessed(version, bytes);
     tables.guess(symbology, layout);
-    let mut out = [0; 16];
-    let mut number = call(version, bytes, sheet, tables, &mut out);
-    if number == TABLE_SHORT {
-        tables.grow(out[10], out[11])?;
-        number = call(version, bytes, sheet, tables, &mut out);
-        assert_ne!(number, TABLE_SHORT, "the library dbn_c broke its promise: the rows it needs are not enough");
-    }
-    Refusal::unless_read(number, out[ffi::PLACE])?;
-    Ok(out)
 }
 
 /// The rows of symbology and of layout that a block may have, by its bytes. Each row of symbology has a symbol of the stated width in it, so below

@@ -1,6 +1,6 @@
 use crate::{
-    block::{judged, lent},
-    prelude, Block, Limits, Prelude, Refusal, RefusalKind, Sheet, Tables,
+    block::{guess, lent, TABLE_SHORT},
+    ffi, prelude, Block, Limits, Prelude, Refusal, RefusalKind, Sheet, Tables,
 };
 use std::{
     fmt,
@@ -182,7 +182,41 @@ impl Feed {
 
     /// The stage after a whole block, whose bytes are all held.
     fn read(&mut self) -> Result<Stage, Refusal> {
-        judged(self.store[3], &self.store[PRELUDE..], self.sheet.as_deref(), &mut self.tables).map(Stage::Done)
+        guess(self.store[3], &self.store[PRELUDE..], &mut self.tables);
+        let mut out = [0; 20];
+        let mut number = self.call(&mut out)?;
+        if number == TABLE_SHORT {
+            self.tables.grow(out[10], out[11])?;
+            number = self.call(&mut out)?;
+            assert_ne!(number, TABLE_SHORT, "the library dbn_c broke its promise: the rows it needs are not enough");
+        }
+        Refusal::unless_read(number, out[ffi::PLACE])?;
+        let whole = self.store.len() as u64;
+        assert_eq!(out[16..19], [0, whole, 0], "the library dbn_c broke its promise: a whole start is not done");
+        Ok(Stage::Done(*out.first_chunk().expect("sixteen of twenty numbers")))
+    }
+
+    /// The reader's answer on a store that is all held.
+    fn call(&mut self, out: &mut [u64; 20]) -> Result<u32, Refusal> {
+        let sheet = lent(self.store[3], self.sheet.as_deref())?;
+        let Tables { symbology, layout, .. } = &mut self.tables;
+        let (store, nothing) = (&mut self.store, [0u8; 0]);
+        // SAFETY: each pointer and length are those of a slice, and no two of them overlap.
+        Ok(unsafe {
+            ffi::dbn_feed(
+                store.len() as u64,
+                store.as_mut_ptr(),
+                store.len(),
+                nothing.as_ptr(),
+                0,
+                sheet,
+                symbology.as_mut_ptr(),
+                symbology.len(),
+                layout.as_mut_ptr(),
+                layout.len(),
+                out,
+            )
+        })
     }
 }
 
