@@ -10,7 +10,7 @@ use std::{
 /// The length of a prelude.
 const PRELUDE: usize = 8;
 /// The room that the first bytes of a block are given, where the block is not shorter.
-const FIRST: usize = 32 << 10;
+const FIRST: usize = 120 << 10;
 
 /// A stream start that arrives in pieces, cut anywhere.
 ///

