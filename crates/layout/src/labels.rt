@@ -21,8 +21,7 @@ pub(crate) fn labels(
     n: usize,
     marks: &mut [u64; 1024],
 ) -> Got
-    requires { ⌜ Room base (now s) at n ⌝ }
-    requires { ⌜ Marks (now marks) [] ⌝ }
+    requires { ⌜ Room base (now s) at n × Marks (now marks) [] ⌝ }
     ensures { λ r. ⌜ Ran (putRow 9) base (now (s .entry)) (labelsAt light base [] count (now (s .entry)) at) n (now (table .entry)) (now (table .exit)) r ⌝ }
     ensures { λ r. ⌜ Cleared r (now (marks .exit)) ⌝ }
 {

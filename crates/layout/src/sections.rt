@@ -59,8 +59,7 @@ fn sections(
     n: usize,
     marks: &mut [u64; 1024],
 ) -> Got
-    requires { ⌜ Room 0 (now s) at n ⌝ }
-    requires { ⌜ Marks (now marks) [] ⌝ }
+    requires { ⌜ Room 0 (now s) at n × Marks (now marks) [] ⌝ }
     ensures { λ r. ⌜ Ran (putRow 9) 0 (now (s .entry)) (sectionsAt light kind count (now (s .entry)) at) n (now (table .entry)) (now (table .exit)) r ⌝ }
     ensures { λ r. ⌜ Cleared r (now (marks .exit)) ⌝ }
 {
