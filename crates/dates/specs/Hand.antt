@@ -1,11 +1,13 @@
 -- What document 01 has checked by hand: P12, by computation; and days of document 02, each beside its date.
 -- Assumes nothing.
-use Prim.Native.Nat.{ℕ}
+use Prim.Native.Nat.{ℕ, _+_, _-_, _*_, _/_, _%_, _<_}
+use native.Mathlib.Omega.{arith}
 use mathlib.Core.Path.{_≡_, refl, sym, ap, _∙_}
 use mathlib.Core.Bool.{true, false}
+use lib.Dec.{ltb}
 use Rattle.dates.specs.Date.{isLeap, daysIn, isDay, isDate}
-use Rattle.dates.specs.Day.{daysBefore, daysOfYear, daysTo, dayNumber, dayOf, isDayNumber, dateOfDay, dateAfter}
-use Rattle.dates.specs.DayLaws.{date-back}
+use Rattle.dates.specs.Day.{daysTo, dayNumber, dayOf, isDayNumber, dateOfDay, dateAfter}
+use Rattle.dates.specs.DayLaws.{leapDay, monthDays, month-before, multiples, year-before, all-days, date-back}
 
 -- 29 February of 2024 and of 2000; not of 1900, and no month 13
 pub p12 :
@@ -18,16 +20,26 @@ pub ends : (isDate 229 ≡ true) × (isDate 99991231 ≡ true) × (isDate 100000
 unfolding isDate isDay daysIn isLeap
 ends = (refl, refl, refl, refl)
 
+-- a day's number by the laws, since the definition adds up all years before it
+by-laws :
+    (n k : ℕ)
+    → n / 100 % 100 < 14
+    → k + multiples 100 (n / 10000) ≡ 365 * (n / 10000) + multiples 4 (n / 10000) + multiples 400 (n / 10000) + monthDays (leapDay (n / 10000)) (n / 100 % 100) + (n % 100 - 1)
+    → dayOf n ≡ k
+unfolding dayOf dayNumber daysTo
+by-laws n k h e = omega (arith, year-before (n / 10000), month-before (n / 10000) (n / 100 % 100) h)
+
 -- 1 January of the years 0 and 1; 29 February and 1 March of the year 0; 1 January of 1970 and a day of 2024
 pub days :
     (dayOf 101 ≡ 0) × (dayOf 10101 ≡ 366) × (dayOf 229 ≡ 59) × (dayOf 301 ≡ 60) × (dayOf 19700101 ≡ 719528) × (dayOf 20240229 ≡ 739310)
-unfolding dayOf dayNumber daysTo daysBefore daysOfYear daysIn isLeap
-days = (refl, refl, refl, refl, refl, refl)
+unfolding multiples leapDay isLeap
+days =
+    (by-laws 101 0 (omega arith) refl, by-laws 10101 366 (omega arith) refl, by-laws 229 59 (omega arith) refl, by-laws 301 60 (omega arith) refl, by-laws 19700101 719528 (omega arith) refl, by-laws 20240229 739310 (omega arith) refl)
 
 -- the last of all
 pub last : (dayOf 99991231 ≡ 3652424) × (isDayNumber 3652424 ≡ true) × (isDayNumber 3652425 ≡ false)
-unfolding dayOf dayNumber daysTo daysBefore daysOfYear daysIn isLeap isDayNumber
-last = (refl, refl, refl)
+unfolding multiples leapDay isLeap isDayNumber
+last = (by-laws 99991231 3652424 (omega arith) refl, ap (ltb 3652424) all-days, ap (ltb 3652425) all-days)
 
 -- back, by the law, since the definition looks through all years
 from : (n k : ℕ) → isDate n ≡ true → dayOf n ≡ k → dateOfDay k ≡ n
