@@ -11,9 +11,9 @@ use Rattle.refusal.specs.declared.Refusal.{Refusal}
 use Rattle.codec.specs.CaseLaws.{by-bool}
 use Rattle.codec.specs.StepLaws.{raw-got, num-got, byte-got}
 use Rattle.text.specs.Utf8.{utf8}
-use Rattle.text.specs.Padded.{nulPadded}
-use Rattle.text.specs.PaddedAnswer.{paddedOf}
-use Rattle.text.specs.declared.padded.Padded.{Padded}
+use Rattle.padded.specs.Padded.{nulPadded}
+use Rattle.padded.specs.PaddedAnswer.{paddedOf}
+use Rattle.padded.specs.declared.Padded.{Padded}
 use Rattle.text.specs.Trim.{trimmedLen}
 use Rattle.block.specs.Block.{Header, header, isSchema, isStype, isStypeIn, widthOf}
 use Rattle.block.specs.Parts.{Fixed, OfHeader, refusalOf}

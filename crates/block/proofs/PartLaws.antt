@@ -20,7 +20,7 @@ use Rattle.codec.specs.Laws.{bind-ok, need-ok}
 use Rattle.codec.specs.StepLaws.{raw-got, raw-bad, num-got, num-bad}
 use Rattle.text.specs.Utf8.{utf8}
 use Rattle.wire.specs.Reader.{allTests}
-use Rattle.text.specs.Padded.{nulPadded}
+use Rattle.padded.specs.Padded.{nulPadded}
 use Rattle.dates.specs.Date.{isDate}
 use Rattle.layout.specs.Layout.{Layout, Parts, parts, toLayout, fromLayout}
 use Rattle.layout.specs.LenientLaws.{light-same}

@@ -11,7 +11,7 @@ use Rattle.codec.specs.Codec.{Res, _>>=_, need, whole, isNil}
 use Rattle.codec.specs.Format.{Format, raw, num, skip, rawTests, numTest, _then_, on, named, checked, judged, sized, apart, spanned, remainder}
 use Rattle.text.specs.Utf8.{utf8}
 use Rattle.wire.specs.Reader.{allTests}
-use Rattle.text.specs.Padded.{nulPadded}
+use Rattle.padded.specs.Padded.{nulPadded}
 use Rattle.dates.specs.Date.{isDate}
 use Rattle.prelude.specs.Prelude.{isVersion}
 use Rattle.layout.specs.Layout.{Layout, Parts, parts, toLayout, fromLayout}

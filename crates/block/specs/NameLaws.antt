@@ -10,8 +10,8 @@ use Rattle.codec.specs.Codec.{ok, Bytes, raw, named, checked, _then_, _on_}
 use Rattle.codec.specs.Laws.{whole-back, left-part, part-take}
 use Rattle.text.specs.Utf8.{utf8}
 use Rattle.text.specs.Trim.{trimmedLen}
-use Rattle.text.specs.Padded.{nulPadded}
-use Rattle.text.specs.PaddedLaws.{Name}
+use Rattle.padded.specs.Padded.{nulPadded}
+use Rattle.padded.specs.PaddedLaws.{Name}
 use Rattle.dates.specs.Date.{isDate}
 use Rattle.table.specs.EachLaws.{Each}
 use Rattle.symbology.specs.NameLaws.{NamedIn, Stands, name-stands, symbology-named}

@@ -15,7 +15,7 @@ use Rattle.codec.specs.PlaceLaws.{within-is, within-test, within-whole}
 use Rattle.codec.specs.RefusalLaws.{in-more, gives-is, gives-test, gives-whole}
 use Rattle.text.specs.Utf8.{utf8}
 use Rattle.wire.specs.Reader.{allTests}
-use Rattle.text.specs.Padded.{nulPadded}
+use Rattle.padded.specs.Padded.{nulPadded}
 use Rattle.dates.specs.Date.{isDate}
 use Rattle.prelude.specs.Prelude.{isVersion}
 use Rattle.layout.specs.LayoutOf.{D}

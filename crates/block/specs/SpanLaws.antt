@@ -10,7 +10,7 @@ use borrow.Author.Tests.{ne-eqb}
 use Rattle.codec.specs.Codec.{ok, Bytes, named, full, boxed, remainder, _then_, _on_, whole}
 use Rattle.codec.specs.Laws.{need-ok, whole-back}
 use Rattle.text.specs.Utf8.{utf8}
-use Rattle.text.specs.Padded.{nulPadded}
+use Rattle.padded.specs.Padded.{nulPadded}
 use Rattle.dates.specs.Date.{isDate}
 use Rattle.prelude.specs.Prelude.{isVersion}
 use Rattle.table.specs.EachLaws.{Each, RowInside, PartInside, part-inside}

@@ -2,8 +2,8 @@
 use super::Fields;
 use super::MetadataLengths;
 use super::Optional;
+use padded::Padded;
 use refusal::Refusal;
-use text::Padded;
 ghost use mathlib.Core.Path.{_≡_};
 ghost use Prim.Native.Nat.{_+_, _≤_, _<_};
 ghost use lib.ListN.{length, take, drop};
@@ -18,7 +18,7 @@ pub(crate) fn check_header(block: &[u8], v: MetadataLengths) -> Refusal
     ensures { λ r. ⌜ r ≡ refusalOf (header v .codec .parse 0 (now (block .entry)) 0) ⌝ }
 {
     let end = v.dataset_cstr_len;
-    match text::check_padded(&block[0..end]) {
+    match padded::check_padded(&block[0..end]) {
         Padded::Fine => {}
         Padded::NotUtf8 => return refused(refusal::DATASET_NOT_UTF8, 0),
         Padded::AfterNul => return refused(refusal::DATASET_AFTER_NUL, 0),

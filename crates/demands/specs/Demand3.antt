@@ -13,7 +13,7 @@ use Rattle.codec.specs.Laws.{whole-reads}
 use Rattle.codec.specs.Edits.{Marked, bytesOf, Edit, put}
 use Rattle.text.specs.Utf8.{utf8}
 use Rattle.wire.specs.Reader.{allTests}
-use Rattle.text.specs.Padded.{nulPadded}
+use Rattle.padded.specs.Padded.{nulPadded}
 use Rattle.dates.specs.Date.{isDate}
 use Rattle.layout.specs.LayoutOf.{D}
 use Rattle.layout.specs.Layout.{parts, toLayout, bareLayout}

@@ -14,7 +14,7 @@ use Rattle.codec.specs.Edits.{Marked, kept, _and_, bytesOf, Edit, put}
 use Rattle.codec.specs.EditLaws.{Inside, inside, put-all, put-kept, edits-kept, edits-then, edits-on, edits-named, edits-judged, edits-asks, edits-apart}
 use Rattle.text.specs.Utf8.{utf8}
 use Rattle.wire.specs.Reader.{allTests}
-use Rattle.text.specs.Padded.{nulPadded}
+use Rattle.padded.specs.Padded.{nulPadded}
 use Rattle.dates.specs.Date.{isDate}
 use Rattle.layout.specs.LayoutOf.{D}
 use Rattle.layout.specs.Layout.{parts, toLayout, fromLayout, printLayout, locateLayout, bareLayout, LegalLayout}

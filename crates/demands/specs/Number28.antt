@@ -14,7 +14,7 @@ use Rattle.codec.specs.Codec.{ok, refuse, refusal, Bytes, little, raw, skip, nu
 use Rattle.codec.specs.Laws.{Here, length-little, law-boxed}
 use Rattle.text.specs.Utf8.{utf8}
 use Rattle.wire.specs.Reader.{allTests}
-use Rattle.text.specs.Padded.{nulPadded}
+use Rattle.padded.specs.Padded.{nulPadded}
 use Rattle.dates.specs.Date.{isDate}
 use Rattle.layout.specs.LayoutOf.{D}
 use Rattle.layout.specs.Layout.{printLayout}

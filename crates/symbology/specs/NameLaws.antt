@@ -7,8 +7,8 @@ use lib.ListN.{length, getD, take, drop}
 use lib.Seq.{take-take}
 use Rattle.text.specs.Trim.{trimmedLen}
 use Rattle.text.specs.TrimLaws.{trimmed-le}
-use Rattle.text.specs.Padded.{nulPadded, beforeNul}
-use Rattle.text.specs.PaddedLaws.{Name, padded-name}
+use Rattle.padded.specs.Padded.{nulPadded, beforeNul}
+use Rattle.padded.specs.PaddedLaws.{Name, padded-name}
 use Rattle.table.specs.EachLaws.{Each}
 use Rattle.symbology.specs.Symbology.{Symbology, symbology}
 use Rattle.symbology.specs.SymbologyRows.{symbologyRows}

@@ -9,7 +9,7 @@ use borrow.Author.Tests.{le-leb}
 use Rattle.refusal.specs.declared.Refusal.{Refusal}
 use Rattle.codec.specs.Codec.{Res, ok, refuse, moved, shifted, _>>=_, need, isNil}
 use Rattle.text.specs.Utf8.{utf8}
-use Rattle.text.specs.Padded.{nulPadded}
+use Rattle.padded.specs.Padded.{nulPadded}
 use Rattle.dates.specs.Date.{isDate}
 use Rattle.table.specs.Columns.{columns}
 use Rattle.table.specs.TableLaws.{Wide, wide-append, wide-map, wide-from}

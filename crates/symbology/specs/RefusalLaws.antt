@@ -13,7 +13,7 @@ use Rattle.codec.specs.Refusals.{Gives, In, Within, ends, tells}
 use Rattle.codec.specs.PlaceLaws.{within-is, within-then, within-test}
 use Rattle.codec.specs.RefusalLaws.{in-more, gives-is, gives-then, gives-test, gives-by}
 use Rattle.text.specs.Utf8.{utf8}
-use Rattle.text.specs.Padded.{nulPadded}
+use Rattle.padded.specs.Padded.{nulPadded}
 use Rattle.dates.specs.Date.{isDate}
 use Rattle.symbology.specs.Symbology.{symbol, date, list, interval, mapping, symbology, unspanned}
 use Rattle.symbology.specs.Reader.{symbologyOf, sectionOf}

@@ -13,9 +13,3 @@ pub mod Single
 pub mod Runs
 pub mod Letters
 pub mod States
-pub mod Padded
-pub mod EachPaddedLaws
-pub mod Pairs
-pub mod PaddedAnswer
-pub mod PaddedAnswerLaws
-pub mod PaddedLaws
