@@ -12,10 +12,9 @@ use Rattle.codec.specs.Codec.{Res, ok, refuse, refusal, _>>=_, whole}
 use Rattle.codec.specs.Refusals.{Gives, In, Within, ends, tells}
 use Rattle.codec.specs.PlaceLaws.{within-is, within-then, within-whole}
 use Rattle.codec.specs.RefusalLaws.{in-more, gives-is, gives-then, gives-by, gives-whole}
-use Rattle.wire.specs.Reader.{allTests}
 use Rattle.wire.specs.Formats.{Tests}
 use Rattle.wire.specs.Formats
-use Rattle.wire.specs.Reader.{nameNumbers, sectionNumbers}
+use Rattle.wire.specs.Reader.{allTests, testsOf, nameNumbers, sectionNumbers}
 use Rattle.wire.specs.RefusalLaws.{name-numbers, section-numbers}
 use Rattle.layout.specs.Layout.{Layout, label, labelBody, labelDef, entry, fields, recordBody, recordL, structBody, structL, groups, parts, toLayout, readLayout}
 use Rattle.layout.specs.LayoutOf.{D, layoutOf, layoutBy}
@@ -44,12 +43,13 @@ layout-wire s h =
     (gives-whole (In wireNumbers) (parts allTests D .codec) (parts allTests D .refuses (In wireNumbers) (parts-numbers (In wireNumbers) (λ k i. i) allTests D)) 0 s)
     (λ z j. tt))
 
-pub layout-gives : (s : List ℕ) → Gives (In layoutNumbers) (layoutOf s)
+-- any layout, whatever its names' texts are asked
+pub layout-gives : (tests : Tests) (s : List ℕ) → Gives (In layoutNumbers) (layoutBy tests s)
 unfolding layoutBy readLayout
-layout-gives s =
-    gives-by (In layoutNumbers) (leb (length s) 4294967295) (readLayout allTests D s) (refuse (refusal 13 0))
-    (gives-then (In layoutNumbers) (whole (parts allTests D .codec) 0 s) (λ z j. ok (toLayout z) j)
-    (gives-whole (In layoutNumbers) (parts allTests D .codec) (parts allTests D .refuses (In layoutNumbers) (parts-numbers (In layoutNumbers) (in-more wireNumbers layoutNumbers refl) allTests D)) 0 s)
+layout-gives tests s =
+    gives-by (In layoutNumbers) (leb (length s) 4294967295) (readLayout tests D s) (refuse (refusal 13 0))
+    (gives-then (In layoutNumbers) (whole (parts tests D .codec) 0 s) (λ z j. ok (toLayout z) j)
+    (gives-whole (In layoutNumbers) (parts tests D .codec) (parts tests D .refuses (In layoutNumbers) (parts-numbers (In layoutNumbers) (in-more wireNumbers layoutNumbers refl) tests D)) 0 s)
     (λ z j. tt))
     refl
 
@@ -72,5 +72,5 @@ judge-refused cap (ok l j) {k} e = absurd (go (leb (length (rows l)) cap) e)
 judge-refused cap (refuse j) {k} e = let q : j ≡ k = cc in ap refuse q
 
 -- what the reader's answer refuses with
-pub layout-refuses : (s t t′ : List ℕ) (k : Refusal) → Answers false s t t′ (Refused k) → In layoutNumbers (k .number)
-layout-refuses s t t′ k a = gives-is (In layoutNumbers) (layout-gives s) (judge-refused (length t / 9) (layoutOf s) (a .is))
+pub layout-refuses : (light : Bool) (s t t′ : List ℕ) (k : Refusal) → Answers light s t t′ (Refused k) → In layoutNumbers (k .number)
+layout-refuses light s t t′ k a = gives-is (In layoutNumbers) (layout-gives (testsOf light) s) (judge-refused (length t / 9) (layoutBy (testsOf light) s) (a .is))

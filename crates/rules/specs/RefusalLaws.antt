@@ -13,6 +13,7 @@ use Rattle.refusal.specs.declared.Refusal.{Refusal}
 use Rattle.codec.specs.Codec.{Res, ok, refuse, refusal, _>>=_, need, among}
 use Rattle.codec.specs.Refusals.{Gives, In, Fault}
 use Rattle.codec.specs.RefusalLaws.{in-more, gives-more, gives-is, gives-then, gives-judged, fault-by}
+use Rattle.wire.specs.Reader.{allTests}
 use Rattle.fields.specs.Field.{fieldNumbers, fieldFault}
 use Rattle.fields.specs.RefusalLaws.{field-fault}
 use Rattle.fields.specs.Sheet.{idOf}
@@ -116,7 +117,7 @@ module _ (sheet : List ℕ) (width : ℕ) where
   unfolding ruledOf
   ruled-gives s =
       gives-then (In ruledNumbers) (layoutOf s) (λ t j. need (eqb 0 (rulesOf sheet width (fromLayout t .0))) (rulesOf sheet width (fromLayout t .0)) 0 >>= λ _ _. ok t j)
-      (gives-more (In layoutNumbers) (In ruledNumbers) (in-more layoutNumbers ruledNumbers refl) (layoutOf s) (layout-gives s))
+      (gives-more (In layoutNumbers) (In ruledNumbers) (in-more layoutNumbers ruledNumbers refl) (layoutOf s) (layout-gives allTests s))
       (λ t j. gives-then (In ruledNumbers) (need (eqb 0 (rulesOf sheet width (fromLayout t .0))) (rulesOf sheet width (fromLayout t .0)) 0) (λ _ _. ok t j)
       (gives-judged (In ruledNumbers) (rulesOf sheet width (fromLayout t .0)) 0 (rules-fault (In ruledNumbers) (in-more ruleNumbers ruledNumbers refl) sheet width (fromLayout t .0)))
       (λ _ _. tt))
