@@ -120,20 +120,6 @@ module _ {A : Type 0} {c d : Codec A} (h : Lenient c d) where
   unfolding times
   lenient-times n = record { reads = times-reads n }
 
-  distinct-reads : (key : A → ℕ) (k n : ℕ) (seen : List ℕ) (base : ℕ) (s : List ℕ) (i : ℕ) (xs : List A) (j : ℕ)
-      → distinctParse c key k n seen base s i ≡ ok xs j → timesParse d n base s i ≡ ok xs j
-  distinct-reads key k zero seen base s i xs j e = e
-  distinct-reads key k (suc n) seen base s i xs j e =
-      let (y, m, e1, e2) = bind-ok (c .parse base s i) _ xs j e in
-      let (t, e3) = need-ok (not (among (key y) seen)) k i _ xs j e2 in
-      let (ys, q, e4, e5) = bind-ok (distinctParse c key k n (key y ∷ seen) base s m) _ xs j e3 in
-      rw (h .reads base s i y m e1, distinct-reads key k n (key y ∷ seen) base s m ys q e4) e5
-
-  -- keys that differ are keys
-  pub lenient-distinct : (key : A → ℕ) (k n : ℕ) → Lenient (distinct c key k n) (times d n)
-  unfolding distinct times
-  lenient-distinct key k n = record { reads = distinct-reads key k n _ }
-
   keys-read : (key : A → ℕ) (k n : ℕ) (seen : List ℕ) (base : ℕ) (s : List ℕ) (i : ℕ) (xs : List A) (j : ℕ)
       → distinctParse c key k n seen base s i ≡ ok xs j → distinctParse d key k n seen base s i ≡ ok xs j
   keys-read key k zero seen base s i xs j e = e
@@ -143,7 +129,7 @@ module _ {A : Type 0} {c d : Codec A} (h : Lenient c d) where
       let (ys, q, e4, e5) = bind-ok (distinctParse c key k n (key y ∷ seen) base s m) _ xs j e3 in
       rw (h .reads base s i y m e1, t, keys-read key k n (key y ∷ seen) base s m ys q e4) e5
 
-  -- keys that differ, there too
+  -- keys that differ
   pub lenient-keys : (key : A → ℕ) (k n : ℕ) → Lenient (distinct c key k n) (distinct d key k n)
   unfolding distinct
   lenient-keys key k n = record { reads = keys-read key k n _ }
