@@ -76,7 +76,8 @@ module _ (sheet l t : List ℕ) where
         same = rw (w, add-one k, take-suc-set xs k a h, append-assoc) (rw (e) (rw (s .seqs) at (v .same)));
       }
 
-  pub fill-done : {place p : Place} {k : ℕ} {xs : List ℕ} → Filling place p k xs → length xs ≤ k → xs ≡ take 65536 (A place)
+  pub fill-done : {place p : Place} {k : ℕ} {xs : List ℕ} → Filling place p k xs → length xs ≤ k → xs ≡ firstAligns sheet (seqsFrom l t false place)
+  unfolding firstAligns
   fill-done {place} {p} {k} {xs} v h =
       let same : xs ++ A p ≡ A place = ap (λ (x : List ℕ). x ++ A p) (sym (take-all k xs h)) ∙ v .same in
       let n : length (A p) ≡ length (seqsFrom l t false p) = length-map (seqsFrom l t false p) (λ (q : Seq). structAlign sheet (q .entries)) in
@@ -91,7 +92,7 @@ module _ (sheet l t : List ℕ) where
       nil-of [] h = refl
       nil-of (y ∷ x) h = absurd (let z : ⊥ = omega arith in z)
 
-  pub fill-end : {place p : Place} {k : ℕ} {xs : List ℕ} → Filling place p k xs → seqsFrom l t false p ≡ [] → xs ≡ take 65536 (A place)
+  pub fill-end : {place p : Place} {k : ℕ} {xs : List ℕ} → Filling place p k xs → seqsFrom l t false p ≡ [] → xs ≡ firstAligns sheet (seqsFrom l t false place)
   fill-end {place} {p} {k} {xs} v e = fill-done v (let n : length (seqsFrom l t false p) ≡ 0 = ap length e in omega (arith, v .left, v .size))
 
 -- ---- one struct, one record
@@ -199,7 +200,9 @@ module _ (sheet : List ℕ) (width labels : ℕ) (aligns l t : List ℕ) where
 
 module _ (sheet : List ℕ) (width labels : ℕ) (structs records : List Seq) {aligns : List ℕ} (al : aligns ≡ firstAligns sheet structs) {a : ℕ} (e : a ≡ structsFault sheet width labels aligns structs) where
   pub all-structs : (a ≡ 0 → ⊥) → a ≡ faultOf sheet width labels structs records
+  unfolding faultOf
   all-structs n = sym (rw (← al, ← e) (first-some a _ n))
 
   pub all-records : a ≡ 0 → {b : ℕ} → b ≡ recordsFault sheet width labels aligns [] records → b ≡ faultOf sheet width labels structs records
+  unfolding faultOf
   all-records z {b} q = sym (rw (← al, ← e, ← q) (first-none a b z))

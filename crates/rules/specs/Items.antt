@@ -125,11 +125,11 @@ pub record Ready (l t : List ℕ) (structs records : Place) : Type 0 where
   pub records-good : Good l t true records
 
 -- the alignments of the first 65,536 structs: no def index names a later one
-abbrev pub firstAligns : List ℕ → List Seq → List ℕ
+unfoldable pub firstAligns : List ℕ → List Seq → List ℕ
 firstAligns sheet structs = take 65536 (alignsOf sheet structs)
 
 -- with these, the number that structs and records give, structs first
-abbrev pub faultOf : List ℕ → ℕ → ℕ → List Seq → List Seq → ℕ
+unfoldable pub faultOf : List ℕ → ℕ → ℕ → List Seq → List Seq → ℕ
 faultOf sheet width labels structs records =
     first (structsFault sheet width labels (firstAligns sheet structs) structs) (recordsFault sheet width labels (firstAligns sheet structs) [] records)
 

@@ -21,7 +21,7 @@ use Rattle.rules.specs.declared.Place.{Place}
 use Rattle.rules.specs.Rules.{Seq, structAlign, alignsOf, seqsFault, structSeq, recordSeq, rulesOf, ruledOf}
 use Rattle.rules.specs.Entries.{entryAt, entriesAt, entriesOf}
 use Rattle.layout.specs.PlaceLaws.{headsAt, heads-none, heads-more, StructAt, RecordAt, AllAt, skipTo, structsAt, labelsAt, LayoutAt, layout-at}
-use Rattle.rules.specs.Items.{itemSeq, sectionItem, SectionInside, seqsBy, Stand, endBy, seqsFrom, endFrom, Good, Ready, faultOf}
+use Rattle.rules.specs.Items.{itemSeq, sectionItem, SectionInside, seqsBy, Stand, endBy, seqsFrom, endFrom, Good, Ready, firstAligns, faultOf}
 use Rattle.rules.specs.LayoutRules.{Accepted, rulesIn}
 use Rattle.rules.specs.RuleLaws.{seq-eq}
 
@@ -96,7 +96,7 @@ module _ (s t : List ℕ) where
 
     pub layout-is : (sheet : List ℕ) (width : ℕ) {labels : ℕ} → labels ≡ le16 s (labelsAt s) → le16 s (structsAt s) < 65536 → {r : ℕ}
         → r ≡ faultOf sheet width labels (seqsFrom s t false structsFrom) (seqsFrom s t true recordsFrom) → r ≡ rulesIn sheet width (layoutOf s)
-    unfolding seqsFrom rulesOf seqsFault
+    unfolding seqsFrom rulesOf seqsFault firstAligns faultOf
     layout-is sheet width n few e =
         let m : length (alignsOf sheet (map structSeq (a .tree .structs))) ≤ 65536 =
         let x = length-map (map structSeq (a .tree .structs)) (λ (q : Seq). structAlign sheet (q .entries)) in

@@ -22,7 +22,7 @@ use Rattle.rules.specs.RowRules.{rowsRules}
 use Rattle.rules.specs.RuleLaws.{seq-eq}
 use Rattle.rules.specs.AlignLaws.{DefsBelow, structs-cut, records-cut}
 use Rattle.rules.specs.Entries.{entryAt, entriesAt, entriesOf}
-use Rattle.rules.specs.Items.{kindOf, itemSeq, fieldsIn, rowItem, RowInside, seqsBy, Stand, endBy, seqsFrom, endFrom, Good, Ready, faultOf}
+use Rattle.rules.specs.Items.{kindOf, itemSeq, fieldsIn, rowItem, RowInside, seqsBy, Stand, endBy, seqsFrom, endFrom, Good, Ready, firstAligns, faultOf}
 
 -- the row after a record or a struct is past its own, its fields' and their names'
 pub next-is : (isRecord : Bool) (t : List ℕ) (q : ℕ) → nextSection (kindOf isRecord) t q ≡ q + 1 + fieldsIn isRecord t q + fieldsIn isRecord t q
@@ -115,7 +115,7 @@ module _ (l t : List ℕ) where
 
   pub rows-are : (text sheet : List ℕ) (width : ℕ) {labels : ℕ} → labels ≡ kinds t 14 → {r : ℕ} → r ≡ faultOf sheet width labels (seqsFrom l t false structsPlace) (seqsFrom l t true recordsPlace)
       → r ≡ rowsRules sheet width t text
-  unfolding rowsRules rulesOf seqsFault seqsFrom
+  unfolding rowsRules rulesOf seqsFault seqsFrom firstAligns faultOf
   rows-are text sheet width {labels} n e =
       let S : List Seq = seqsBy false l t true (structsFrom t) (kinds t 13) in
       let R : List Seq = seqsBy true l t true 0 (kinds t 10) in
