@@ -1,2 +1,2 @@
-pub mod OutputLaws
+pub mod ManyLaws
 pub mod WriteLaws

@@ -14,7 +14,7 @@ use Rattle.rows_check.specs.Check.{printed}
 use Rattle.rows_check.specs.SectionLaws.{printed-length}
 use Rattle.rows_check.specs.AnswerLaws.{Fitted}
 use Rattle.rows_check.specs.declared.Sized.the-variants as Sized'
-use Rattle.writer.specs.Output.{Filled}
+use Rattle.put.specs.Output.{Filled}
 use Rattle.writer.specs.RoundTripLaws.{out-written, out-refused}
 use Rattle.writer.specs.Write.{writeLayout, Writes}
 use Rattle.writer.specs.declared.Written.the-variants.{Length, Refused}

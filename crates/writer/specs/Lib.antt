@@ -1,4 +1,3 @@
-pub mod Output
 pub mod Write
 pub mod RoundTripLaws
 pub mod RefusalLaws

@@ -11,7 +11,7 @@ use Rattle.rules.specs.RowRules.{rowRuleNumbers, rowsFault}
 use Rattle.rows_check.specs.Check.{printed}
 use Rattle.rows_check.specs.Tree.{skip}
 use Rattle.rows_check.specs.Sections.{Spans, printedName, printedEntry, printedLabel}
-use Rattle.writer.specs.Output.{Wrote}
+use Rattle.put.specs.Output.{Wrote}
 use Rattle.writer.specs.declared.Written.{Written}
 use Rattle.writer.specs.declared.Written.the-variants.{Length, Refused}
 

@@ -1,7 +1,6 @@
 // The layout writer: rows of nine, with their text, to the bytes of a layout.
 mod cells;
 mod parts;
-mod put;
 mod sections;
 
 use refusal::Refusal;

@@ -1,6 +1,5 @@
 // Names, entries and labels.
 use super::cells;
-use super::put;
 use rows_check::kinds;
 ghost use Prim.Native.Nat.{_+_, _*_, _≤_};
 ghost use lib.ListN.{length};
@@ -8,7 +7,7 @@ ghost use Rattle.layout.specs.LayoutOf.{entry};
 ghost use Rattle.rows_check.specs.Tree.{cell, after, entryWithZeros};
 ghost use Rattle.rows_check.specs.Sections.{many, printedName, printedLabel, printedFields, printedLabels, Spans};
 ghost use Rattle.writer.specs.Write.{TextsInside, printedPart};
-ghost use Rattle.writer.specs.Output.{RoomFor, Wrote};
+ghost use Rattle.put.specs.Output.{RoomFor, Wrote};
 
 // The name of row q: length byte, bytes, one NUL.
 pub(crate) fn put_name(out: &mut [u8], at: usize, rows: &[u32], text: &[u8], q: usize) -> usize
@@ -19,10 +18,10 @@ pub(crate) fn put_name(out: &mut [u8], at: usize, rows: &[u32], text: &[u8], q: 
 {
     let s = cells::cell_of(rows, q, 1);
     let l = cells::cell_of(rows, q, 2);
-    let a = put::put_u8(out, at, put::low(l));
+    let a = put::put_little(out, at, l, 1);
     let e = s + l;
     let b = put::put_bytes(out, a, &text[s..e]);
-    put::put_u8(out, b, 0)
+    put::put_zeros(out, b, 1)
 }
 
 // An entry: the eleven bytes, and zeros up to D.
@@ -90,7 +89,7 @@ pub(crate) fn put_fields(
     requires { ⌜ RoomFor at (printedFields (now rows) (now text) q n) (now out) ⌝ }
     ensures { λ r. ⌜ Wrote at (printedFields (now (rows .entry)) (now (text .entry)) q n) (now (out .entry)) (now (out .exit)) r ⌝ }
 {
-    let a = put::put_u16(out, at, n);
+    let a = put::put_little(out, at, n, 2);
     let b = put_parts(kinds::FIELD, out, a, rows, text, q, n);
     put_parts(kinds::FIELD_NAME, out, b, rows, text, q + n, n)
 }
@@ -109,7 +108,7 @@ pub(crate) fn put_labels(
     requires { ⌜ RoomFor at (printedLabels (now rows) (now text) q n) (now out) ⌝ }
     ensures { λ r. ⌜ Wrote at (printedLabels (now (rows .entry)) (now (text .entry)) q n) (now (out .entry)) (now (out .exit)) r ⌝ }
 {
-    let a = put::put_u16(out, at, n);
+    let a = put::put_little(out, at, n, 2);
     put_parts(kinds::LABEL, out, a, rows, text, q, n)
 }
 
@@ -120,6 +119,6 @@ fn put_label(out: &mut [u8], at: usize, rows: &[u32], text: &[u8], q: usize) -> 
     requires { ⌜ RoomFor at (printedLabel (now rows) (now text) q) (now out) ⌝ }
     ensures { λ r. ⌜ Wrote at (printedLabel (now (rows .entry)) (now (text .entry)) q) (now (out .entry)) (now (out .exit)) r ⌝ }
 {
-    let a = put::put_u16(out, at, cells::cell_of(rows, q, 3));
+    let a = put::put_little(out, at, cells::cell_of(rows, q, 3), 2);
     put_name(out, a, rows, text, q)
 }

@@ -1,7 +1,6 @@
 // Sections: the output after the two length bytes is lent to what fills the body.
 use super::cells;
 use super::parts;
-use super::put;
 use rows_check::kinds;
 ghost use mathlib.Core.Path.{_≡_};
 ghost use Prim.Native.Nat.{_+_, _*_, _≤_};
@@ -9,7 +8,7 @@ ghost use lib.ListN.{length};
 ghost use Rattle.rows_check.specs.Tree.{nextSection, kinds, structsFrom, labelsFrom};
 ghost use Rattle.rows_check.specs.Check.{printedSection, printed};
 ghost use Rattle.rows_check.specs.Sections.{many, printedHead, printedNumbers, printedContents, printedBody, printedGroup, SectionRows, Sections};
-ghost use Rattle.writer.specs.Output.{RoomFor, Wrote, Filled};
+ghost use Rattle.put.specs.Output.{RoomFor, Wrote, Filled};
 ghost use Rattle.writer.specs.Write.{WroteSections};
 
 // The place after what was written, and the row after what was read.
@@ -35,7 +34,7 @@ pub(crate) fn put_layout(
     requires { ⌜ length (printed version (now rows) (now text)) ≤ length (now out) ⌝ }
     ensures { λ n. ⌜ Filled (printed version (now (rows .entry)) (now (text .entry))) (now (out .entry)) (now (out .exit)) n ⌝ }
 {
-    let a = put::put_u16(out, 0, version);
+    let a = put::put_little(out, 0, version, 2);
     let g = put_group(kinds::RECORD, out, a, rows, text, 0, r);
     let h = put_group(kinds::STRUCT, out, g.at, rows, text, g.row, s);
     let i = put_group(kinds::LABEL_DEF, out, h.at, rows, text, h.row, l);
@@ -56,7 +55,7 @@ fn put_group(
     requires { ⌜ RoomFor at (printedGroup kind (now rows) (now text) q k) (now out) ⌝ }
     ensures { λ r. ⌜ WroteSections kind (now (rows .entry)) at (printedGroup kind (now (rows .entry)) (now (text .entry)) q k) (now (out .entry)) (now (out .exit)) q k (r .at) (r .row) ⌝ }
 {
-    let a = put::put_u16(out, at, k);
+    let a = put::put_little(out, at, k, 2);
     put_sections(kind, out, a, rows, text, q, k)
 }
 
@@ -93,7 +92,7 @@ fn put_section(kind: usize, out: &mut [u8], at: usize, rows: &[u32], text: &[u8]
 {
     let b = at + 2;
     let n = put_body(kind, &mut out[b..], rows, text, q);
-    put::put_u16(out, at, 2 + n);
+    put::put_little(out, at, 2 + n, 2);
     b + n
 }
 
@@ -119,7 +118,7 @@ fn put_numbers(kind: usize, out: &mut [u8], rows: &[u32], q: usize) -> usize
         return put_head(out, 0, rows, q);
     }
     if kind == kinds::STRUCT {
-        return put::put_u16(out, 0, cells::cell_of(rows, q, 3));
+        return put::put_little(out, 0, cells::cell_of(rows, q, 3), 2);
     }
     0
 }
@@ -151,9 +150,9 @@ fn put_head(out: &mut [u8], at: usize, rows: &[u32], q: usize) -> usize
     requires { ⌜ RoomFor at (printedHead (now rows) q) (now out) ⌝ }
     ensures { λ r. ⌜ Wrote at (printedHead (now (rows .entry)) q) (now (out .entry)) (now (out .exit)) r ⌝ }
 {
-    let a = put::put_u16(out, at, cells::cell_of(rows, q, 3));
-    let b = put::put_u16(out, a, cells::cell_of(rows, q, 4));
-    let d = put::put_u16(out, b, cells::cell_of(rows, q, 5));
-    let e = put::put_u32(out, d, cells::cell_of(rows, q, 7));
-    put::put_u32(out, e, cells::cell_of(rows, q, 8))
+    let a = put::put_little(out, at, cells::cell_of(rows, q, 3), 2);
+    let b = put::put_little(out, a, cells::cell_of(rows, q, 4), 2);
+    let d = put::put_little(out, b, cells::cell_of(rows, q, 5), 2);
+    let hash = cells::cell_of(rows, q, 7) + 4294967296 * cells::cell_of(rows, q, 8);
+    put::put_little(out, d, hash, 8)
 }

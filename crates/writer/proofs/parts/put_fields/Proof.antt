@@ -1,44 +1,41 @@
 -- The count, the entries, the names.
 -- Assumes nothing.
 use native.Mathlib.Omega.{arith}
-use mathlib.Core.Path.{refl, sym, ap}
-use lib.ListN.{length, length-append}
+use mathlib.Core.Path.{refl}
 use denote.Ref.{now}
 use Rattle.rows_check.specs.SectionLaws.{fields-is}
+use Rattle.put.specs.OutputLaws.{left-start, left-step, left-stored, left-room, left-all, left-rest}
 use Rattle.writer.specs.Write.{printedPart}
-use Rattle.writer.proofs.OutputLaws.{wrote-then, wrote-is}
 use borrow.Author.Needs.{needs}
 use Rattle.writer.proofs.parts.put_fields.Statement.{statement}
 use Rattle.writer.proofs.parts.put_fields.Tie as tie
 
-put-u16-requires : tie.Need-put-u16-requires
-put-u16-requires c κs =
-    let start = c .before .before .before .before in
-    record { fits = omega (arith, start .pre .1 .1 .fits, simp length-append at (ap length (fields-is (now (start .args .rows)) (now (start .args .text)) (start .args .q) (start .args .n)))) }
-
 put-parts-requires : tie.Need-put-parts-requires
 unfolding printedPart
 put-parts-requires c κs =
-    let start = c .before .before .before .before .before .before .before .before in
-    (omega arith, (record { spans = λ f. absurd (f refl) }, record { fits = omega (arith, start .pre .1 .1 .fits, simp length-append at (ap length (fields-is (now (start .args .rows)) (now (start .args .text)) (start .args .q) (start .args .n)))) }))
+    let args = c .before .before .before .before .before .before .before .before .args in
+    let l = left-stored (left-start (c .before .before .before .before .before .before .before .before .pre .1 .1)) _ (fields-is (now (args .rows)) (now (args .text)) (args .q) (args .n)) (c .before .before .before .put-little .ensures) in
+    (omega arith, (record { spans = λ f. absurd (f refl) }, left-room l _ refl))
 
 put-parts-requires-2 : tie.Need-put-parts-requires-2
 unfolding printedPart
 put-parts-requires-2 c κs =
-    let start = c .before .before .before .before .before .before .before .before .before .before .before .before in
-    (omega arith, (record { spans = λ f. start .pre .1 .0 }, record { fits = omega (arith, start .pre .1 .1 .fits, simp length-append at (ap length (fields-is (now (start .args .rows)) (now (start .args .text)) (start .args .q) (start .args .n)))) }))
+    let args = c .before .before .before .before .before .before .before .before .before .before .before .before .args in
+    let l = left-stored (left-start (c .before .before .before .before .before .before .before .before .before .before .before .before .pre .1 .1)) _ (fields-is (now (args .rows)) (now (args .text)) (args .q) (args .n)) (c .before .before .before .before .before .before .before .put-little .ensures) in
+    (omega arith, (record { spans = λ f. c .before .before .before .before .before .before .before .before .before .before .before .before .pre .1 .0 }, left-all (left-step l refl (c .before .before .before .put-parts .ensures))))
 
 returns : tie.Need-returns
 unfolding printedPart
 returns c =
     let args = c .before .before .before .before .before .before .before .before .before .before .before .before .before .before .before .args in
-    wrote-is (wrote-then (c .before .before .before .before .before .before .before .before .before .before .put-u16 .ensures) (wrote-then (c .before .before .before .before .before .before .put-parts .ensures) (c .before .before .put-parts2 .ensures))) (sym (fields-is (now (args .rows)) (now (args .text)) (args .q) (args .n)))
+    let l = left-stored (left-start (c .before .before .before .before .before .before .before .before .before .before .before .before .before .before .before .pre .1 .1)) _ (fields-is (now (args .rows)) (now (args .text)) (args .q) (args .n)) (c .before .before .before .before .before .before .before .before .before .before .put-little .ensures) in
+    left-rest (left-step l refl (c .before .before .before .before .before .before .put-parts .ensures)) (c .before .before .put-parts2 .ensures)
 
 pub put-fields-spec : {M : Type 1} → statement M
 put-fields-spec =
     tie.close
     (tie.spec
-    put-u16-requires
+    (λ c κs. search needs)
     put-parts-requires
     (λ c. search needs)
     put-parts-requires-2

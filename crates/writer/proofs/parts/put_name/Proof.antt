@@ -1,37 +1,28 @@
 -- The length, the part of the text, a NUL.
 -- Assumes nothing.
-use native.Mathlib.Omega.{arith}
-use mathlib.Core.Path.{sym}
-use lib.ListN.{length-take, length-drop}
+use Prim.Native.Nat.{ℕ, _+_, _-_, _≤_}
+use mathlib.Core.Path.{_≡_, refl}
+use mathlib.Core.List.{List, _++_}
+use lib.ListN.{length, take, drop, replicate}
 use denote.Ref.{now}
-use Rattle.rows_check.specs.SectionLaws.{name-length, name-is, part-end}
-use Rattle.writer.proofs.OutputLaws.{wrote-then, wrote-is}
+use Rattle.codec.specs.Codec.{little}
+use Rattle.rows_check.specs.Tree.{cell}
+use Rattle.rows_check.specs.Sections.{printedName}
+use Rattle.rows_check.specs.SectionLaws.{name-is, part-end}
+use Rattle.put.specs.OutputLaws.{left-start, left-stored, left-last}
 use borrow.Author.Needs.{needs}
 use Rattle.writer.proofs.parts.put_name.Statement.{statement}
 use Rattle.writer.proofs.parts.put_name.Tie as tie
 
-put-u8-requires : tie.Need-put-u8-requires
-put-u8-requires c κs =
-    let start = c .before .before .before .before .before .before .before in
-    record { fits = omega (arith, start .pre .1 .1 .fits, name-length (now (start .args .rows)) (now (start .args .text)) (start .args .q) (start .pre .1 .0)) }
-
-put-bytes-requires : tie.Need-put-bytes-requires
-put-bytes-requires c κs =
-    let start = c .before .before .before .before .before .before .before .before .before .before .before .before in
-    record { fits = simp (length-take, length-drop) (omega (arith, start .pre .1 .1 .fits, c .before .before .before .before .before .before .before .cell-of2 .ensures .0, name-length (now (start .args .rows)) (now (start .args .text)) (start .args .q) (start .pre .1 .0))) }
-
-put-u8-requires-2 : tie.Need-put-u8-requires-2
-put-u8-requires-2 c κs =
-    let start = c .before .before .before .before .before .before .before .before .before .before .before .before .before .before .before .before in
-    record { fits = omega (arith, start .pre .1 .1 .fits, c .before .before .before .before .before .before .before .before .before .before .before .cell-of2 .ensures .0, name-length (now (start .args .rows)) (now (start .args .text)) (start .args .q) (start .pre .1 .0), simp (length-take, length-drop) at (c .before .before .before .put-bytes .ensures .next)) }
+name-parts : (rows text : List ℕ) (q : ℕ) {s l : ℕ} → s ≡ cell rows q 1 → l ≡ cell rows q 2 → cell rows q 1 + cell rows q 2 ≤ length text
+    → printedName rows text q ≡ little 1 l ++ (take (s + l - s) (drop s text) ++ replicate 1 0)
+name-parts rows text q {s} {l} es el h = rw (part-end text s l, es, el) (name-is rows text q h)
 
 returns : tie.Need-returns
 returns c =
-    let start = c .before .before .before .before .before .before .before .before .before .before .before .before .before .before .before .before .before .before .before in
-    let cell-of = c .before .before .before .before .before .before .before .before .before .before .before .before .before .before .before .cell-of in
-    let cell-of2 = c .before .before .before .before .before .before .before .before .before .before .before .before .before .before .cell-of2 in
-    wrote-is (wrote-then (c .before .before .before .before .before .before .before .before .before .before .before .put-u8 .ensures) (wrote-then (c .before .before .before .before .before .before .put-bytes .ensures) (c .before .before .put-u82 .ensures)))
-    (rw (part-end (now (start .args .text)) (cell-of .result) (cell-of2 .result), c .before .before .before .before .before .before .before .before .before .before .before .before .low .ensures, cell-of .ensures .0, cell-of2 .ensures .0) (sym (name-is (now (start .args .rows)) (now (start .args .text)) (start .args .q) (start .pre .1 .0))))
+    let args = c .before .before .before .before .before .before .before .before .before .before .before .before .before .before .before .before .before .before .args in
+    let e = name-parts (now (args .rows)) (now (args .text)) (args .q) (c .before .before .before .before .before .before .before .before .before .before .before .before .before .before .cell-of .ensures .0) (c .before .before .before .before .before .before .before .before .before .before .before .before .before .cell-of2 .ensures .0) (c .before .before .before .before .before .before .before .before .before .before .before .before .before .before .before .before .before .before .pre .1 .0) in
+    left-last (left-stored (left-stored (left-start (c .before .before .before .before .before .before .before .before .before .before .before .before .before .before .before .before .before .before .pre .1 .1)) _ e (c .before .before .before .before .before .before .before .before .before .before .before .put-little .ensures)) _ refl (c .before .before .before .before .before .before .put-bytes .ensures)) (c .before .before .put-zeros .ensures)
 
 pub put-name-spec : {M : Type 1} → statement M
 put-name-spec =
@@ -40,12 +31,11 @@ put-name-spec =
     (λ c κs. search needs)
     (λ c κs. search needs)
     (λ c κs. search needs)
-    put-u8-requires
     (λ c. search needs)
     (λ c. search needs)
     (λ c. search needs)
     (λ c. search needs)
-    put-bytes-requires
-    put-u8-requires-2
+    (λ c κs. search needs)
+    (λ c κs. search needs)
     (λ c. search needs)
     returns)

@@ -3,7 +3,7 @@
 use native.Mathlib.Omega.{arith}
 use borrow.Author.Tests.{eq-eqb, ne-eqb}
 use Rattle.writer.specs.Write.{printedPart}
-use Rattle.writer.proofs.OutputLaws.{wrote-is}
+use Rattle.put.specs.OutputLaws.{wrote-is}
 use borrow.Author.Needs.{needs}
 use Rattle.writer.proofs.parts.put_part.Statement.{statement}
 use Rattle.writer.proofs.parts.put_part.Tie as tie

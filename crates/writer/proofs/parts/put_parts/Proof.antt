@@ -6,7 +6,8 @@ use mathlib.Core.Path.{_≡_, refl}
 use Rattle.rows_check.specs.Tree.{after}
 use Rattle.rows_check.specs.Sections.{many}
 use Rattle.writer.specs.Write.{printedPart}
-use Rattle.writer.proofs.OutputLaws.{Left, left-start, many-room, many-step, many-done}
+use Rattle.put.specs.OutputLaws.{Left, left-start}
+use Rattle.writer.proofs.ManyLaws.{many-room, many-step, many-done}
 use borrow.Author.Needs.{needs}
 use Rattle.writer.proofs.parts.put_parts.Statement.{statement}
 use Rattle.writer.proofs.parts.put_parts.Tie as tie

@@ -5,7 +5,7 @@ use mathlib.Core.Path.{sym, ap}
 use lib.ListN.{length, length-append}
 use denote.Ref.{now}
 use Rattle.rows_check.specs.SectionLaws.{body-is}
-use Rattle.writer.proofs.OutputLaws.{wrote-then, wrote-is, wrote-filled}
+use Rattle.put.specs.OutputLaws.{wrote-then, wrote-is, wrote-filled}
 use borrow.Author.Needs.{needs}
 use Rattle.writer.proofs.sections.put_body.Statement.{statement}
 use Rattle.writer.proofs.sections.put_body.Tie as tie

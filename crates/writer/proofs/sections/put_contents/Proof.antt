@@ -3,7 +3,7 @@
 use mathlib.Core.Path.{sym, _∙_}
 use denote.Ref.{now}
 use Rattle.rows_check.specs.SectionLaws.{names-after, names-first}
-use Rattle.writer.proofs.OutputLaws.{wrote-is}
+use Rattle.put.specs.OutputLaws.{wrote-is}
 use borrow.Author.Needs.{needs}
 use Rattle.writer.proofs.sections.put_contents.Statement.{statement}
 use Rattle.writer.proofs.sections.put_contents.Tie as tie

@@ -2,11 +2,12 @@
 -- Assumes nothing.
 use Prim.Native.Nat.{_+_, _≤_}
 use native.Mathlib.Omega.{arith}
-use mathlib.Core.Path.{refl, sym, ap}
+use mathlib.Core.Path.{sym, ap}
 use lib.ListN.{length}
 use denote.Ref.{now}
+use Rattle.codec.specs.Codec.{little}
 use Rattle.rows_check.specs.SectionLaws.{section-is}
-use Rattle.writer.proofs.OutputLaws.{wrote-length, wrote-is, lent-length, lent-wrote, section-wrote}
+use Rattle.put.specs.OutputLaws.{wrote-is, lent-length, lent-wrote, stored-before}
 use borrow.Author.Needs.{needs}
 use Rattle.writer.proofs.sections.put_section.Statement.{statement}
 use Rattle.writer.proofs.sections.put_section.Tie as tie
@@ -19,21 +20,16 @@ part-put-body-start c = omega (arith, c .before .before .before .pre .1 .1 .fits
 
 put-body-requires : tie.Need-put-body-requires
 put-body-requires c κs =
-    let start = c .before .before .before .before in
-    (start .pre .0, (start .pre .1 .0, omega (arith, start .pre .1 .1 .fits, ap length (section-is (start .args .kind) (now (start .args .rows)) (now (start .args .text)) (start .args .q)), lent-length (start .args .at + 2) (now (start .args .out)))))
-
-put-u16-requires : tie.Need-put-u16-requires
-put-u16-requires c κs =
-    let start = c .before .before .before .before .before .before .before .before in
-    let h : start .args .at + 2 ≤ length (now (start .args .out)) = omega (arith, start .pre .1 .1 .fits, ap length (section-is (start .args .kind) (now (start .args .rows)) (now (start .args .text)) (start .args .q))) in
-    record { fits = omega (arith, h, wrote-length (lent-wrote (start .args .at + 2) (now (start .args .out)) h (c .before .before .before .put-body .ensures))) }
+    let args = c .before .before .before .before .args in
+    (c .before .before .before .before .pre .0, (c .before .before .before .before .pre .1 .0, omega (arith, c .before .before .before .before .pre .1 .1 .fits, ap length (section-is (args .kind) (now (args .rows)) (now (args .text)) (args .q)), lent-length (args .at + 2) (now (args .out)))))
 
 returns : tie.Need-returns
 returns c =
-    let start = c .before .before .before .before .before .before .before .before .before .before .before in
-    let put-body = c .before .before .before .before .before .before .put-body .ensures in
-    let h : start .args .at + 2 ≤ length (now (start .args .out)) = omega (arith, start .pre .1 .1 .fits, ap length (section-is (start .args .kind) (now (start .args .rows)) (now (start .args .text)) (start .args .q))) in
-    wrote-is (section-wrote refl (lent-wrote (start .args .at + 2) (now (start .args .out)) h put-body) _ (put-body .count) (c .before .before .put-u16 .ensures)) (sym (section-is (start .args .kind) (now (start .args .rows)) (now (start .args .text)) (start .args .q)))
+    let args = c .before .before .before .before .before .before .before .before .before .before .before .args in
+    let body = c .before .before .before .before .before .before .put-body .ensures in
+    let e = section-is (args .kind) (now (args .rows)) (now (args .text)) (args .q) in
+    let h : args .at + 2 ≤ length (now (args .out)) = omega (arith, c .before .before .before .before .before .before .before .before .before .before .before .pre .1 .1 .fits, ap length e) in
+    wrote-is (stored-before {xs = little 2 (2 + c .before .before .before .before .before .before .put-body .result)} (lent-wrote (args .at + 2) (now (args .out)) h body) (c .before .before .put-little .ensures)) (rw (body .count) (sym e))
 
 pub put-section-spec : {M : Type 1} → statement M
 put-section-spec =
@@ -45,7 +41,7 @@ put-section-spec =
     (λ c. search needs)
     put-body-requires
     (λ c. search needs)
-    put-u16-requires
+    (λ c κs. search needs)
     (λ c. search needs)
     (λ c. search needs)
     returns)

@@ -6,7 +6,8 @@ use Rattle.rows_check.specs.Tree.{nextSection, skip}
 use Rattle.rows_check.specs.Check.{printedSection}
 use Rattle.rows_check.specs.Sections.{many, Sections}
 use Rattle.rows_check.specs.SectionLaws.{own-row-inside, sections-next, skip-next, skip-none}
-use Rattle.writer.proofs.OutputLaws.{Left, left-start, many-room, many-step, many-done}
+use Rattle.put.specs.OutputLaws.{Left, left-start}
+use Rattle.writer.proofs.ManyLaws.{many-room, many-step, many-done}
 use borrow.Author.Needs.{needs}
 use Rattle.writer.proofs.sections.put_sections.Statement.{statement}
 use Rattle.writer.proofs.sections.put_sections.Tie as tie

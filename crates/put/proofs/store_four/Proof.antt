@@ -2,10 +2,10 @@
 -- Assumes nothing.
 use native.Mathlib.Omega.{arith}
 use lib.ListN.{length-set}
-use Rattle.writer.proofs.OutputLaws.{wrote-four}
+use Rattle.put.proofs.StoreLaws.{wrote-four}
 use borrow.Author.Needs.{needs}
-use Rattle.writer.proofs.put.put_four.Statement.{statement}
-use Rattle.writer.proofs.put.put_four.Tie as tie
+use Rattle.put.proofs.store_four.Statement.{statement}
+use Rattle.put.proofs.store_four.Tie as tie
 
 slice-write-out-2 : tie.Need-slice-write-out-2
 slice-write-out-2 c = simp length-set (omega (arith, c .pre .fits))
@@ -19,8 +19,8 @@ slice-write-out-4 c = simp length-set (omega (arith, c .pre .fits))
 returns : tie.Need-returns
 returns c = wrote-four (c .pre)
 
-pub put-four-spec : {M : Type 1} → statement M
-put-four-spec =
+pub store-four-spec : {M : Type 1} → statement M
+store-four-spec =
     tie.close
     (tie.spec
     (λ c. search needs)

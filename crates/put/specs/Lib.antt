@@ -1,0 +1,3 @@
+pub mod Output
+pub mod OutputLaws
+pub mod Single
