@@ -8,3 +8,6 @@ pub mod Single
 pub mod Examples
 pub mod SpanLaws
 pub mod NameLaws
+pub mod BlockFaults
+pub mod LengthsLaws
+pub mod PrintLaws

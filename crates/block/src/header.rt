@@ -89,7 +89,7 @@ pub(crate) fn fields_of(
 }
 
 // The lengths of a version from 1 to 4.
-pub(crate) fn lengths_of(version: u8) -> MetadataLengths
+pub fn lengths_of(version: u8) -> MetadataLengths
     ensures { λ r. ⌜ r ≡ lengths version ⌝ }
 {
     if version == 1 {

@@ -2,6 +2,7 @@
 mod header;
 mod parts;
 
+pub use header::lengths_of;
 use refusal::Refusal;
 ghost use mathlib.Core.Path.{_≡_};
 ghost use Rattle.codec.specs.Codec.{refusal, whole};

@@ -12,7 +12,8 @@ use lib.ListN.{getD, List·getD-eq-default}
 use Rattle.codec.specs.CaseLaws.{by-le, by-order, by-eqb, by-bool, no-true}
 use Rattle.codec.specs.Every.{both, both-left, both-right}
 use Rattle.dates.specs.Date.{isLeap, months, daysIn, isDay, isDate}
-use Rattle.dates.specs.Day.{daysBefore, daysOfYear, daysTo, dayNumber, dayOf, lastBy, yearOf, monthOf, inYear, dateOfDay, dateAfter}
+use Rattle.dates.specs.Day.{daysBefore, daysOfYear, daysTo, dayNumber, dayOf, isDayNumber, lastBy, yearOf, monthOf, inYear, dateOfDay, dateAfter, dateOn}
+use Rattle.dates.specs.declared.Calendar.the-variants.{Has}
 
 -- ---- years or months that follow each other, each of so many days
 
@@ -196,6 +197,11 @@ year-most y = omega (arith, year-before y)
 pub all-days : daysBefore daysOfYear 10000 ≡ 3652425
 unfolding multiples
 all-days = let e = year-before 10000 in omega arith
+
+-- so a number up to the last of them has a date
+pub date-on : (k : ℕ) → k ≤ 3652424 → dateOn k ≡ Has (dateOfDay k)
+unfolding dateOn isDayNumber
+date-on k h = let e : k < daysBefore daysOfYear 10000 = omega (arith, all-days) in rw (lt-ltb k (daysBefore daysOfYear 10000) e)
 
 -- ---- a date and its day
 

@@ -26,7 +26,7 @@ use Rattle.feed.specs.declared.Fed.{Fed}
 abbrev front : List ℕ → List ℕ → List ℕ
 front p st = p ++ drop (length p) st
 
--- a feed of p from the start that answers r: all of p is taken and held, at the front of the store; both tables are as they were
+-- a feed of p from the start that answers r: all of p is taken and held, at the front of the store; the tables are s and l after it
 pub record Leaves (st p s l : List ℕ) (r : Answer) (x : Fed) (st1 s1 l1 : List ℕ) : Type 0 where
   pub answer : x .answer ≡ r
   pub taken : x .taken ≡ length p
@@ -44,9 +44,9 @@ pasted : (st p : List ℕ) → paste st 0 p (length p) ≡ front p st
 pasted st p = ap₂ (λ y n. y ++ drop n st) (take-all (length p) p (omega arith)) (zero-add (length p))
 
 -- where all of p is taken and is x, the verdict on x decides
-fed-all : (st p t s l : List ℕ) (x : Holding) (r : Answer) (y : Fed) (st1 s1 l1 : List ℕ) → Alone start st p (length p) x
-    → (stageOf (length p) (front p st) ≡ x → Judgement (length p) (front p st) t s l r s l)
-    → Feeding 0 st p t s l y st1 s1 l1 → Leaves st p s l r y st1 s1 l1
+fed-all : (st p t s l : List ℕ) {s′ l′ : List ℕ} (x : Holding) (r : Answer) (y : Fed) (st1 s1 l1 : List ℕ) → Alone start st p (length p) x
+    → (stageOf (length p) (front p st) ≡ x → Judgement (length p) (front p st) t s l r s′ l′)
+    → Feeding 0 st p t s l y st1 s1 l1 → Leaves st p s′ l′ r y st1 s1 l1
 fed-all st p t s l x r y st1 s1 l1 a judged f =
     let q : storeAfter 0 st p ≡ front p st = ap (paste st 0 p) (a .taken) ∙ pasted st p in
     let j = judged (ap (stageOf (length p)) (sym q) ∙ a .stage) in
@@ -122,14 +122,17 @@ whole-block st p len long =
     ap (take (8 + len - 8)) (drop-append-le 8 p (drop (length p) st) (omega arith))
     ∙ take-at (drop 8 p) (drop (length p) st) (8 + len - 8) (length-drop 8 p ∙ omega arith)
 
--- a whole stream start whose block has no rows is done, with the block's fields
-pub fed-done : (p : List ℕ) (v len : ℕ) (f : Fields) → preludeOf (take 8 p) ≡ Stage.Whole v len → length p ≡ 8 + len → 0 < len
-    → ((t s l : List ℕ) → Promise v (drop 8 p) t s l (Read f) s l) → Gives (8 + len) p (Done f)
+-- a whole stream start is done where its block is read, with the block's fields and the tables that reading leaves
+pub fed-read : (st p t s l s′ l′ : List ℕ) (v len : ℕ) (f : Fields) (x : Fed) (st1 s1 l1 : List ℕ) → preludeOf (take 8 p) ≡ Stage.Whole v len → length p ≡ 8 + len → 0 < len
+    → Promise v (drop 8 p) t s l (Read f) s′ l′ → 8 + len ≤ length st → Feeding 0 st p t s l x st1 s1 l1 → Leaves st p s′ l′ (Done f) x st1 s1 l1
 unfolding blockSays
-fed-done p v len f names long some reads st t s l x st1 s1 l1 room =
+fed-read st p t s l s′ l′ v len f x st1 s1 l1 names long some reads room =
     fed-all st p t s l _ (Done f) x st1 s1 l1
     (subst (λ n. Alone start st p n (Holding.Whole (8 + len) v)) (sym long)
     (alone-whole start start-law st p (omega arith) (omega arith) (8 + len) v (ap announced names) room (omega arith) (omega arith)))
-    (λ e.
-    judged-whole (length p) (front p st) t s l (8 + len) v (Read f) (Done f) s l e
-    (subst (λ b. Promise v b t s l (Read f) s l) (sym (whole-block st p len long)) (reads t s l)) refl)
+    (λ e. judged-whole (length p) (front p st) t s l (8 + len) v (Read f) (Done f) s′ l′ e (subst (λ b. Promise v b t s l (Read f) s′ l′) (sym (whole-block st p len long)) reads) refl)
+
+-- one whose block has no rows leaves the tables as they were
+pub fed-done : (p : List ℕ) (v len : ℕ) (f : Fields) → preludeOf (take 8 p) ≡ Stage.Whole v len → length p ≡ 8 + len → 0 < len
+    → ((t s l : List ℕ) → Promise v (drop 8 p) t s l (Read f) s l) → Gives (8 + len) p (Done f)
+fed-done p v len f names long some reads st t s l x st1 s1 l1 room = fed-read st p t s l s l v len f x st1 s1 l1 names long some (reads t s l) room

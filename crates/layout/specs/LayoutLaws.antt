@@ -2,9 +2,9 @@
 use Prim.Native.Nat.{ℕ, _<_}
 use native.Mathlib.Omega.{arith}
 use native.Mathlib.Nat.{zero-add}
-use mathlib.Core.Path.{_≡_, sym, ap, _∙_, subst}
+use mathlib.Core.Path.{_≡_, refl, sym, ap, _∙_, subst}
 use mathlib.Core.Bool.{Bool}
-use mathlib.Core.List.{List, []}
+use mathlib.Core.List.{List, [], _++_}
 use lib.ListN.{length, take, drop}
 use Rattle.codec.specs.Codec.{ok, Bytes, _then_, num, whole}
 use Rattle.wire.specs.Formats.{Tests}
@@ -64,6 +64,15 @@ module _ (tests : Tests) (D : ℕ) where
   unfolding LegalLayout bareLayout FitsLayout
   swap-legal b t t′ j bs e same f =
       (parts tests D .law .swap _ _ (print-parse b t j bs e .legal .0) (ap (λ v. fromLayout v .0) same) (f .0), f .1)
+
+  -- a legal layout and its bytes, by parts and rest
+  pub legal-parts : (t : Layout) → LegalLayout tests D t → parts tests D .codec .legal (fromLayout t .0) × Bytes (t .rest)
+  unfolding LegalLayout
+  legal-parts t lg = lg
+
+  pub print-parts : (t : Layout) → printLayout tests D t ≡ parts tests D .codec .print (fromLayout t .0) ++ t .rest
+  unfolding printLayout
+  print-parts t = refl
 
   -- the version alone has two bytes
   pub parts-some : (x : Parts) → parts tests D .codec .legal x → 0 < length (parts tests D .codec .print x)
