@@ -1,0 +1,14 @@
+pub mod Tree
+pub mod Check
+pub mod RowFaults
+pub mod RowLaws
+pub mod FaultLaws
+pub mod FilledLaws
+pub mod FitLaws
+pub mod SizedLaws
+pub mod JoinedLaws
+pub mod PrintLaws
+pub mod LengthLaws
+pub mod BackLaws
+pub mod ToldLaws
+pub mod Single
