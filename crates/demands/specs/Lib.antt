@@ -11,6 +11,7 @@ pub mod TableP
 pub mod Demand2
 pub mod StartThenFrames
 pub mod WriterAccepts
+pub mod StartWritten
 pub mod InColumns
 pub mod OwnerLaws
 pub mod Owners

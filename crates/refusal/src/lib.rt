@@ -167,3 +167,10 @@ pub const OUTPUT_SHORT: u32 = 96;
 pub const FRAME_LENGTH: u32 = 100;
 
 pub const FRAME_STORE_SHORT: u32 = 101;
+
+// Writing whole starts.
+pub const START_MALFORMED: u32 = 110;
+
+pub const TEXT_WIDE: u32 = 111;
+
+pub const START_OUTPUT_SHORT: u32 = 112;
