@@ -6,10 +6,11 @@
  * Places. A refusal from reading, 10 to 12 and 20 to 55, also has a place (dbn_has_place), the byte where it happened: the first byte of the
  * number or text that broke its rule, or where something was to begin that does not fit, which may be the end of the bytes; for 28 the first
  * byte that the contents do not reach. It counts from the prelude for 10 to 12, and else from the block or the layout that was given; from
- * the block in dbn_feed, too. docs/REFUSALS.md has the place and the smallest input of every such number.
+ * the block in dbn_feed, too. docs/REFUSALS.md has the place and the smallest input of every such number. dbn_write_block, which reads no
+ * block, refuses by some of these numbers too, and then without a place.
  *
- * Buffers. A slice is a pointer and a length in elements. It may be NULL where the length is 0, and is not read then; `sheet` and `out` are
- * never NULL. A pointer is aligned for its element: 2 bytes for uint16_t, 4 for uint32_t, 8 for uint64_t. A buffer that is lent for
+ * Buffers. A slice is a pointer and a length in elements. It may be NULL where the length is 0, and is not read then; `sheet`, `fields` and
+ * `out` are never NULL. A pointer is aligned for its element: 2 bytes for uint16_t, 4 for uint32_t, 8 for uint64_t. A buffer that is lent for
  * writing (store, symbology, layout, rows, output, out, where they are not const) overlaps no other buffer of the call; two that are
  * only read may. size_t has 64 bits. Nothing is kept after a call, nothing is allocated, and any number of threads may call at once.
  *
@@ -27,7 +28,7 @@
  * Stack, in bytes that a call needs at the most:
  *     dbn_text, dbn_date, dbn_day, dbn_prelude, dbn_symbology_name,
  *     dbn_layout_name, dbn_frame                                               4 KiB
- *     dbn_block, dbn_feed, dbn_layout, dbn_write_layout                       32 KiB
+ *     dbn_block, dbn_feed, dbn_layout, dbn_write_layout, dbn_write_block      32 KiB
  *     the same for a layout of more than 4,096 structs, or with a record
  *     or struct whose fields stand far from the order of their offsets       320 KiB
  *     dbn_layout_plain                                                        64 KiB
@@ -47,7 +48,7 @@
 
 /* The version of this header, major x 10000 + minor x 100 + patch. */
 #define DBN_START_VERSION_MAJOR 0
-#define DBN_START_VERSION_MINOR 9
+#define DBN_START_VERSION_MINOR 10
 #define DBN_START_VERSION_PATCH 0
 #define DBN_START_VERSION (DBN_START_VERSION_MAJOR * 10000 + DBN_START_VERSION_MINOR * 100 + DBN_START_VERSION_PATCH)
 
@@ -123,14 +124,17 @@ extern "C" {
     X(LABELS_NOT_RISING, 95, "label codes do not rise")                                            \
     X(OUTPUT_SHORT, 96, "the output is too short")                                                 \
     X(FRAME_LENGTH, 100, "a record's length is below 16 bytes")                                    \
-    X(FRAME_STORE_SHORT, 101, "the store is too short for a record's header or for the record")
+    X(FRAME_STORE_SHORT, 101, "the store is too short for a record's header or for the record")    \
+    X(START_MALFORMED, 110, "the symbology rows, texts or fields to write are malformed")          \
+    X(TEXT_WIDE, 111, "a symbol or the dataset is too wide, or a width in version 1 is not 22")    \
+    X(START_OUTPUT_SHORT, 112, "the output is too short for the prelude and the block")
 
 enum dbn_refusal {
     DBN_ACCEPTED = 0,
 #define DBN_NAMED(name, number, sentence) DBN_REFUSED_##name = number,
     DBN_REFUSALS(DBN_NAMED)
 #undef DBN_NAMED
-    DBN_REFUSED_LAST = DBN_REFUSED_FRAME_STORE_SHORT
+    DBN_REFUSED_LAST = DBN_REFUSED_START_OUTPUT_SHORT
 };
 
 /* What a number says, in a few words. */
@@ -148,7 +152,7 @@ static inline const char *dbn_sentence(uint32_t number) {
     }
 }
 
-/* 1 where a refusal by this number has a place, else 0. */
+/* 1 where a refusal from reading by this number has a place, else 0. */
 static inline int dbn_has_place(uint32_t number) {
     return (number >= 10 && number <= 12) || (number >= 20 && number <= 55);
 }
@@ -171,8 +175,9 @@ enum dbn_sheet {
 };
 
 /* Numbers in a row, and the kinds of rows, which are a row's first number. Unused numbers are 0. Starts count from the block for
- * symbology rows and from the layout for layout rows. A table of n numbers has room for n / DBN_SYMBOLOGY_ROW or n / DBN_LAYOUT_ROW rows,
- * rounded down; n need not be a multiple. Layout rows stand one after the other, and symbology rows in columns. */
+ * symbology rows and from the layout for layout rows, and from the text where rows are written. A table of n numbers has room for
+ * n / DBN_SYMBOLOGY_ROW or n / DBN_LAYOUT_ROW rows, rounded down; n need not be a multiple. Layout rows stand one after the other, and symbology
+ * rows in columns. */
 enum dbn_row { DBN_SYMBOLOGY_ROW = 6, DBN_LAYOUT_ROW = 9 };
 
 /* The columns of a symbology table: first every kind, then every start, and so on. Each is h cells high, where h is the rows that the
@@ -263,6 +268,9 @@ enum dbn_day_number { DBN_DAY_LAST = 3652424 };
 /* Which fields a block has. What is absent has the value 0. */
 enum dbn_present { DBN_HAS_SCHEMA = 1, DBN_HAS_END = 2, DBN_HAS_LIMIT = 4, DBN_HAS_STYPE_IN = 8 };
 
+/* Where the fields of dbn_write_block have what no block gives: the dataset's start in the text. */
+enum dbn_write_field { DBN_FIELD_DATASET_START = 13 };
+
 /* How far a stream start has come. */
 enum dbn_step {
     DBN_STEP_NEEDS,  /* out[DBN_OUT_NEEDED] bytes end the present stage, and no fewer do */
@@ -330,6 +338,37 @@ uint32_t dbn_layout_plain(const uint8_t *layout, size_t n, uint16_t width, const
  * length written. */
 uint32_t dbn_write_layout(const uint32_t *rows, size_t rn, const uint8_t *text, size_t tn, uint16_t version, uint16_t width,
                           const uint16_t sheet[520], uint8_t *output, size_t on, uint64_t out[16]);
+
+/* Writes the start of a stream, prelude and block, of a version: its fields, the first `rows` rows of a symbology table of sn numbers, and
+ * layout rows, ln numbers, whose names, like the symbols and the dataset, are parts of the text. 0: out[DBN_WRITE_LENGTH] is the length written,
+ * the prelude's eight bytes among them. Any refusal leaves output and `out` as they were, and has no place.
+ *
+ * fields[0] to fields[9] and fields[DBN_OUT_PRESENT] are as dbn_block gives them, the symbol width 22 in version 1 among them, and
+ * fields[DBN_FIELD_DATASET_START] is where the dataset starts in the text. fields[10], [11], [14] and [15] are not looked at. The
+ * table has columns of height sn / 6, as dbn_block fills them, and sn need not be a multiple; cells of no row are not looked at. Starts
+ * count from the text, in which texts may overlap and stand in any order. So what dbn_block read is written again with its `out` as the fields and
+ * the block as the text; the starts of layout rows then grow by 104, where the layout begins in the block.
+ *
+ * Absent values are written as schema 65535, end 2^64-1, limit 0 and stype_in 255, and version 1's record count as 2^64-1. A symbol and the dataset
+ * are filled with NULs to their width, reserved and skipped bytes are zero, and no bytes follow the symbology. Version 4 without layout rows has a
+ * layout of eight bytes, its version and three counts of 0. What is written reads back, with the same sheet, with the same fields and rows, starts
+ * apart.
+ *
+ * Refused in this order: 11; 110; 111; 90 to 95 for the layout rows, as in dbn_write_layout; 13 for a block above 4,294,967,295 bytes; what
+ * dbn_block would answer to the block that is about to be written, 3 apart, among them 25 for layout rows below version 4 and 31 for symbols of a
+ * list where the width is 0; 112 for an output below the length.
+ *
+ * 110 is for fields: presence bits above 15; a value beside an absent bit that is not 0; a present schema of 65535 or above, end of 0 or 2^64-1,
+ * limit of 0, stype_in of 255 or above; stype_out above 255; ts_out above 1; a width above 65535, but in version 1; a layout version above
+ * 65535, or not 0 below version 4. For texts: a dataset or symbol whose span is not inside the text, or that ends in a NUL. For rows: more than
+ * sn / 6, or than 4,294,967,295; kinds out of the order of all symbols, all partial, all not found, then mappings, each with as many intervals
+ * after it as its x says; x or y of a list's row, or y of a mapping, that is not 0; a day of an interval above DBN_DAY_LAST; an owner that is not
+ * the row's own index, or of an interval not that of its mapping.
+ *
+ * 111 is for a dataset longer than its field, 38 bytes in version 4 and else 16, for a symbol longer than the width, and for any width but 22 in
+ * version 1. */
+uint32_t dbn_write_block(uint8_t version, const uint64_t fields[16], const uint32_t *symbology, size_t sn, uint64_t rows, const uint32_t *layout,
+                         size_t ln, const uint8_t *text, size_t tn, const uint16_t sheet[520], uint8_t *output, size_t on, uint64_t out[16]);
 
 /* The text of symbology row `index`, as a part of the block. `rows` is the table as it was lent and rn its whole length, which tells the
  * height of its columns: a front part of it is another table. 0: out = {start, length}. 90: out = {0, 0}, for a row that the table has no room

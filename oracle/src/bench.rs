@@ -1,9 +1,10 @@
 //! bench: the C functions beside the crate on the same bytes. Medians of the thread's own CPU time, the two taking turns.
 use crate::{
-    bench_shapes::{beside, shapes},
-    of_crate::dbn::Fsm,
+    bench_shapes::{beside, shapes, written::Written},
+    of_crate::dbn::{metadata, Fsm},
     walk::ROW,
 };
+use ::dbn::encode::dbn::MetadataEncoder;
 use dbn_start::{ffi, Layout};
 use std::hint::black_box;
 
@@ -15,11 +16,15 @@ pub fn run() {
     println!("here, crate dbn 0.73.0, and here as a part of the crate's time");
     let (v3, v1) = (shapes::symbology(71, 1000, 100, 4), shapes::symbology(22, 1000, 100, 4));
     let inner = shapes::daily();
-    read("version 3, width 71, 1,000 symbols, 100 mappings of 4", 3, &shapes::block(3, 71, &v3));
-    read("version 1, width 22, the same", 1, &shapes::block(1, 22, &v1));
-    read("version 4, 20 records with 405 fields, no symbols", 4, &shapes::block4(&inner));
-    read("version 3, no symbols", 3, &shapes::block(3, 71, &[0; 16]));
+    let days = [
+        ("version 3, width 71, 1,000 symbols, 100 mappings of 4", 3, shapes::block(3, 71, &v3)),
+        ("version 1, width 22, the same", 1, shapes::block(1, 22, &v1)),
+        ("version 4, 20 records with 405 fields, no symbols", 4, shapes::block4(&inner)),
+        ("version 3, no symbols", 3, shapes::block(3, 71, &[0; 16])),
+    ];
+    days.iter().for_each(|(what, version, block)| read(what, *version, block));
     layouts(&inner);
+    days.iter().for_each(|(what, version, block)| write(what, *version, block));
 }
 
 fn tell(what: &str, bytes: usize, (here, theirs): (f64, f64)) {
@@ -92,6 +97,22 @@ fn read(what: &str, version: u8, block: &[u8]) {
         },
     );
     tell(&format!("dbn_feed and new, write_all, process(), drop: {what}"), stream.len(), both);
+}
+
+/// `dbn_write_block` beside the crate's encoder, both with room for the bytes.
+fn write(what: &str, version: u8, block: &[u8]) {
+    let theirs = metadata(&shapes::stream_of(version, block)).expect("the crate reads it");
+    let (mut here, mut encoded) = (Written::of(version, block, shapes::sheet()), Vec::with_capacity(block.len() + 16));
+    let both = beside(
+        || assert_eq!(black_box(&mut here).write().0, 0),
+        || {
+            encoded.clear();
+            MetadataEncoder::new(&mut encoded).encode(black_box(&theirs)).expect("the crate writes it");
+        },
+    );
+    // From version 3 on the crate fills a block up to a multiple of 8.
+    assert_eq!(here.write().1[8..], encoded[8..][..block.len()], "the same bytes");
+    tell(&format!("dbn_write_block (checks all that it is lent) and the crate's encoder: {what}"), block.len(), both);
 }
 
 /// `dbn_layout` beside `wire::decode`, and `dbn_write_layout` beside `wire::encode`.

@@ -7,12 +7,13 @@ use crate::{
     paper::{self, Stage},
     tally::{told, Beside, Kind, Tally},
     walk::ROW,
+    written,
 };
 
 /// A made sheet: which of the two builds it is for, its lent form, and which sizes of 0 the crate is told as `Some(0)`.
-struct Made {
-    build: usize,
-    sheet: Sheet,
+pub struct Made {
+    pub build: usize,
+    pub sheet: Sheet,
     zeros: bool,
 }
 
@@ -67,7 +68,7 @@ pub fn run(inputs: u64, seed: u64) -> Tally {
             long_rows(&mut r, &made.sheet, &mut tally);
             continue;
         }
-        match r.below(13) {
+        match r.below(16) {
             0..=3 => stream(&mut r, &made, &mut tally),
             4 => block(&mut r, &made, &mut tally),
             5..=7 => layout(&mut r, &made, &mut tally),
@@ -75,6 +76,9 @@ pub fn run(inputs: u64, seed: u64) -> Tally {
             9 => rows(&mut r, &made.sheet, &mut tally),
             10 => lent(&mut r, &made.sheet, &mut tally),
             11 => any_sheet(&mut r, &mut tally),
+            12 => written::read_again(&mut r, &made, &mut tally),
+            13 => written::of_the_encoder(&mut r, &made, &mut tally),
+            14 => written::any(&mut r, &made.sheet, &mut tally),
             _ => aimed(&mut r, &made, &mut tally),
         }
     }
@@ -142,16 +146,16 @@ fn beside_crate(ours: &[Answer], builds: &[Build; 3], ask: impl Fn(&Build) -> Ve
 }
 
 /// Whether the label codes of every def rise.
-fn rising(rows: &[[u32; 9]]) -> bool {
+pub fn rising(rows: &[[u32; 9]]) -> bool {
     rows.windows(2).all(|two| two[0][0] != 15 || two[1][0] != 15 || two[0][3] < two[1][3])
 }
 
-fn hex(bytes: &[u8]) -> String {
+pub fn hex(bytes: &[u8]) -> String {
     bytes.iter().map(|byte| format!("{byte:02x}")).collect()
 }
 
 /// Says which input it was.
-fn with_input(kind: Kind, input: impl Fn() -> String) -> Kind {
+pub fn with_input(kind: Kind, input: impl Fn() -> String) -> Kind {
     match kind {
         Kind::Unexplained(text) => Kind::Unexplained(format!("{text}; {}", input())),
         kind => kind,
@@ -175,7 +179,7 @@ fn aimed(r: &mut Rng, made: &Made, tally: &mut Tally) {
     }
 }
 
-fn cut_stream(r: &mut Rng, made: &Made, tally: &mut Tally, bytes: &[u8], what: &'static str) {
+pub fn cut_stream(r: &mut Rng, made: &Made, tally: &mut Tally, bytes: &[u8], what: &'static str) {
     let mut cuts: Vec<usize> = (0..r.pick(&[0, 0, 1, 2, 3, 5])).map(|_| r.below(bytes.len() + 1)).collect();
     cuts.sort();
     let answers = ours::feed(r, bytes, &cuts, &made.sheet);

@@ -9,9 +9,11 @@ mod ours;
 #[cfg(test)]
 mod page;
 mod paper;
+mod paper_start;
 mod sample;
 mod tally;
 mod walk;
+mod written;
 
 #[path = "../../relay/measure/mod.rs"]
 mod bench_shapes;
@@ -21,6 +23,8 @@ mod calls;
 mod columns;
 #[path = "../../relay/fuzz/gen.rs"]
 mod gen;
+#[path = "../../relay/fuzz/starts.rs"]
+mod starts;
 
 fn main() {
     let words: Vec<String> = std::env::args().skip(1).collect();

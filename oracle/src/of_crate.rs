@@ -30,6 +30,11 @@ pub struct Build {
     pub rewrite: fn(&[u8], u16) -> Result<Vec<u8>, String>,
     /// Whether two layouts read to the same value.
     pub same: fn(&[u8], &[u8], u16) -> bool,
+    /// Whether two stream starts read to the same metadata.
+    pub same_start: fn(&[u8], &[u8]) -> bool,
+    /// What the crate writes for the metadata of a stream start that it reads, each text without what it does not write: letters beyond ASCII,
+    /// and the last byte of its width.
+    pub encode: fn(&[u8]) -> Result<Vec<u8>, String>,
 }
 
 macro_rules! build {
@@ -38,6 +43,7 @@ macro_rules! build {
             use super::*;
             use ::$krate::{
                 decode::dbn::fsm::{DbnFsm, ProcessResult},
+                encode::dbn::MetadataEncoder,
                 layout::StreamLayout,
                 v3, v4, Metadata, VersionUpgradePolicy,
             };
@@ -51,7 +57,43 @@ macro_rules! build {
                     let read = |bytes| ::$krate::layout_decode(bytes, width).ok();
                     read(one).is_some() && read(one) == read(two)
                 },
+                same_start: |one, two| metadata(one).is_some() && metadata(one) == metadata(two),
+                encode: |stream| encode(&written_by_the_crate(metadata(stream).ok_or("it is not read")?)),
             };
+
+            /// The metadata of a whole stream start.
+            pub fn metadata(stream: &[u8]) -> Option<Metadata> {
+                let mut fsm = Fsm::new(stream[3]);
+                fsm.write_all(stream);
+                match fsm.process() {
+                    ProcessResult::Metadata(metadata) => Some(metadata),
+                    _ => None,
+                }
+            }
+
+            /// The metadata with texts that the crate's encoder takes.
+            fn written_by_the_crate(mut m: Metadata) -> Metadata {
+                let short = |text: &mut String, width: usize| {
+                    text.retain(|letter| letter.is_ascii());
+                    text.truncate(width - 1);
+                };
+                short(&mut m.dataset, if m.version == 4 { 38 } else { 16 });
+                let intervals = |mapping: &mut ::$krate::SymbolMapping| {
+                    short(&mut mapping.raw_symbol, m.symbol_cstr_len);
+                    mapping.intervals.iter_mut().for_each(|interval| short(&mut interval.symbol, m.symbol_cstr_len));
+                };
+                m.mappings.iter_mut().for_each(intervals);
+                let lists = [&mut m.symbols, &mut m.partial, &mut m.not_found];
+                lists.into_iter().flatten().for_each(|symbol| short(symbol, m.symbol_cstr_len));
+                m
+            }
+
+            /// What the crate's own encoder writes: prelude and block.
+            pub fn encode(metadata: &Metadata) -> Result<Vec<u8>, String> {
+                let mut out = Vec::new();
+                MetadataEncoder::new(&mut out).encode(metadata).map_err(|error| error.to_string())?;
+                Ok(out)
+            }
 
             /// The state machine for a version: 4 has a header of its own.
             pub enum Fsm {

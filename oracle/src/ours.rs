@@ -194,6 +194,17 @@ pub fn layout(r: &mut Rng, bytes: &[u8], width: u16, sheet: &Sheet) -> Answer {
     Answer::Accepted(Box::new(Values { layout_version: a.out[9] as u16, layout, ..Default::default() }))
 }
 
+/// What the block writer gives, with an output of `room` bytes: the bytes, or the number and an output that is untouched.
+pub fn write_start(
+    r: &mut Rng,
+    start: &calls::Start,
+    sheet: &Sheet,
+    room: usize,
+) -> Result<Result<Vec<u8>, u32>, String> {
+    let (output, out): (Vec<u8>, _) = ((0..room).map(|_| r.byte()).collect(), marks(r));
+    told_by_a_writer(calls::write_block(start, &sheet.0, &output, &out), &output, &out)
+}
+
 /// What the writer gives, with an output of `room` bytes: the bytes, or the number and an output that is untouched.
 pub fn write(
     r: &mut Rng,
@@ -205,7 +216,11 @@ pub fn write(
     room: usize,
 ) -> Result<Result<Vec<u8>, u32>, String> {
     let (output, out): (Vec<u8>, _) = ((0..room).map(|_| r.byte()).collect(), marks(r));
-    let a = calls::write(rows, text, version, width, &sheet.0, &output, &out);
+    told_by_a_writer(calls::write(rows, text, version, width, &sheet.0, &output, &out), &output, &out)
+}
+
+/// The bytes that a writer gives, or its number, once it is seen that it left all else as it was.
+fn told_by_a_writer(a: calls::WriteAnswer, output: &[u8], out: &[u64; 16]) -> Result<Result<Vec<u8>, u32>, String> {
     if a.out[1..] != out[1..] {
         return Err("out of the writer".into());
     }
@@ -214,7 +229,7 @@ pub fn write(
         return if kept { Ok(Err(a.number)) } else { Err("an output after a refusal".into()) };
     }
     let length = a.out[0] as usize;
-    if length > room || a.output[length..] != output[length..] {
+    if length > output.len() || a.output[length..] != output[length..] {
         return Err("an output past the written length".into());
     }
     Ok(Ok(a.output[..length].to_vec()))

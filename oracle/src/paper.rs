@@ -108,6 +108,20 @@ pub fn day_number(date: u32) -> u32 {
     years + months + day - 1
 }
 
+/// The date of a day number, at most 3,652,424.
+pub fn date_of(mut day: u32) -> u32 {
+    let (mut year, mut month) = (0, 1);
+    while day >= 365 + is_leap(year) as u32 {
+        day -= 365 + is_leap(year) as u32;
+        year += 1;
+    }
+    while day >= days_in(year, month) {
+        day -= days_in(year, month);
+        month += 1;
+    }
+    year * 10000 + month * 100 + day + 1
+}
+
 #[derive(Clone, Copy)]
 struct Entry {
     id: usize,
@@ -536,8 +550,15 @@ pub fn fed(stream: &[u8], cuts: &[usize], s: &Sheet) -> Vec<Stage> {
     stages
 }
 
-/// The bytes of rows: 90 to 95, each over all rows before the next, then the rules. The length of an output is not asked.
+/// The bytes of rows: 90 to 95, then the rules. The length of an output is not asked.
 pub fn write(rows: &[u32], text: &[u8], version: u16, width: usize, s: &Sheet) -> Result<Vec<u8>, u32> {
+    let out = printed(rows, text, version)?;
+    rules(s, &read_layout(&out, 0).expect("written bytes are a layout"), width)?;
+    Ok(out)
+}
+
+/// The bytes of rows: 90 to 95, each over all rows before the next.
+pub fn printed(rows: &[u32], text: &[u8], version: u16) -> Result<Vec<u8>, u32> {
     let items = items(rows, text)?;
     let kinds = [10, 13, 14].map(|kind| items.iter().filter(|item| item.row[0] == kind).count());
     if kinds.iter().any(|&n| n > 65535) || items.iter().any(|item| item.count > 65535) {
@@ -570,7 +591,6 @@ pub fn write(rows: &[u32], text: &[u8], version: u16, width: usize, s: &Sheet) -
             return Err(95);
         }
     }
-    rules(s, &read_layout(&out, 0).expect("written bytes are a layout"), width)?;
     Ok(out)
 }
 
@@ -699,7 +719,7 @@ mod tests {
             [(4000101, 146_097), (16000101, 584_388), (20000101, 730_485), (19000228, 694_019), (19000301, 694_020)];
         for (date, number) in first.into_iter().chain(round).chain([(20230317, 738_961), (99991231, 3_652_424)]) {
             assert!(is_date(date), "{date}");
-            assert_eq!(day_number(date), number, "{date}");
+            assert_eq!((day_number(date), date_of(number)), (number, date), "{date}");
         }
     }
 

@@ -26,7 +26,7 @@ pub enum Kind {
 
 /// The numbers that the crate can give, and those, [`AFTER_NUL`] apart, that the plain program alone gives.
 const OF_CRATE: [std::ops::RangeInclusive<u32>; 7] = [10..=12, 20..=28, 30..=40, 44..=45, 50..=55, 60..=64, 71..=83];
-const OF_PAPER: [std::ops::RangeInclusive<u32>; 3] = [1..=3, 13..=13, 90..=96];
+const OF_PAPER: [std::ops::RangeInclusive<u32>; 4] = [1..=3, 13..=13, 90..=96, 110..=112];
 
 impl Beside {
     const ALL: [Beside; 3] = [Beside::Crate, Beside::AfterNul, Beside::Paper];

@@ -162,7 +162,7 @@ pub fn layout_plain(layout: &[u8], width: u16, sheet: &[u16; 520], out: &[u64; 1
     (number, values.content("out").try_into().unwrap())
 }
 
-/// What the writer left.
+/// What a writer left.
 #[derive(Debug, Clone, PartialEq)]
 pub struct WriteAnswer {
     pub number: u32,
@@ -199,6 +199,48 @@ pub fn write(
     table.unchanged("the rows", rows);
     names.unchanged("the text", text);
     lent_sheet.unchanged("the sheet", sheet);
+    WriteAnswer { number, out: values.content("out").try_into().unwrap(), output: bytes.content("the output").to_vec() }
+}
+
+/// What the block writer is lent for reading, the sheet apart.
+#[derive(Debug, Clone, PartialEq)]
+pub struct Start {
+    pub version: u8,
+    pub fields: [u64; 16],
+    pub symbology: Vec<u32>,
+    pub rows: u64,
+    pub layout: Vec<u32>,
+    pub text: Vec<u8>,
+}
+
+pub fn write_block(start: &Start, sheet: &[u16; 520], output: &[u8], out: &[u64; 16]) -> WriteAnswer {
+    let Start { version, fields, symbology, rows, layout, text } = start;
+    let (lent_fields, lent_sheet, names) = (Lent::new(fields), Lent::new(sheet), Lent::new(text));
+    let (first, second) = (Lent::new(symbology), Lent::new(layout));
+    let (mut bytes, mut values) = (Lent::new(output), Lent::new(out));
+    // SAFETY: every pointer is to a buffer of the given length, and no two overlap.
+    let number = unsafe {
+        ffi::dbn_write_block(
+            *version,
+            lent_fields.at().cast(),
+            first.at(),
+            symbology.len(),
+            *rows,
+            second.at(),
+            layout.len(),
+            names.at(),
+            text.len(),
+            lent_sheet.at().cast(),
+            bytes.at_mut(),
+            output.len(),
+            values.at_mut().cast(),
+        )
+    };
+    lent_fields.unchanged("the fields", fields);
+    lent_sheet.unchanged("the sheet", sheet);
+    names.unchanged("the text", text);
+    first.unchanged("the symbology table", symbology);
+    second.unchanged("the layout rows", layout);
     WriteAnswer { number, out: values.content("out").try_into().unwrap(), output: bytes.content("the output").to_vec() }
 }
 

@@ -3,7 +3,7 @@ use super::{
     calls::{self, BlockAnswer, FeedAnswer},
     columns, days,
     gen::{self, Rng, Sheet},
-    names, owners, texts, Count,
+    names, owners, texts, writing, Count,
 };
 use dbn_start::ffi::SYMBOLOGY_ROW;
 
@@ -18,7 +18,7 @@ pub fn marked_out<const N: usize>(r: &mut Rng) -> [u64; N] {
 
 /// Counts an answer: 0 with nothing needed, 0 with bytes needed, or a refusal, whose number must be of the table.
 pub fn tell(count: &mut Count, number: u32, needed: u64) {
-    let table = [0..=3, 10..=13, 20..=45, 50..=55, 60..=64, 71..=83, 90..=96, 100..=101];
+    let table = [0..=3, 10..=13, 20..=45, 50..=55, 60..=64, 71..=83, 90..=96, 100..=101, 110..=112];
     assert!(table.iter().any(|numbers| numbers.contains(&number)), "{number} is no number of the table");
     count.calls += 1;
     match (number, needed) {
@@ -310,7 +310,7 @@ fn block(
         texts::refused(version, block, a.number, a.out[PLACE]);
         return within(version, block, sheet, &out, a.number, a.out[PLACE]);
     }
-    symbology_rows(r, version, block, sheet, &a);
+    symbology_rows(r, version, block, sheet, &a, count);
     let items = a.out[11] as usize;
     if version < 4 {
         assert_eq!((a.out[9], items), (0, 0), "no layout below version 4");
@@ -324,14 +324,14 @@ fn block(
     names::accepted(r, inner, &a.layout, 9, items);
 }
 
-/// The symbology rows of an accepted block: their texts, their days, their owners and their names.
-fn symbology_rows(r: &mut Rng, version: u8, block: &[u8], sheet: &Sheet, a: &BlockAnswer) {
-    let count = a.out[10] as usize;
-    let rows = columns::rows(&a.symbology, count);
+/// The symbology rows of an accepted block: their texts, their days, their owners and their names; and that the block is written.
+fn symbology_rows(r: &mut Rng, version: u8, block: &[u8], sheet: &Sheet, a: &BlockAnswer, count: &mut Count) {
+    let rows = columns::rows(&a.symbology, a.out[10] as usize);
     texts::accepted(r, version, block, sheet, a, &rows);
     days::accepted(block, &rows);
     owners::accepted(&rows);
-    names::accepted(r, block, &a.symbology, SYMBOLOGY_ROW, count);
+    names::accepted(r, block, &a.symbology, SYMBOLOGY_ROW, rows.len());
+    writing::accepted(r, version, block, sheet, a, &rows, count);
 }
 
 /// A layout that is refused in a block is refused by itself at the same byte, counted from the layout.
@@ -450,7 +450,7 @@ fn same_back(written: &[u8], text: &[u8], rows: &[u32], sheet: &Sheet, version: 
 }
 
 /// Whether the codes of every label def rise.
-fn rising(rows: &[u32]) -> bool {
+pub fn rising(rows: &[u32]) -> bool {
     rows.chunks(9).zip(rows.chunks(9).skip(1)).all(|(a, b)| a[0] != 15 || b[0] != 15 || a[3] < b[3])
 }
 
@@ -523,6 +523,7 @@ pub fn anything(r: &mut Rng, sheet: &Sheet, count: &mut Count) {
     let rows = marked(r, length, |x| (x >> 40) as u32 % [3, 16, 300][x as usize % 3]);
     write_any(r, sheet, &rows, &store, version as u16, piece.len() as u16, count);
     days::any(r);
+    writing::any(r, &store, sheet, count);
 }
 
 /// Any bytes as a block of any version: a refusal leaves what was lent, and has its place.

@@ -6,7 +6,8 @@
 //! same answer; a table is written in the cells of the rows and nowhere else; a name is the span that its row tells, and lies within the bytes; it
 //! holds no NUL, and the rest of its width is NULs, or the text is refused; what is read is written back, and what is written is read back; an
 //! interval has the day numbers of its stored dates, and days and dates turn into each other; an interval has the row of its mapping, and every
-//! other row its own; records stand one after the other, each as long as its first byte says.
+//! other row its own; a block that was read is written, in any version, and what the block writer accepts reads back; records stand one after
+//! the other, each as long as its first byte says.
 pub mod calls;
 mod checks;
 mod columns;
@@ -15,7 +16,9 @@ mod frames;
 pub mod gen;
 mod names;
 mod owners;
+mod starts;
 mod texts;
+mod writing;
 
 use gen::Rng;
 

@@ -1,5 +1,5 @@
 //! The C functions on the same bytes again and again, with tables and outputs that are lent to them.
-use super::shapes;
+use super::{shapes, written::Written};
 use dbn_start::{ffi, write_layout, Layout, Tables};
 use std::{fmt, hint::black_box};
 
@@ -12,6 +12,7 @@ pub enum Function {
     Block,
     Layout,
     Write,
+    WriteBlock,
 }
 
 impl fmt::Display for Function {
@@ -20,6 +21,7 @@ impl fmt::Display for Function {
             Self::Block => "dbn_block",
             Self::Layout => "dbn_layout",
             Self::Write => "dbn_write_layout",
+            Self::WriteBlock => "dbn_write_block",
         })
     }
 }
@@ -48,7 +50,7 @@ impl Function {
         let Answer { number, rows } = match self {
             Self::Block => block(version, bytes, [0; 2])(),
             Self::Layout => layout(bytes, [0; 2])(),
-            Self::Write => return Box::new(write(bytes)),
+            Self::Write | Self::WriteBlock => return self.with(version, bytes, [0; 2]),
         };
         self.with(version, bytes, if number == 3 { rows } else { [0; 2] })
     }
@@ -63,6 +65,7 @@ impl Function {
             Self::Block => Box::new(block(version, bytes, rows)),
             Self::Layout => Box::new(layout(bytes, rows)),
             Self::Write => Box::new(write(bytes)),
+            Self::WriteBlock => Box::new(write_block(version, bytes)),
         }
     }
 }
@@ -111,4 +114,13 @@ fn write(bytes: &[u8]) -> impl FnMut() -> Answer + '_ {
         assert_eq!(written, Ok(bytes.len()), "the length written");
         Answer { number: 0, rows: [0, rows.len() / ffi::LAYOUT_ROW] }
     }
+}
+
+/// The block writer on what was read of that block, which has no leftovers, so that it is written as long as it was.
+fn write_block(version: u8, bytes: &[u8]) -> impl FnMut() -> Answer + '_ {
+    let mut written = Written::of(version, bytes, shapes::sheet());
+    let rows = written.rows();
+    let (number, stream) = written.write();
+    assert_eq!((number, stream.len()), (0, 8 + bytes.len()), "the length written");
+    move || Answer { number: black_box(&mut written).write().0, rows }
 }

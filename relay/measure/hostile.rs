@@ -17,7 +17,7 @@ pub struct Shape {
 const REFUSED: (&str, u32) = ("(55)", 55);
 
 impl Shape {
-    /// Layouts, each through the reader and, where it is accepted, through the writer; then blocks.
+    /// Layouts, each through the reader and, where it is accepted, through the writer; then blocks, each through both.
     pub fn all() -> Vec<Self> {
         let mut all = Vec::new();
         for (what, n, make) in LAYOUTS {
@@ -26,7 +26,9 @@ impl Shape {
                 all.push(Self { function: Function::Write, what, n, make });
             }
         }
-        all.extend(BLOCKS.map(|(what, n, make)| Self { function: Function::Block, what, n, make }));
+        for (what, n, make) in BLOCKS {
+            all.extend([Function::Block, Function::WriteBlock].map(|function| Self { function, what, n, make }));
+        }
         all
     }
 

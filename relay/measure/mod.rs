@@ -4,6 +4,7 @@ pub mod calls;
 pub mod frames;
 pub mod hostile;
 pub mod shapes;
+pub mod written;
 
 use std::hint::black_box;
 

@@ -23,6 +23,9 @@ pub const PLACE: usize = 13;
 /// The same in `out` of [`dbn_prelude`].
 pub const PRELUDE_PLACE: usize = 3;
 
+/// Where the fields of [`dbn_write_block`] have the dataset's start in the text.
+pub const DATASET_START: usize = 13;
+
 /// The largest day number, that of 31 December of year 9999. 1 January of year 0 has the number 0.
 pub const DAY_LAST: u32 = 3_652_424;
 
@@ -113,6 +116,26 @@ extern "C" {
         tn: usize,
         version: u16,
         width: u16,
+        sheet: *const [u16; SHEET],
+        output: *mut u8,
+        on: usize,
+        out: *mut [u64; 16],
+    ) -> u32;
+
+    /// 0: `out[0]` the written length, the prelude's eight bytes among them. A refusal has no place, also by a number from reading.
+    ///
+    /// The fields 0 to 9 and 12 are as [`dbn_block`] gives them, and [`DATASET_START`] has the dataset's start in the text; 10, 11, 14 and 15 are
+    /// not looked at. `rows` symbology rows stand in columns of height sn / 6. Their starts, and those of the layout rows, count from the text.
+    pub fn dbn_write_block(
+        version: u8,
+        fields: *const [u64; 16],
+        symbology: *const u32,
+        sn: usize,
+        rows: u64,
+        layout: *const u32,
+        ln: usize,
+        text: *const u8,
+        tn: usize,
         sheet: *const [u16; SHEET],
         output: *mut u8,
         on: usize,

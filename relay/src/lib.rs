@@ -1,9 +1,10 @@
-//! The start of a DBN stream: prelude, metadata, symbology and layout, and the records after it in versions 1 to 3, read by proved code.
+//! The start of a DBN stream: prelude, metadata, symbology and layout, and the records after it in versions 1 to 3, read and written by proved code.
 //!
-//! The reading itself is done by the C functions of the library `dbn_c` ([`ffi`]), whose promises are proved. This package lends
+//! The reading and the writing are done by the C functions of the library `dbn_c` ([`ffi`]), whose promises are proved. This package lends
 //! them their buffers and gives back names as parts of the caller's own bytes. [`Feed`] reads a stream's start from a source or takes it in pieces,
 //! and [`Frames`] takes the records after it, [`Block`] and [`Layout`] take what is already whole, and [`Refusal`] tells what was refused, and at which byte.
 //! The dates of an interval are [`Day`]s, which can be subtracted, and an interval tells its [`Mapping`]. [`Columns`] has the symbology by column.
+//! [`BlockBuilder`] writes the start of a stream, from owned values or from a block that was read.
 //!
 //! Nothing here stands in for what is missing: where the library broke its promise, the call panics and says which promise.
 #![warn(missing_docs)]
@@ -26,6 +27,7 @@ mod refusal;
 mod sheet;
 mod symbology;
 mod tables;
+mod write;
 
 pub use block::{Block, Fields};
 pub use day::Day;
@@ -36,6 +38,7 @@ pub use refusal::{Refusal, RefusalKind};
 pub use sheet::{Sheet, SheetIds};
 pub use symbology::{Columns, Interval, Mapping};
 pub use tables::{Limits, Tables};
+pub use write::{BlockBuilder, LayoutRows, MappingInterval, SymbolMapping};
 
 /// What the first bytes of a stream say.
 #[derive(Debug, Clone, Copy, PartialEq, Eq)]

@@ -99,6 +99,9 @@ refusals! {
     OutputShort 96 "the output is too short"
     FrameLength 100 "a record's length is below 16 bytes"
     FrameStoreShort 101 "the store is too short for a record's header or for the record"
+    StartMalformed 110 "the symbology rows, texts or fields to write are malformed"
+    TextWide 111 "a symbol or the dataset is too wide, or a width in version 1 is not 22"
+    StartOutputShort 112 "the output is too short for the prelude and the block"
     NoSheet 200 "a version 4 stream, and no type sheet was given to judge its layout by"
     NoMemory 201 "the system has no memory for the bytes or the rows"
 }
@@ -109,7 +112,17 @@ impl RefusalKind {
         self as u32
     }
 
-    /// Whether refusals of this kind have a place: those from reading do, 10 to 12 and 20 to 55.
+    /// The kind that the library answered.
+    fn answered(number: u32) -> Self {
+        match Self::from_number(number) {
+            Some(kind) => kind,
+            None => {
+                panic!("the library dbn_c broke its promise: it answered {number}, which is no number of the table")
+            }
+        }
+    }
+
+    /// Whether refusals of this kind have a place where they come from reading: 10 to 12 and 20 to 55 do.
     pub const fn has_place(self) -> bool {
         matches!(self.number(), 10..=12 | 20..=55)
     }
@@ -145,7 +158,8 @@ impl Refusal {
         self.kind.sentence()
     }
 
-    /// The byte at which it is refused, for the kinds that have a place ([`RefusalKind::has_place`]), else `None`.
+    /// The byte at which it is refused, for the kinds that have a place ([`RefusalKind::has_place`]), else `None`. What
+    /// [`BlockBuilder`](crate::BlockBuilder) cannot write has no place, whatever its kind: no bytes are read.
     ///
     /// For 10 to 12 it counts from the prelude, and 11 is at byte 3 also where a version is given with a block. For 20 to 55 it counts
     /// from the block, which begins at byte 8 of a stream, or from the layout where a layout was given. It is the first byte of the
@@ -163,9 +177,7 @@ impl Refusal {
 
     /// The refusal that the library answered, with the place that it told, where what was called tells places.
     fn answered(number: u32, told: Option<u64>) -> Self {
-        let Some(kind) = RefusalKind::from_number(number) else {
-            panic!("the library dbn_c broke its promise: it answered {number}, which is no number of the table")
-        };
+        let kind = RefusalKind::answered(number);
         let place = kind.has_place().then(|| match told {
             Some(place) => promise(place, "a refusal's place"),
             None => panic!("the library dbn_c broke its promise: it answered {number} where nothing is read"),
@@ -178,6 +190,14 @@ impl Refusal {
         match number {
             0 => Ok(()),
             number => Err(Self::answered(number, Some(place))),
+        }
+    }
+
+    /// The answer of the block writer, whose refusals have no place, those by the reader's numbers neither. 0 is no refusal.
+    pub(crate) fn unless_written(number: u32) -> Result<(), Self> {
+        match number {
+            0 => Ok(()),
+            number => Err(Self { kind: RefusalKind::answered(number), place: None }),
         }
     }
 
@@ -208,7 +228,7 @@ mod tests {
 
     #[test]
     fn every_number_of_the_table_has_one_name_and_one_sentence() {
-        let ranges = [1..=3, 10..=13, 20..=45, 50..=55, 60..=64, 71..=83, 90..=96, 100..=101, 200..=201];
+        let ranges = [1..=3, 10..=13, 20..=45, 50..=55, 60..=64, 71..=83, 90..=96, 100..=101, 110..=112, 200..=201];
         let numbers: Vec<u32> = ranges.into_iter().flatten().collect();
         assert_eq!(RefusalKind::ALL.iter().map(|kind| kind.number()).collect::<Vec<_>>(), numbers);
         assert!(RefusalKind::ALL
@@ -231,6 +251,16 @@ mod tests {
         let text = |number| Refusal::unless_read(number, 104).expect_err("a refusal").to_string();
         assert_eq!(text(44), "refused by 44 at byte 104: the layout goes past the end of the block");
         assert_eq!(text(13), format!("refused by 13: {}", RefusalKind::Size.sentence()));
+    }
+
+    #[test]
+    fn what_is_not_written_has_no_place() {
+        for kind in RefusalKind::ALL {
+            let refusal = Refusal::unless_written(kind.number()).expect_err("a refusal");
+            assert_eq!((refusal.kind(), refusal.place()), (*kind, None));
+        }
+        let text = Refusal::unless_written(25).expect_err("a refusal").to_string();
+        assert_eq!((text, Refusal::unless_written(0)), ("refused by 25: a layout below version 4".into(), Ok(())));
     }
 
     #[test]

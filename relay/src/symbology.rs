@@ -5,8 +5,8 @@ use crate::{
 use std::{array, fmt, ops::Range};
 
 /// The kinds of rows that mappings are made of. The kinds below them are those of the three lists of symbols.
-const MAPPING: u32 = 3;
-const INTERVAL: u32 = 4;
+pub(crate) const MAPPING: u32 = 3;
+pub(crate) const INTERVAL: u32 = 4;
 
 /// A symbol, and what it stood for at which time.
 #[derive(Clone, Copy)]

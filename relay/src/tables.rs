@@ -89,12 +89,17 @@ fn room(table: &mut Vec<u32>, rows: usize, width: usize) -> Result<(), Refusal> 
     Ok(())
 }
 
-/// So many numbers, one or more, all 0, or `None` where there is no memory. The system gives large ones as pages that hold zeros already, so rows
-/// that are never written cost nothing.
-fn zeroed(numbers: usize) -> Option<Vec<u32>> {
-    let layout = Layout::array::<u32>(numbers).ok().filter(|layout| layout.size() > 0)?;
+/// Numbers that are 0 where all their bytes are.
+pub(crate) trait Number {}
+impl Number for u8 {}
+impl Number for u32 {}
+
+/// So many numbers, one or more, all 0, or `None` where there is no memory. The system gives large ones as pages that hold zeros already, so what
+/// is never written costs nothing.
+pub(crate) fn zeroed<T: Number>(numbers: usize) -> Option<Vec<T>> {
+    let layout = Layout::array::<T>(numbers).ok().filter(|layout| layout.size() > 0)?;
     // SAFETY: the layout has a size, which is not 0.
-    let at = unsafe { alloc_zeroed(layout) }.cast::<u32>();
+    let at = unsafe { alloc_zeroed(layout) }.cast::<T>();
     // SAFETY: where it is not null, the memory is the allocator's, for so many numbers, and each of them is 0.
     (!at.is_null()).then(|| unsafe { Vec::from_raw_parts(at, numbers, numbers) })
 }

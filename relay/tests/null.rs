@@ -15,6 +15,9 @@ fn every_function_takes_null_at_length_0() {
         assert_eq!((ffi::dbn_prelude(null(), 0, &mut told), told), (0, [8, 0, 0, 0]));
         assert_eq!(ffi::dbn_block(3, null(), 0, sheet, null_mut(), 0, null_mut(), 0, &mut out), 13);
         assert_eq!(ffi::dbn_write_layout(null(), 0, null(), 0, 1, 71, sheet, null_mut(), 0, &mut out), 96);
+        let (start, fields) = (ffi::dbn_write_block, &[0; 16]);
+        assert_eq!(start(3, fields, null(), 0, 0, null(), 0, null(), 0, sheet, null_mut(), 0, &mut out), 112);
+        assert_eq!(start(3, fields, null(), 0, 1, null(), 0, null(), 0, sheet, null_mut(), 0, &mut out), 110);
         assert_eq!(out, [7; 16]);
         assert_eq!(ffi::dbn_layout(null(), 0, 71, sheet, null_mut(), 0, &mut out), 50);
         assert_eq!(std::mem::replace(&mut out[ffi::PLACE], 7), 0, "the place");
@@ -42,6 +45,9 @@ fn null_tables_are_enough_where_there_are_no_rows() {
     let (mut output, mut block) = ([0xEE; 8], p10([0; 3])[..104].to_vec());
     block.extend([0; 16]);
     let stream = stream_of(2, &block);
+    let (mut written, mut fields) = (stream.clone(), [0; 16]);
+    (fields[8], fields[12]) = (3, 9);
+    written.fill(0xEE);
     let (mut store, mut fed) = (stream.clone(), [7; 20]);
     let (length, held) = (store.len(), store.len() as u64);
     // SAFETY: every pointer is to a buffer of the given length, or null at length 0, and no two overlap.
@@ -54,12 +60,18 @@ fn null_tables_are_enough_where_there_are_no_rows() {
         let (bytes, n) = (block.as_ptr(), block.len());
         assert_eq!(ffi::dbn_block(2, bytes, n, sheet.numbers(), null_mut(), 0, null_mut(), 0, &mut out), 0);
         assert_eq!((out[8], out[10], out[11]), (3, 0, 0));
+        let (sheet, at) = (sheet.numbers(), written.as_mut_ptr());
+        let start = ffi::dbn_write_block;
+        assert_eq!(start(2, &fields, null(), 0, 0, null(), 0, null(), 0, sheet, at, length, &mut out), 0);
+        assert_eq!(out[0], held);
         let at = store.as_mut_ptr();
-        let number =
-            ffi::dbn_feed(held, at, length, null(), 0, sheet.numbers(), null_mut(), 0, null_mut(), 0, &mut fed);
+        let number = ffi::dbn_feed(held, at, length, null(), 0, sheet, null_mut(), 0, null_mut(), 0, &mut fed);
         assert_eq!((number, &fed[16..19]), (0, &[0, held, 0][..]));
     }
     assert_eq!(store, stream);
+    // An end of 0 is absent, and is written as the largest number.
+    written[8 + 26..8 + 34].iter_mut().for_each(|byte| *byte = !*byte);
+    assert_eq!(written, stream);
 }
 
 #[test]

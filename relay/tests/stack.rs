@@ -4,10 +4,14 @@ mod common;
 #[allow(dead_code)]
 #[path = "../measure/shapes.rs"]
 mod shapes;
+#[allow(dead_code)]
+#[path = "../measure/written.rs"]
+mod written;
 
 use dbn_start::{check_layout_plain, ffi, is_date, is_text, prelude, write_layout, Day, Frames, Layout, Sheet, Tables};
 use shapes::{sheet, tiled, Order};
 use std::ffi::c_void;
+use written::Written;
 
 /// The four bounds of the header.
 const SMALL: usize = 4 << 10;
@@ -117,6 +121,12 @@ fn feed(version: u8, block: &[u8]) -> impl FnMut() {
     }
 }
 
+/// A whole stream start of a version, written from what was read of its block.
+fn write_block(version: u8, block: &[u8]) -> impl FnMut() {
+    let mut written = Written::of(version, block, sheet());
+    move || assert_eq!(written.write().0, 0)
+}
+
 /// The names of made rows: the first bytes of a layout, and the first symbol of a block.
 fn names(layout: &[u8], block: &[u8]) {
     let (mut one, mut two) = ([0; 2], [0; 2]);
@@ -156,6 +166,7 @@ fn calls<'a>(sheet: &'a Sheet, layouts: &'a [Measured], symbols: &'a [u8]) -> Ve
         ("the names".into(), SMALL, Box::new(|| names(&layouts[0].1, symbols))),
         ("dbn_frame".into(), SMALL, Box::new(record())),
         ("dbn_feed, version 3".into(), ORDINARY, Box::new(feed(3, symbols))),
+        ("dbn_write_block, version 3".into(), ORDINARY, Box::new(write_block(3, symbols))),
     ];
     for (what, layout, most) in layouts {
         let mut call = |name: &str, most: usize, work| calls.push((format!("{name}, {what}"), most, work));
@@ -163,6 +174,7 @@ fn calls<'a>(sheet: &'a Sheet, layouts: &'a [Measured], symbols: &'a [u8]) -> Ve
         call("dbn_feed", *most, Box::new(feed(4, &shapes::block4(layout))));
         call("dbn_layout", *most, Box::new(read(layout)));
         call("dbn_write_layout", *most, Box::new(write(layout)));
+        call("dbn_write_block", *most, Box::new(write_block(4, &shapes::block4(layout))));
         let marked = if *most == ORDINARY { MARKED } else { LARGE };
         call("dbn_layout_plain", marked, Box::new(|| assert!(check_layout_plain(layout, 71, sheet).is_ok())));
     }

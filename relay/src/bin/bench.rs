@@ -125,12 +125,14 @@ fn daily() {
         assert_eq!(answer.number, 0, "{what}");
         println!("  {function}, {what}: {} bytes, {:.1} us, {:.2}", bytes.len(), time / 1e3, bytes.len() as f64 / time);
     };
-    tell("version 3, width 71, 1,000 symbols, 100 mappings of 4 (a)", Function::Block, 3, &usual());
-    starts(3, &usual());
-    tell("version 1, the same", Function::Block, 1, &shapes::block(1, 22, &shapes::symbology(22, 1000, 100, 4)));
-    let inner = shapes::daily();
-    tell("version 4, 20 records with 405 fields", Function::Block, 4, &shapes::block4(&inner));
+    let (first, inner) = (shapes::block(1, 22, &shapes::symbology(22, 1000, 100, 4)), shapes::daily());
+    for function in [Function::Block, Function::WriteBlock] {
+        tell("version 3, width 71, 1,000 symbols, 100 mappings of 4 (a)", function, 3, &usual());
+        tell("version 1, the same (b)", function, 1, &first);
+        tell("version 4, 20 records with 405 fields (c)", function, 4, &shapes::block4(&inner));
+    }
     tell("that layout", Function::Write, 4, &inner);
+    starts(3, &usual());
 }
 
 /// A way to read a start.
@@ -200,7 +202,7 @@ fn through_a_buffer(feed: &mut Feed, mut socket: &[u8]) {
 
 fn hostile() {
     println!("hostile: bytes, time, times the time of half the size; and the time for each byte as a multiple of that of (a), dbn_block of the");
-    println!("  version 3 block above. Bytes read or written count, and 24 for each row that is written, or read by the writer");
+    println!("  version 3 block above. Bytes read or written count, and 24 for each row that is written, or read by a writer");
     let usual = usual();
     let mut worst = (0.0, String::new());
     for shape in Shape::all() {
