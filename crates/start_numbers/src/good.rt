@@ -199,6 +199,7 @@ pub(crate) fn start(words: &[u8], version: u8, a: Change, b: Change, c: Change) 
     let mut table = TABLE;
     let mut rows = ROWS;
     let mut text = good_text();
+    let sheet = [0u16; 520];
     changed(
         words,
         version,
@@ -210,6 +211,36 @@ pub(crate) fn start(words: &[u8], version: u8, a: Change, b: Change, c: Change) 
         &mut table,
         &mut rows,
         &mut text,
+        &sheet,
+    );
+}
+
+// The same in version 4 with these layout rows and this type sheet.
+pub(crate) fn ruled(
+    words: &[u8],
+    rows: &mut [u32],
+    sheet: &[u16; 520],
+    a: Change,
+    b: Change,
+    c: Change,
+) {
+    let mut fields = good_fields(4);
+    let mut sizes = good_sizes(4);
+    sizes[1] = rows.len();
+    let mut table = TABLE;
+    let mut text = good_text();
+    changed(
+        words,
+        4,
+        a,
+        b,
+        c,
+        &mut fields,
+        &mut sizes,
+        &mut table,
+        rows,
+        &mut text,
+        sheet,
     );
 }
 
@@ -225,10 +256,11 @@ fn changed(
     table: &mut [u32],
     rows: &mut [u32],
     text: &mut [u8],
+    sheet: &[u16; 520],
 ) {
     make(a, fields, sizes, table, rows, text);
     make(b, fields, sizes, table, rows, text);
-    finish(words, version, c, fields, sizes, table, rows, text);
+    finish(words, version, c, fields, sizes, table, rows, text, sheet);
 }
 
 // A start after one change.
@@ -241,6 +273,7 @@ fn finish(
     table: &mut [u32],
     rows: &mut [u32],
     text: &mut [u8],
+    sheet: &[u16; 520],
 ) {
     make(c, fields, sizes, table, rows, text);
     let rows = front(rows, sizes[1]);
@@ -253,6 +286,7 @@ fn finish(
         rows,
         text,
         sizes[2],
+        sheet,
     );
 }
 

@@ -48,6 +48,7 @@ pub(crate) fn long_block() {
         &[],
         b"TEST",
         512,
+        &[0u16; 520],
     );
 }
 
@@ -76,7 +77,7 @@ fn columns_space() -> [u32; 393222]
 fn layout(words: &[u8], rows: &[u32]) {
     let text = [b'a'; 256];
     let fields = good::good_fields(4);
-    run::start(words, 4, &fields, &[], 0, rows, &text, 512);
+    run::start(words, 4, &fields, &[], 0, rows, &text, 512, &[0u16; 520]);
 }
 
 // Puts every number of a table.

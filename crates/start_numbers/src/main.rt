@@ -1,8 +1,9 @@
 // One small start of a stream for each number by which `write_block` refuses, and those that it writes: a line for each, with a few words
-// and the number, or the length and the bytes. Each start is a good one with up to three changes. Of the rules, three stand for all. The
-// reader's numbers about lengths, counts and dates have no case: the writer makes these itself. 13, 91 and 94 need large tables and come last.
+// and the number, or the length and the bytes. Each start is a good one with up to three changes.
+// The reader's numbers about lengths, counts and dates have no case but for 31: the writer makes these itself. 13, 91 and 94 need large tables and come last.
 mod good;
 mod large;
+mod rules;
 mod run;
 
 use good::Change;
@@ -20,6 +21,9 @@ fn main() {
     layout_rows();
     header();
     layouts();
+    rules::layouts();
+    rules::fields();
+    rules::tilings();
     lists();
     mappings();
     output();
@@ -144,12 +148,9 @@ fn header() {
     one(b"stype_out 255", 2, good::field(6, 255));
 }
 
-// 25 and, of the rules, 62, 75 and 82.
+// 25
 fn layouts() {
     one(b"layout rows in version 3", 3, good::layout(54));
-    one(b"rtype 78", 4, good::row(0, 3, 78));
-    one(b"a field of size 0", 4, good::row(1, 3, 0));
-    one(b"a base of 16 with 8 filled", 4, good::row(0, 5, 16));
 }
 
 // 31, 32, 41

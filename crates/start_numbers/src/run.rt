@@ -13,12 +13,22 @@ pub(crate) fn start(
     rows: &[u32],
     text: &[u8],
     room: usize,
+    sheet: &[u16; 520],
 ) {
     let mut out = [7u8; 512];
     let n = at_most(room, 512);
     say(words);
     say(b": ");
-    answer(version, fields, table, count, rows, text, &mut out[0..n]);
+    answer(
+        version,
+        fields,
+        table,
+        count,
+        rows,
+        text,
+        sheet,
+        &mut out[0..n],
+    );
     say(b"\n");
 }
 
@@ -29,7 +39,7 @@ fn at_most(n: usize, most: usize) -> usize
     if n <= most { n } else { most }
 }
 
-// The number, or the length and the bytes. The type sheet is all zeros: no type has a size, and a record has no header.
+// The number, or the length and the bytes.
 fn answer(
     version: u8,
     fields: &[u64; 16],
@@ -37,10 +47,10 @@ fn answer(
     count: usize,
     rows: &[u32],
     text: &[u8],
+    sheet: &[u16; 520],
     out: &mut [u8],
 ) {
-    let sheet = [0u16; 520];
-    match block_writer::write_block(version, fields, table, count, rows, text, &sheet, out) {
+    match block_writer::write_block(version, fields, table, count, rows, text, sheet, out) {
         Written::Length(len) => {
             say_number(len as u64);
             say(b" bytes ");
