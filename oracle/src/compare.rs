@@ -373,10 +373,26 @@ fn write_rows(
 ) {
     let version = r.next() as u16;
     let wanted = paper::write(rows, text, version, width as usize, &sheet.0);
-    let length = wanted.as_ref().map_or(60, Vec::len);
+    let write = |r: &mut Rng, room| ours::write(r, rows, text, version, width, sheet, room);
+    writer_beside_paper(r, tally, what, wanted, 96, write, || {
+        format!("rows {rows:?} text {} width {width}", hex(text))
+    });
+}
+
+/// What a writer gives beside what the plain program would write, with an output that is sometimes too short, which `short` refuses.
+pub fn writer_beside_paper(
+    r: &mut Rng,
+    tally: &mut Tally,
+    what: &'static str,
+    wanted: Result<Vec<u8>, u32>,
+    short: u32,
+    write: impl FnOnce(&mut Rng, usize) -> Result<Result<Vec<u8>, u32>, String>,
+    input: impl FnOnce() -> String,
+) {
+    let length = wanted.as_ref().map_or(200, Vec::len);
     let room = if r.one_in(6) { r.below(length + 1) } else { length + r.below(9) };
-    let wanted = wanted.and_then(|bytes| if bytes.len() > room { Err(96) } else { Ok(bytes) });
-    let got = ours::write(r, rows, text, version, width, sheet, room);
+    let wanted = wanted.and_then(|bytes| if bytes.len() > room { Err(short) } else { Ok(bytes) });
+    let got = write(r, room);
     let answer = match &wanted {
         Ok(_) => Answer::Accepted(Box::default()),
         Err(number) => Answer::Refused(*number, None),
@@ -384,7 +400,7 @@ fn write_rows(
     let kind = if got == Ok(wanted.clone()) {
         Kind::Agreed
     } else {
-        Kind::Unexplained(format!("paper {wanted:?}, here {got:?}; rows {rows:?} text {} width {width}", hex(text)))
+        Kind::Unexplained(format!("paper {wanted:?}, here {got:?}; {}, an output of {room} bytes", input()))
     };
     tally.add(Beside::Paper, what, &answer, kind);
 }

@@ -1,7 +1,7 @@
 //! Starts through the block writer: what was read is written, and the crate reads it as the same metadata; what the crate's encoder writes is
 //! read and written again; and anything beside the plain program.
 use crate::{
-    compare::{cut_stream, hex, rising, with_input, Made},
+    compare::{cut_stream, hex, rising, with_input, writer_beside_paper, Made},
     gen::{self, Rng, Sheet},
     of_crate::{Answer, BUILDS},
     ours, paper_start,
@@ -132,18 +132,6 @@ pub fn any(r: &mut Rng, sheet: &Sheet, tally: &mut Tally) {
         starts::bend(r, &mut start);
     }
     let wanted = paper_start::write(&start, &sheet.0);
-    let length = wanted.as_ref().map_or(200, Vec::len);
-    let room = if r.one_in(6) { r.below(length + 1) } else { length + r.below(9) };
-    let wanted = wanted.and_then(|bytes| if bytes.len() > room { Err(112) } else { Ok(bytes) });
-    let got = ours::write_start(r, &start, sheet, room);
-    let answer = match &wanted {
-        Ok(_) => Answer::Accepted(Box::default()),
-        Err(number) => Answer::Refused(*number, None),
-    };
-    let kind = if got == Ok(wanted.clone()) {
-        Kind::Agreed
-    } else {
-        Kind::Unexplained(format!("paper {wanted:?}, here {got:?}; {start:?}, an output of {room} bytes"))
-    };
-    tally.add(Beside::Paper, "starts to write", &answer, kind);
+    let write = |r: &mut Rng, room| ours::write_start(r, &start, sheet, room);
+    writer_beside_paper(r, tally, "starts to write", wanted, 112, write, || format!("{start:?}"));
 }
