@@ -6,7 +6,7 @@ use lib.ListN.{length}
 use Rattle.numbers.specs.Numbers.{takeAt, numAt, le64, Past}
 use Rattle.numbers.specs.declared.Got.{Got}
 
--- of `wide`, `u16_of` and `u32_of`, which promise a number v and that it is below b
+-- of `wide`, `u8_of`, `u16_of` and `u32_of`, which promise a number v and that it is below b
 pub below : (v b r r′ : ℕ) → (r ≡ v) × (r < b) → (r′ ≡ v) × (r′ < b) → r ≡ r′
 below v b r r′ e f = e .0 ∙ sym (f .0)
 

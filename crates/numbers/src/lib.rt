@@ -94,6 +94,13 @@ pub fn wide(x: u8) -> usize
     x as usize
 }
 
+// The byte at `at`; a byte past the end counts as 0.
+pub fn u8_of(s: &[u8], at: usize) -> usize
+    ensures { λ r. ⌜ (r ≡ getD (now (s .entry)) at 0) × (r < 256) ⌝ }
+{
+    if at < s.len() { wide(s[at]) } else { 0 }
+}
+
 // The u16 at `at`, where a byte past the end counts as 0.
 pub fn u16_of(s: &[u8], at: usize) -> usize
     ensures { λ r. ⌜ (r ≡ le16 (now (s .entry)) at) × (r < 65536) ⌝ }
@@ -129,13 +136,6 @@ fn half(s: &[u8], at: usize) -> usize
     ensures { λ r. ⌜ (r ≡ le16 (now (s .entry)) at) × (r < 65536) ⌝ }
 {
     wide(s[at]) + 256 * wide(s[at + 1])
-}
-
-// The byte at `at`; 0 past the end.
-fn u8_of(s: &[u8], at: usize) -> usize
-    ensures { λ r. ⌜ (r ≡ getD (now (s .entry)) at 0) × (r < 256) ⌝ }
-{
-    if at < s.len() { wide(s[at]) } else { 0 }
 }
 
 // The place n bytes after `at`, or the end where that comes first.

@@ -2,14 +2,15 @@
 ghost use mathlib.Core.Path.{_≡_};
 ghost use Rattle.refusal.specs.Places.{hasPlace};
 
-// A number of the table, and the place of what it is about, counted in the bytes that were given. 1 to 3, 13, 60 to 83 and those
-// from 90 on are about no byte: their place is 0.
+// A number of the table, and the place of what it is about, counted in the bytes that were given. 1 to 3, 13, 60 to 83 and 90 to
+// 112 are about no byte: their place is 0.
 pub struct Refusal {
     pub number: u32,
     pub place: usize,
 }
 
-// Whether a refusal by this number is about a place: every refusal from reading is, 10 to 12 and 20 to 55.
+// Whether a refusal by this number is about a place: every refusal from reading is, 10 to 12 and 20 to 55, and so is what is untidy in a
+// layout, 120 to 123.
 pub fn has_place(number: u32) -> bool
     ensures { λ r. ⌜ r ≡ hasPlace number ⌝ }
 {
@@ -22,7 +23,13 @@ pub fn has_place(number: u32) -> bool
     if number < 20 {
         return false;
     }
-    number <= 55
+    if number <= 55 {
+        return true;
+    }
+    if number < 120 {
+        return false;
+    }
+    number <= 123
 }
 
 // The state, the store and the tables.
@@ -174,3 +181,12 @@ pub const START_MALFORMED: u32 = 110;
 pub const TEXT_WIDE: u32 = 111;
 
 pub const START_OUTPUT_SHORT: u32 = 112;
+
+// A layout that is not in the plain form.
+pub const LEFTOVER_IN_SECTION: u32 = 120;
+
+pub const CODES_NOT_RISING: u32 = 121;
+
+pub const SKIPPED_NOT_ZERO: u32 = 122;
+
+pub const LEFTOVER_AFTER_LABELS: u32 = 123;
