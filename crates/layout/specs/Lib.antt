@@ -10,6 +10,7 @@ pub mod RowLaws
 pub mod TextLaws
 pub mod Examples
 pub mod PrintLaws
+pub mod LawfulLaws
 pub mod PartsLaws
 pub mod LenientLaws
 pub mod RefusalLaws

@@ -23,16 +23,16 @@ abbrev pub rowText : List ℕ → List ℕ → List ℕ
 rowText b r = textIf (eqb (getD r 0 0) 11) (take (getD r 2 0) (drop (getD r 1 0) b))
 
 -- the texts of a layout, row by row
-abbrev fieldTexts : Fields → List (List ℕ)
+abbrev pub fieldTexts : Fields → List (List ℕ)
 fieldTexts f = map (λ _. []) (f .entries) ++ map (λ n. n .text) (f .names)
 
-abbrev recordTexts : RecordL → List (List ℕ)
+abbrev pub recordTexts : RecordL → List (List ℕ)
 recordTexts r = r .name .text ∷ fieldTexts (r .fields)
 
-abbrev structTexts : StructL → List (List ℕ)
+abbrev pub structTexts : StructL → List (List ℕ)
 structTexts s = s .name .text ∷ fieldTexts (s .fields)
 
-abbrev labelTexts : LabelDef → List (List ℕ)
+abbrev pub labelTexts : LabelDef → List (List ℕ)
 labelTexts d = d .name .text ∷ map (λ l. l .name .text) (d .labels)
 
 unfoldable pub texts : Layout → List (List ℕ)

@@ -152,7 +152,7 @@ module _ (rows text : List ℕ) where
         let r : risesAt rows q ≡ true = every-at (risesAt rows) 0 (rowCount rows - 1) (s .rises) q (omega arith) (omega arith) in
         ltb-true _ _ (rw (a, b) at r)
 
-    rising : (n q least : ℕ) → q + n ≤ rowCount rows → ((j : ℕ) → q ≤ j → j < q + n → cell rows j 0 ≡ 15) → (0 < n → least ≤ cell rows q 3) → Rising allTests least (from after (labelOf rows text) q n)
+    pub rising : (n q least : ℕ) → q + n ≤ rowCount rows → ((j : ℕ) → q ≤ j → j < q + n → cell rows j 0 ≡ 15) → (0 < n → least ≤ cell rows q 3) → Rising allTests least (from after (labelOf rows text) q n)
     unfolding from
     rising zero q least h k l = tt
     rising (suc n) q least h k l = (

@@ -1,7 +1,7 @@
 -- The laws of names and sections: their places, their bytes, and which of them have bytes. Assumes nothing.
 use Prim.Native.Nat.{ℕ, _+_, _<_}
 use native.Mathlib.Omega.{arith}
-use mathlib.Core.Path.{_≡_, refl}
+use mathlib.Core.Path.{_≡_, refl, _∙_}
 use mathlib.Core.Bool.{Bool, true, false}
 use mathlib.Core.List.{List, [], _∷_, _++_, append-nil}
 use lib.ListN.{length}
@@ -23,10 +23,18 @@ module _ {A : Type 0} (F : Format A false) where
   unfolding section boxed
   section-holds P z e = e
 
+  -- its bytes, and what is known of one that has bytes
+  pub section-bytes : (x : A) (rest : List ℕ) → section F .codec .print (x, rest) ≡ little 2 (2 + length (F .codec .print x ++ rest)) ++ (F .codec .print x ++ rest)
+  unfolding section boxed
+  section-bytes x rest = refl
+
+  pub section-lawful : (x : A) (rest : List ℕ) → section F .codec .legal (x, rest) → F .codec .legal x × (2 + length (F .codec .print x ++ rest) < 65536)
+  unfolding section boxed
+  section-lawful x rest lg = (lg .0, lg .2)
+
   -- a section without leftovers: its bytes, and that it has bytes
   pub section-print : (x : A) → section F .codec .print (x, []) ≡ little 2 (2 + length (F .codec .print x)) ++ F .codec .print x
-  unfolding section boxed
-  section-print x = rw append-nil
+  section-print x = section-bytes x [] ∙ rw append-nil
 
   pub section-legal : (x : A) → F .codec .legal x → 2 + length (F .codec .print x) < 65536 → section F .codec .legal (x, [])
   unfolding section boxed
@@ -55,3 +63,14 @@ module _ (tests : Tests) where
   pub name-legal : (n : Name) → length (n .text) < 256 → Bytes (n .text) → tests .noNul (n .text) ≡ true → tests .utf8 (n .text) ≡ true → name tests .codec .legal n
   unfolding name named _then_ text sized textOf placed checked raw fixed
   name-legal n l b c u = ((l, (((refl, b), c), u)), omega arith)
+
+  -- what is known of a name that has bytes
+  pub record LawfulName (n : Name) : Type 0 where
+    pub short : length (n .text) < 256
+    pub octets : Bytes (n .text)
+    pub noNul : tests .noNul (n .text) ≡ true
+    pub utf8 : tests .utf8 (n .text) ≡ true
+
+  pub name-lawful : (n : Name) → name tests .codec .legal n → LawfulName n
+  unfolding name named _then_ text sized textOf placed checked raw fixed
+  name-lawful n lg = record { short = lg .0 .0; octets = lg .0 .1 .0 .0 .1; noNul = lg .0 .1 .0 .1; utf8 = lg .0 .1 .1 }

@@ -16,7 +16,7 @@ use Rattle.layout.specs.LayoutOf.{D}
 use Rattle.layout.specs.Rows.{rows}
 use Rattle.layout.specs.RowLaws.{noStart}
 use Rattle.layout.specs.TextLaws.{rowText}
-use Rattle.layout.specs.PrintLaws.{reads, parts-still}
+use Rattle.layout.specs.PrintLaws.{Reads, reads, parts-still}
 use Rattle.rules.specs.Rules.{rulesOf, ruledOf}
 use Rattle.rules.specs.RuleLaws.{rules-blind, ruled-is}
 use Rattle.rules.specs.RowRules.{rowsRules, rowsFault}
@@ -85,22 +85,31 @@ module _ (sheet : List ℕ) (width version : ℕ) (table text : List ℕ) (room 
 
   -- ---- the round trip
 
+  -- the layout of rows that are accepted reads back
+  tree-reads : (n : ℕ) → Bytes text → version < 65536 → writeLayout sheet width version table text room ≡ Length n → Reads (treeOf version table text) text
+  tree-reads n bytes v e =
+      let s = sound table text (accepted n e .whole) in
+      let t = treeOf version table text in
+      let l : length (printLayout allTests D t) ≤ 4294967295 = omega (arith, s .within, printed-length table text version, ap length (printed-is version table text)) in
+      reads t text (tree-legal table text bytes s version v) l (tree-each table text version (s .formed))
+
+  -- what is written is read as the layout of its rows, with its places
+  pub reads-tree : (n : ℕ) → Bytes text → version < 65536 → writeLayout sheet width version table text room ≡ Length n
+      → ruledOf sheet width (printed version table text) ≡ ok (locateLayout allTests D (treeOf version table text)) (length (printed version table text))
+  reads-tree n bytes v e =
+      let t = treeOf version table text in
+      let z : rulesOf sheet width (fromLayout (locateLayout allTests D t) .0) ≡ 0 =
+      rules-still sheet width t ∙ sym (rows-rules sheet width version table text) ∙ accepted n e .ruled in
+      rw (printed-is version table text) (ruled-is sheet width (printLayout allTests D t) ∙ rw (tree-reads n bytes v e .accepted, z))
+
   pub reads-back : (n : ℕ) → Bytes text → version < 65536 → writeLayout sheet width version table text room ≡ Length n → ReadsBack sheet width version table text
   reads-back n bytes v e =
-      let a = accepted n e in
-      let s = sound table text (a .whole) in
-      let w = s .formed in
-      let t = treeOf version table text in
-      let lg = tree-legal table text bytes s version v in
-      let p = printed-is version table text in
-      let l : length (printLayout allTests D t) ≤ 4294967295 = omega (arith, s .within, printed-length table text version, ap length p) in
-      let b = reads t text lg l (tree-each table text version w) in
-      let z : rulesOf sheet width (fromLayout (locateLayout allTests D t) .0) ≡ 0 =
-      rules-still sheet width t ∙ sym (rows-rules sheet width version table text) ∙ a .ruled in
+      let b = tree-reads n bytes v e in
+      let r = tree-rows table text version (sound table text (accepted n e .whole) .formed) in
       record {
-        layout = locateLayout allTests D t;
-        accepted = rw p (ruled-is sheet width (printLayout allTests D t) ∙ rw (b .accepted, z));
+        layout = locateLayout allTests D (treeOf version table text);
+        accepted = reads-tree n bytes v e;
         same = b .version ∙ tree-version version table text;
-        sameRows = b .sameRows ∙ ap (map noStart) (tree-rows table text version w);
-        sameNames = rw p (b .sameTexts ∙ ap (map (rowText text)) (tree-rows table text version w));
+        sameRows = b .sameRows ∙ ap (map noStart) r;
+        sameNames = rw (printed-is version table text) (b .sameTexts ∙ ap (map (rowText text)) r);
       }
