@@ -61,7 +61,7 @@ module _ (sheet : List ℕ) (width version : ℕ) (table text out out′ : List 
   accepts : Accepts sheet width version table text (length out) n
   accepts = accepted sheet width version table text (length out) n (sym (w .is))
 
-  written-is : take n out′ ≡ printed version table text
+  pub written-is : take n out′ ≡ printed version table text
   written-is =
       let p = printed version table text in
       let o : out′ ≡ p ++ drop (length p) out = w .leaves ∙ ap (λ r. outAfter r p out) (sym (w .is)) ∙ out-written n p out in

@@ -15,4 +15,14 @@ pub mod StartWritten
 pub mod InColumns
 pub mod OwnerLaws
 pub mod Owners
+pub mod StandLaws
+pub mod RowsBackLaws
+pub mod FineRowLaws
+pub mod RowsWholeLaws
+pub mod PlainWrittenLaws
+pub mod PlainLaws
+pub mod WrittenTidyLaws
+pub mod PlainSameLaws
+pub mod FirstLaws
+pub mod TidyExactly
 pub mod Witnesses

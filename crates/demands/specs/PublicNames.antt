@@ -11,13 +11,12 @@ use lib.ListN.{length, getD, drop, length-append, List·getD-map, length-map}
 use lib.Dec.{leb, eqb}
 use borrow.Author.Tests.{eqb-true}
 use Rattle.codec.specs.Codec.{refusal, ok, Bytes}
-use Rattle.codec.specs.Laws.{bind-ok, need-ok}
 use Rattle.table.specs.Table.{flat}
 use Rattle.table.specs.Columns.{columns, cell, rowCell}
 use Rattle.table.specs.ColumnLaws.{columns-length, cell-row}
 use Rattle.table.specs.TableLaws.{Wide, flat-length}
 use Rattle.table.specs.EachLaws.{Each, each-at, row-number, RowInside}
-use Rattle.layout.specs.Layout.{Layout, fromLayout}
+use Rattle.layout.specs.Layout.{Layout}
 use Rattle.layout.specs.LayoutOf.{layoutOf}
 use Rattle.layout.specs.Rows.{rows}
 use Rattle.layout.specs.ReadLaws.{rows-nine}
@@ -27,8 +26,8 @@ use Rattle.names.specs.Names.{noText, symbolText, itemText, spanOf, symbologySp
 use Rattle.names.specs.NameLaws.{span-part, span-none, part-bytes, part-none, symbol-text, symbol-kinds, item-kinds}
 use Rattle.names.specs.declared.Span.{Span}
 use Rattle.names.specs.declared.Span.the-variants.{Part}
-use Rattle.rules.specs.Rules.{rulesOf, ruledOf}
-use Rattle.rules.specs.RuleLaws.{ruled-is}
+use Rattle.rules.specs.Rules.{ruledOf}
+use Rattle.engines.specs.VerdictLaws.{ruled-layout}
 use Rattle.rows_check.specs.Tree.{rowsIn, treeOf}
 use Rattle.rows_check.specs.CheckLaws.{Formed}
 use Rattle.rows_check.specs.TreeLaws.{tree-rows, tree-flat}
@@ -193,11 +192,7 @@ layout-named s t j rest bs e = front-named s (rows t) rest (rows-nine t) (layout
 
 -- and of one that the rules accept with a symbol width
 pub ruled-named : (sheet : List ℕ) (width : ℕ) (s : List ℕ) (t : Layout) (j : ℕ) (rest : List ℕ) → Bytes s → ruledOf sheet width s ≡ ok t j → LayoutNamed s (flat (rows t) ++ rest) (rows t)
-ruled-named sheet width s t j rest bs e =
-    let (x, k, ex, e1) = bind-ok (layoutOf s) _ t j (sym (ruled-is sheet width s) ∙ e) in
-    let (_, e2) = need-ok (eqb 0 (rulesOf sheet width (fromLayout x .0))) _ _ _ t j e1 in
-    let p : x ≡ t = cc in
-    subst (λ (v : Layout). LayoutNamed s (flat (rows v) ++ rest) (rows v)) p (layout-named s x k rest bs ex)
+ruled-named sheet width s t j rest bs e = let (i, l) = ruled-layout sheet width s t j e in layout-named s t i rest bs l
 
 -- rows that are well formed, in a table of their own with the text that is lent with them
 pub formed-named : (table text : List ℕ) → Formed table text → LayoutNamed text table (rowsIn table)

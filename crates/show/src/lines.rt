@@ -33,6 +33,9 @@ pub(crate) const LAYOUT_ROWS: u64 = 11;
 // 1 where the type sheet is the made one.
 pub(crate) const TYPE_SHEET: u64 = 12;
 
+// A symbol width that was not given.
+pub(crate) const USUAL_WIDTH: u64 = 13;
+
 pub(crate) const RTYPE: u64 = 20;
 
 pub(crate) const RECORD_SCHEMA: u64 = 21;
@@ -70,6 +73,7 @@ pub(crate) fn optional(label: u64, o: Optional) -> bool {
 10symbology rows:\x20
 11layout rows:\x20
 12type sheet:\x20
+13symbol width:\x20
 20  rtype:\x20
 21  schema:\x20
 22  base size:\x20
@@ -95,6 +99,7 @@ fn present(label: u64, x: u64) {
         STYPE_IN | STYPE_OUT => stype(x),
         TS_OUT => words::say(STDOUT_FILENO, b"\n00no\n01yes", x),
         TYPE_SHEET => type_sheet(x),
+        USUAL_WIDTH => usual_width(x),
         _ => print::number(x),
     }
 }
@@ -109,6 +114,12 @@ fn type_sheet(is_made: u64) {
 ",
         is_made,
     );
+}
+
+// The symbol width that a layout was judged with where none was given.
+fn usual_width(x: u64) {
+    print::number(x);
+    print::text(b"; --width N gives another");
 }
 
 // A schema's code and, where the public description has one, its name.

@@ -1,5 +1,6 @@
 // Reads a stream start from a file or from standard input, in pieces of 4,096 bytes, and writes what it says as a person would want to
-// read it. The store is 1,048,576 bytes and each table holds 16,384 rows; what is larger is told. `tell::help` says how it is called.
+// read it; or reads a whole layout, and writes whether it is tidy. The store is 1,048,576 bytes and each table holds 16,384 rows; what is
+// larger is told. `tell::help` says how it is called.
 mod fields;
 mod lines;
 mod options;
@@ -8,9 +9,12 @@ mod print;
 mod records;
 mod refusals;
 mod sheet;
+mod store;
 mod symbols;
 mod tell;
+mod tidiness;
 mod time;
+mod width;
 mod words;
 
 use block::Fields;
@@ -47,50 +51,57 @@ fn run(asked: Options) -> u64 {
         return 2;
     }
     if asked.help {
-        return ended(tell::help(), 0);
+        return tell::ended(tell::help(), 0);
     }
-    let is_made = asked.sheet == 0;
     let mut sheet = sheet::made();
     if asked.sheet != 0 {
         if !sheet::load(asked.sheet, &mut sheet) {
             return 2;
         }
     }
-    show_file(asked.file, &sheet, is_made)
+    show_file(asked, &sheet)
 }
 
-// Shows the file that an argument names, or standard input where the argument is 0.
-fn show_file(argument: usize, sheet: &[u16; 520], is_made: bool) -> u64 {
-    if argument == 0 {
-        return show_stream(STDIN_FILENO, b"standard input", sheet, is_made);
+// Shows the file that is asked for, or standard input where no argument names one.
+fn show_file(asked: Options, sheet: &[u16; 520]) -> u64 {
+    if asked.file == 0 {
+        return show_open(STDIN_FILENO, b"standard input", asked, sheet);
     }
     let mut path = io::buffer();
-    let n = os::arg(argument, &mut path);
+    let n = os::arg(asked.file, &mut path);
     let fd = os::open_read(&path[..n]);
     if fd < 0 {
         tell::failed(&path[..n]);
         return 2;
     }
-    show_stream(fd, &path[..n], sheet, is_made)
+    show_open(fd, &path[..n], asked, sheet)
+}
+
+// Shows an open file: a layout where it is asked whether that is tidy, else a stream.
+fn show_open(fd: i32, name: &[u8], asked: Options, sheet: &[u16; 520]) -> u64 {
+    if asked.tidy {
+        return tidiness::show(fd, name, asked, sheet);
+    }
+    show_stream(fd, name, sheet, asked.sheet == 0)
 }
 
 // Shows the stream of an open file.
 fn show_stream(fd: i32, name: &[u8], sheet: &[u16; 520], is_made: bool) -> u64 {
-    let mut store = store_space();
+    let mut store = store::space();
     let mut symbology = symbology_table();
     let mut layout = layout_table();
     let seen = read_start(fd, &mut store, sheet, &mut symbology, &mut layout);
     if let Turn::Answered { held, answer } = seen {
-        return report(answer, front(&store, held), &symbology, &layout, is_made);
+        return report(
+            answer,
+            store::front(&store, held),
+            &symbology,
+            &layout,
+            is_made,
+        );
     }
     tell::failed(name);
     2
-}
-
-fn store_space() -> [u8; 1048576]
-    ensures { λ r. ⌜ 1048576 ≡ length r ⌝ }
-{
-    [0; 1048576]
 }
 
 // A table of 16,384 rows of six, by column.
@@ -163,31 +174,23 @@ fn turn_of(taken: usize, held: usize, answer: Answer) -> Turn {
     Turn::Answered { held, answer }
 }
 
-// The first n bytes; all where there are fewer.
-fn front(s: &[u8], n: usize) -> &[u8] {
-    if s.len() < n {
-        return s;
-    }
-    &s[0..n]
-}
-
 // Writes what the answer on the held bytes says, and answers the status.
 fn report(a: Answer, held: &[u8], symbology: &[u32], layout: &[u32], is_made: bool) -> u64 {
     match a {
         Answer::Done(f) => {
             accepted(f, held, symbology, layout, is_made);
             print::text(b"accepted");
-            ended(print::end(), 0)
+            tell::ended(print::end(), 0)
         }
-        Answer::Needs(n) => ended(lines::value(lines::BYTES_NEEDED, n as u64), 1),
-        Answer::Refused(why) => ended(refusals::show(why, held, is_made), 1),
+        Answer::Needs(n) => tell::ended(lines::value(lines::BYTES_NEEDED, n as u64), 1),
+        Answer::Refused(why) => tell::ended(refusals::show(why, held, is_made), 1),
         Answer::Short {
             symbology: s,
             layout: l,
         } => {
             refusals::show(table_short(), held, is_made);
             lines::value(lines::SYMBOLOGY_NEEDED, s as u64);
-            ended(lines::value(lines::LAYOUT_NEEDED, l as u64), 1)
+            tell::ended(lines::value(lines::LAYOUT_NEEDED, l as u64), 1)
         }
     }
 }
@@ -209,13 +212,4 @@ fn accepted(f: Fields, held: &[u8], symbology: &[u32], layout: &[u32], is_made: 
     fields::show(f, version, block, is_made);
     symbols::show(block, symbology, f.symbology_rows);
     records::show(block, layout, f.layout_rows);
-}
-
-// The status, if the report's last bytes were written; else it says why not.
-fn ended(is_written: bool, status: u64) -> u64 {
-    if is_written {
-        return status;
-    }
-    tell::failed(b"standard output");
-    2
 }

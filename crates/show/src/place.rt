@@ -12,17 +12,22 @@ const LAST_OF_PRELUDE: u32 = 12;
 // The most bytes that are shown before a place, and after the byte there.
 const AROUND: usize = 8;
 
-// A line with the place of number n, from the prelude or from the block after it, and a line with the bytes around it, among those that
-// are held. Answers whether they were written.
+// The place of number n, from the prelude or from the block after it, among the bytes that are held. Answers whether it was written.
 pub(crate) fn show(n: u32, place: usize, held: &[u8]) -> bool {
+    if n <= LAST_OF_PRELUDE {
+        return within(held, b"prelude", place);
+    }
+    within(block(held), b"block", place)
+}
+
+// A line with a place of the bytes, which are called so, and a line with the bytes around it. Answers whether they were written.
+pub(crate) fn within(s: &[u8], called: &[u8], place: usize) -> bool {
     print::text(b"place ");
     print::number(place as u64);
-    if n <= LAST_OF_PRELUDE {
-        print::text(b" of the prelude\n");
-        return around(held, place);
-    }
-    print::text(b" of the block\n");
-    around(block(held), place)
+    print::text(b" of the ");
+    print::text(called);
+    print::end();
+    around(s, place)
 }
 
 // The held bytes of the block.

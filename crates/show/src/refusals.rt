@@ -1,4 +1,5 @@
-// A sentence for each refusal number that reading a start gives; 90 to 96 are the writer's, 100 and 101 those of frames.
+// A sentence for each refusal number that reading a start or judging a layout gives; 90 to 96 and 110 to 112 are the writers', 100 and 101
+// those of frames.
 use crate::lines;
 use crate::place;
 use crate::print;
@@ -15,14 +16,14 @@ const FIRST_OF_LAYOUTS: u32 = 50;
 // The least number of a rule on layouts.
 const FIRST_RULE: u32 = 60;
 
+// The least number of what is untidy in a layout.
+const FIRST_UNTIDY: u32 = 120;
+
 // The number and its sentence; where it has a place, also that in the held bytes; where a rule on layouts gave it, also which type
 // sheet that was. Answers whether it was written.
 pub(crate) fn show(why: Refusal, held: &[u8], is_made: bool) -> bool {
     let n = why.number;
-    print::text(b"refused ");
-    print::number(n as u64);
-    sentence(n);
-    let is_written = print::end();
+    let is_written = numbered(n);
     if refusal::has_place(n) {
         return place::show(n, why.place, held);
     }
@@ -30,6 +31,23 @@ pub(crate) fn show(why: Refusal, held: &[u8], is_made: bool) -> bool {
         return is_written;
     }
     lines::value(lines::TYPE_SHEET, is_made as u64)
+}
+
+// The number and its sentence; where it has a place, also that in the layout, which was given by itself.
+pub(crate) fn of_layout(why: Refusal, layout: &[u8]) {
+    let n = why.number;
+    numbered(n);
+    if refusal::has_place(n) {
+        place::within(layout, b"layout", why.place);
+    }
+}
+
+// A line with a number and its sentence. Answers whether it was written.
+fn numbered(n: u32) -> bool {
+    print::text(b"refused ");
+    print::number(n as u64);
+    sentence(n);
+    print::end()
 }
 
 // The sentence of a number.
@@ -40,7 +58,10 @@ fn sentence(n: u32) {
     if n < FIRST_OF_LAYOUTS {
         return of_symbologies(n);
     }
-    of_layouts(n);
+    if n < FIRST_UNTIDY {
+        return of_layouts(n);
+    }
+    of_untidy(n);
 }
 
 // Of the numbers that a stream gives, and a block but for the contents of its symbology and layout.
@@ -127,5 +148,19 @@ fn of_layouts(n: u32) {
 83: The extension fields leave a gap or overlap.
 ",
         n as u64,
+    );
+}
+
+// Of the numbers of what is untidy, 120 to 123, each by its last two digits.
+fn of_untidy(n: u32) {
+    words::say(
+        STDOUT_FILENO,
+        b"
+20: Bytes are left over in a section.
+21: A label's code is not above the one before it.
+22: A skipped byte of an entry is not zero.
+23: Bytes are left over after the label defs.
+",
+        (n % 100) as u64,
     );
 }
