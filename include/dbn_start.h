@@ -6,8 +6,9 @@
  * Places. A refusal from reading, 10 to 12 and 20 to 55, also has a place (dbn_has_place), the byte where it happened: the first byte of the
  * number or text that broke its rule, or where something was to begin that does not fit, which may be the end of the bytes; for 28 the first
  * byte that the contents do not reach. It counts from the prelude for 10 to 12, and else from the block or the layout that was given; from
- * the block in dbn_feed, too. docs/REFUSALS.md has the place and the smallest input of every such number. dbn_write_block, which reads no
- * block, refuses by some of these numbers too, and then without a place.
+ * the block in dbn_feed, too. What dbn_tidy finds untidy, 120 to 123, has a place as well, counted from the layout. docs/REFUSALS.md has the
+ * place and the smallest input of every such number. dbn_write_block, which reads no block, refuses by some of the numbers from reading too,
+ * and then without a place.
  *
  * Buffers. A slice is a pointer and a length in elements. It may be NULL where the length is 0, and is not read then; `sheet`, `fields` and
  * `out` are never NULL. A pointer is aligned for its element: 2 bytes for uint16_t, 4 for uint32_t, 8 for uint64_t. A buffer that is lent for
@@ -31,7 +32,7 @@
  *     dbn_block, dbn_feed, dbn_layout, dbn_write_layout, dbn_write_block      32 KiB
  *     the same for a layout of more than 4,096 structs, or with a record
  *     or struct whose fields stand far from the order of their offsets       320 KiB
- *     dbn_layout_plain                                                        64 KiB
+ *     dbn_layout_plain, dbn_tidy                                              64 KiB
  *     the same for a layout of more than 4,096 structs, or with a record
  *     or struct that reaches to byte 8,191 or past it                        320 KiB
  * So 64 KiB do for streams below version 4 and for layouts in order, and 320 KiB for anything that a stranger sends.
@@ -48,7 +49,7 @@
 
 /* The version of this header, major x 10000 + minor x 100 + patch. */
 #define DBN_START_VERSION_MAJOR 0
-#define DBN_START_VERSION_MINOR 10
+#define DBN_START_VERSION_MINOR 11
 #define DBN_START_VERSION_PATCH 0
 #define DBN_START_VERSION (DBN_START_VERSION_MAJOR * 10000 + DBN_START_VERSION_MINOR * 100 + DBN_START_VERSION_PATCH)
 
@@ -127,14 +128,18 @@ extern "C" {
     X(FRAME_STORE_SHORT, 101, "the store is too short for a record's header or for the record")    \
     X(START_MALFORMED, 110, "the symbology rows, texts or fields to write are malformed")          \
     X(TEXT_WIDE, 111, "a symbol or the dataset is too wide, or a width in version 1 is not 22")    \
-    X(START_OUTPUT_SHORT, 112, "the output is too short for the prelude and the block")
+    X(START_OUTPUT_SHORT, 112, "the output is too short for the prelude and the block")            \
+    X(LEFTOVER_IN_SECTION, 120, "bytes are left over in a section")                                \
+    X(CODES_NOT_RISING, 121, "a label's code is not above the one before it")                      \
+    X(SKIPPED_NOT_ZERO, 122, "a skipped byte of an entry is not zero")                             \
+    X(LEFTOVER_AFTER_LABELS, 123, "bytes are left over after the label defs")
 
 enum dbn_refusal {
     DBN_ACCEPTED = 0,
 #define DBN_NAMED(name, number, sentence) DBN_REFUSED_##name = number,
     DBN_REFUSALS(DBN_NAMED)
 #undef DBN_NAMED
-    DBN_REFUSED_LAST = DBN_REFUSED_START_OUTPUT_SHORT
+    DBN_REFUSED_LAST = DBN_REFUSED_LEFTOVER_AFTER_LABELS
 };
 
 /* What a number says, in a few words. */
@@ -152,9 +157,9 @@ static inline const char *dbn_sentence(uint32_t number) {
     }
 }
 
-/* 1 where a refusal from reading by this number has a place, else 0. */
+/* 1 where a refusal by this number has a place, from reading or for what is untidy, else 0. */
 static inline int dbn_has_place(uint32_t number) {
-    return (number >= 10 && number <= 12) || (number >= 20 && number <= 55);
+    return (number >= 10 && number <= 12) || (number >= 20 && number <= 55) || (number >= 120 && number <= 123);
 }
 
 /* The type sheet, DBN_SHEET numbers: what the layout of version 4 is judged by. Below version 4 it is not looked at. From
@@ -229,7 +234,7 @@ enum dbn_layout_kind {
     DBN_KIND_LABEL = 15       /* start, length, code */
 };
 
-/* The places of `out`: of dbn_block and dbn_feed, and in part of dbn_layout and dbn_layout_plain. */
+/* The places of `out`: of dbn_block and dbn_feed, and in part of dbn_layout, dbn_layout_plain and dbn_tidy. */
 enum dbn_out {
     DBN_OUT_DATASET_LENGTH = 0, /* the dataset is the block's first bytes */
     DBN_OUT_SCHEMA = 1,
@@ -333,6 +338,17 @@ uint32_t dbn_layout(const uint8_t *layout, size_t n, uint16_t width, const uint1
 /* The verdict on a layout given with a symbol width, without a table: the answer of dbn_layout, 3 apart, with 81 to 83 found by the plain
  * engine, which marks each byte of a record with the field that owns it. 0, and 50 to 55: `out` as that of dbn_layout. */
 uint32_t dbn_layout_plain(const uint8_t *layout, size_t n, uint16_t width, const uint16_t sheet[520], uint64_t out[16]);
+
+/* Whether a layout given with a symbol width is tidy. 0: it is, which is to say that its bytes are those that dbn_write_layout gives for the rows
+ * that it reads to, with its version; `out` is as it was. No table is lent, and the layout is not written a second time.
+ *
+ * Refused first by what dbn_layout would answer, 3 apart: 13, 50 to 55, 60 to 64 and 71 to 83. Then by the first untidy thing in wire order:
+ * 120 for bytes left over in a section; 121 for a label's code that is not above the one before it in its label def; 122 for a skipped byte of an
+ * entry that is not zero, where an entry has 16 bytes, of which the first eleven are read; 123 for bytes left over after the label defs. Bytes
+ * that are left over are so with any value, 0 too. 50 to 55 and 120 to 123: out[DBN_OUT_PLACE] is the place in the layout, which is the first byte
+ * left over for 120 and 123, the code for 121, and the first skipped byte that is not zero for 122. Two tidy layouts with the same version, rows
+ * and names, starts apart, are the same bytes. */
+uint32_t dbn_tidy(const uint8_t *layout, size_t n, uint16_t width, const uint16_t sheet[520], uint64_t out[16]);
 
 /* Writes layout rows, whose names are parts of the text, as a layout of a version, for a symbol width. 0: out[DBN_WRITE_LENGTH] is the
  * length written. */

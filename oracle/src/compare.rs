@@ -6,6 +6,7 @@ use crate::{
     ours,
     paper::{self, Stage},
     tally::{told, Beside, Kind, Tally},
+    tidy,
     walk::ROW,
     written,
 };
@@ -56,13 +57,14 @@ impl Made {
 /// Compares `inputs` inputs from `seed`.
 pub fn run(inputs: u64, seed: u64) -> Tally {
     let mut tally = Tally::default();
-    let mut r = Rng::new(seed ^ 0x0DB0_57A7);
+    let (mut r, mut of_tidy) = (Rng::new(seed ^ 0x0DB0_57A7), Rng::new(seed ^ 0x71D1));
     let mut made = Made::new(&mut r);
     for i in 0..inputs {
         if i % 50 == 0 {
             made = Made::new(&mut r);
             made.install();
         }
+        tidy::made(&mut of_tidy, &made, &mut tally);
         // Tables of more rows than can be counted take long, so they come seldom.
         if i % 150 == 0 {
             long_rows(&mut r, &made.sheet, &mut tally);
@@ -238,6 +240,7 @@ fn one_layout(r: &mut Rng, made: &Made, tally: &mut Tally, bytes: &[u8], width: 
     let (beside, kind) = judge(&answer, &paper, &BUILDS[made.build], |build| vec![(build.layout)(bytes, width)]);
     let kind = with_input(kind, || format!("layout {} width {width}", hex(bytes)));
     tally.add(beside, what, &answer[0], kind);
+    tidy::asked(&made.sheet, Some(made.build), tally, bytes, width);
 }
 
 /// An accepted layout through both writers, its names in a text area of their own: the same bytes, which the crate reads back.
@@ -245,6 +248,7 @@ fn written(r: &mut Rng, made: &Made, tally: &mut Tally) {
     let width = r.pick(&[0u16, 3, 8, 71]);
     let (records, fields) = (r.below(4), r.below(9));
     let bytes = gen::layout(r, &made.sheet, width as usize, records, fields).bytes(r);
+    tidy::asked(&made.sheet, Some(made.build), tally, &bytes, width);
     let answer = ours::layout(r, &bytes, width, &made.sheet);
     let Answer::Accepted(values) = &answer else {
         let (build, paper) = (&BUILDS[made.build], stage_of(paper::layout(&bytes, width as usize, &made.sheet.0)));
@@ -535,4 +539,5 @@ fn any_sheet(r: &mut Rng, tally: &mut Tally) {
         ))
     };
     tally.add(Beside::Paper, "layouts of any sheet", &answer, kind);
+    tidy::asked(&sheet, None, tally, &bytes, width);
 }

@@ -12,6 +12,7 @@ mod paper;
 mod paper_start;
 mod sample;
 mod tally;
+mod tidy;
 mod walk;
 mod written;
 
@@ -25,6 +26,9 @@ mod columns;
 mod gen;
 #[path = "../../relay/fuzz/starts.rs"]
 mod starts;
+#[allow(dead_code)]
+#[path = "../../relay/fuzz/untidy.rs"]
+mod untidy;
 
 fn main() {
     let words: Vec<String> = std::env::args().skip(1).collect();

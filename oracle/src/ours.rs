@@ -3,6 +3,7 @@ use crate::{
     calls, columns,
     gen::{Rng, Sheet},
     of_crate::Answer,
+    paper,
     walk::{Values, ROW},
 };
 
@@ -29,7 +30,7 @@ fn kept(number: u32, out: &[u64], before: &[u64]) -> bool {
 const PLACE: usize = 13;
 
 fn has_place(number: u32) -> bool {
-    matches!(number, 10..=12 | 20..=55)
+    matches!(number, 10..=12 | 20..=55 | 120..=123)
 }
 
 /// The values that sixteen numbers and two tables tell.
@@ -192,6 +193,19 @@ pub fn layout(r: &mut Rng, bytes: &[u8], width: u16, sheet: &Sheet) -> Answer {
     }
     let layout = a.rows[..rows * 9].chunks(9).map(|row| row.try_into().unwrap()).collect();
     Answer::Accepted(Box::new(Values { layout_version: a.out[9] as u16, layout, ..Default::default() }))
+}
+
+/// Whether a layout is tidy, once it is seen that `out` is what it was, its place apart.
+pub fn tidy(bytes: &[u8], width: u16, sheet: &Sheet) -> Result<paper::Verdict, String> {
+    let before = std::array::from_fn(|i| (1 << 40) + i as u64);
+    let (number, out) = calls::tidy(bytes, width, &sheet.0, &before);
+    if !kept(number, &out, &before) {
+        return Err("out of a layout that may be tidy".into());
+    }
+    Ok(match number {
+        0 => Ok(()),
+        _ => Err((number, has_place(number).then(|| out[PLACE] as usize))),
+    })
 }
 
 /// What the block writer gives, with an output of `room` bytes: the bytes, or the number and an output that is untouched.

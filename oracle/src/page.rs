@@ -28,7 +28,7 @@ fn refused(cell: &str, without: usize) -> Option<Refused> {
     let bytes = &bytes[..bytes.len() - without];
     match given.split_once(' ') {
         Some(("block", version)) => paper::block(version.parse().expect("a version"), bytes, &[0; 520]).err(),
-        _ if given == "layout" => paper::layout(bytes, 71, &[0; 520]).err(),
+        _ if given == "layout" => paper::tidy(bytes, 71, &[0; 520]).err(),
         _ => match paper::fed(bytes, &[], &[0; 520])[..] {
             [Stage::Refused(refused)] => Some(refused),
             _ => None,

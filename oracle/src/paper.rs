@@ -1,8 +1,8 @@
 //! Documents 01 and 02 as a plain program: verdicts only, with no care for speed.
 //!
 //! The crate has no word for a part of the papers: the places of refusals, lent stores and tables (1, 2, 3), sizes (13), what
-//! follows a NUL (29, 41 to 43), rows (90 to 96), and sheets whose special ids coincide. There the C functions are held to this
-//! program. Where the crate has an answer it decides the number, and this program must give the same.
+//! follows a NUL (29, 41 to 43), rows (90 to 96), what is untidy (120 to 123), and sheets whose special ids coincide. There the C functions are
+//! held to this program. Where the crate has an answer it decides the number, and this program must give the same.
 //!
 //! A part of the given bytes is read as those bytes up to its end, from its start on. So every place counts from what was given.
 use crate::walk::ENTRY;
@@ -363,6 +363,57 @@ pub fn layout(l: &[u8], width: usize, s: &Sheet) -> Verdict {
 /// The layout from `p` to the end of the bytes, read and then ruled on.
 fn layout_from(l: &[u8], p: usize, width: usize, s: &Sheet) -> Verdict {
     rules(s, &read_layout(l, p)?, width).map_err(bare)
+}
+
+/// Request 11: a layout that may be tidy. The reader's refusal comes first, then the first untidy thing in wire order.
+pub fn tidy(l: &[u8], width: usize, s: &Sheet) -> Verdict {
+    layout(l, width, s)?;
+    let mut p = 2;
+    for head in [14, 2, 0] {
+        for _ in 0..number(l, &mut p, 2, 50)? {
+            let s = section(l, &mut p)?;
+            p += head;
+            name(s, &mut p)?;
+            if head == 0 { rising_labels(s, &mut p) } else { zeroed_fields(s, &mut p) }?;
+            nothing_left(s, p, 120)?;
+        }
+    }
+    nothing_left(l, p, 123)
+}
+
+fn nothing_left(s: &[u8], p: usize, refusal: u32) -> Verdict {
+    if p < s.len() {
+        Err(at(refusal, p))
+    } else {
+        Ok(())
+    }
+}
+
+/// Labels, of which each has a code above that of the one before.
+fn rising_labels(s: &[u8], p: &mut usize) -> Verdict {
+    let mut before = None;
+    for _ in 0..number(s, p, 2, 50)? {
+        let place = *p;
+        let code = number(s, p, 2, 50)?;
+        if before.is_some_and(|before| code <= before) {
+            return Err(at(121, place));
+        }
+        before = Some(code);
+        name(s, p)?;
+    }
+    Ok(())
+}
+
+/// Entries, in which zeros follow the eleven bytes that are read, then their names.
+fn zeroed_fields(s: &[u8], p: &mut usize) -> Verdict {
+    let count = number(s, p, 2, 50)?;
+    for _ in 0..count {
+        if let Some(place) = (*p + 11..*p + ENTRY).find(|&place| s[place] != 0) {
+            return Err(at(122, place));
+        }
+        *p += ENTRY;
+    }
+    (0..count).try_for_each(|_| name(s, p))
 }
 
 /// The symbology from `p` to the end of the bytes. Gives the place that its contents reach.
@@ -798,6 +849,39 @@ mod tests {
         assert_eq!(refused(&layout_of(2, &bytes(&[&def, &[1]]))), at(54, 26), "the name comes first");
         assert_eq!(refused(&layout_of(2, &def)), at(50, 26));
         assert_eq!(refused(&layout_of(2, &def[..14])), at(50, 23), "the code is missing");
+    }
+
+    /// The first untidy thing of a layout with one record (0), struct (1) or label def (2) of this body, and these bytes after it.
+    fn untidy(kind: usize, body: &[u8], after: &[u8]) -> Verdict {
+        let layout = bytes(&[&layout_of(kind, body), &vec![0; 4 - 2 * kind], after]);
+        assert_eq!(super::layout(&layout, 3, &SHEET), Ok(()), "the reader takes it");
+        tidy(&layout, 3, &SHEET)
+    }
+
+    #[test]
+    fn what_is_untidy_is_at_its_first_byte() {
+        // A struct of one byte: size, empty name, a field of type 1 and size 1, its empty name.
+        let entry = [0, 0, 0, 0, 1, 0, 1, 0, 0, 0, 0];
+        let of_struct = |skipped: &[u8], left: &[u8]| {
+            untidy(1, &bytes(&[&[1, 0, 0, 0, 1, 0], &entry, skipped, &[0, 0], left]), &[])
+        };
+        assert_eq!(of_struct(&[0; 5], &[]), Ok(()));
+        assert_eq!(of_struct(&[1, 0, 0, 0, 0], &[7]), Err(at(122, 25)), "122 before 120");
+        assert_eq!(of_struct(&[0, 0, 0, 2, 3], &[]), Err(at(122, 28)), "the first of two");
+        assert_eq!([of_struct(&[0; 5], &[0]), of_struct(&[0; 5], &[9, 9])], [Err(at(120, 32)); 2], "zeros too");
+        // A label def with an empty name and these codes.
+        let of_labels = |codes: &[u8], left: &[u8], after: &[u8]| {
+            let labels: Vec<u8> = codes.iter().flat_map(|&code| [code, 0, 0, 0]).collect();
+            untidy(2, &bytes(&[&[0, 0, codes.len() as u8, 0], &labels, left]), after)
+        };
+        assert_eq!([of_labels(&[], &[], &[]), of_labels(&[0, 1, 9], &[], &[])], [Ok(()); 2]);
+        assert_eq!([of_labels(&[5, 4, 3], &[1], &[]), of_labels(&[5, 4], &[], &[1])], [Err(at(121, 18)); 2]);
+        assert_eq!(of_labels(&[5, 6, 3], &[], &[]), Err(at(121, 22)));
+        assert_eq!(of_labels(&[5, 6], &[0], &[1]), Err(at(120, 22)), "120 before 123");
+        assert_eq!([of_labels(&[], &[], &[0]), of_labels(&[], &[], &[1, 1])], [Err(at(123, 14)); 2]);
+        let record = |left: &[u8]| untidy(0, &bytes(&[&[0; 18], left]), &[]);
+        assert_eq!([record(&[]), record(&[0, 1])], [Ok(()), Err(at(120, 24))]);
+        assert_eq!(tidy(&[0, 0, 1, 0, 1, 0], 3, &SHEET), Err(at(51, 4)), "the reader's refusal");
     }
 
     #[test]

@@ -59,10 +59,23 @@ struct Counts {
     apart: BTreeMap<&'static str, u64>,
 }
 
+/// What a layout that may be tidy can be answered to: yes, and what is untidy.
+const OF_TIDY: [u32; 5] = [0, 120, 121, 122, 123];
+
+/// Counts of layouts that were asked whether they are tidy.
+#[derive(Default)]
+struct Tidy {
+    /// How often each number was agreed on, 0 for yes.
+    hits: BTreeMap<u32, u64>,
+    /// How many of them the crate wrote again.
+    by_crate: u64,
+}
+
 /// Counts of a run.
 #[derive(Default)]
 pub struct Tally {
     counts: BTreeMap<Beside, Counts>,
+    tidy: Tidy,
     unexplained: Vec<String>,
 }
 
@@ -81,13 +94,26 @@ impl Tally {
             }
             Kind::Listed(why) => *counts.listed.entry(why).or_default() += 1,
             Kind::Apart(why) => *counts.apart.entry(why).or_default() += 1,
-            Kind::Unexplained(text) => {
-                if self.unexplained.len() < 20 {
-                    eprintln!("unexplained, {what}: {text}");
-                }
-                self.unexplained.push(text);
-            }
+            Kind::Unexplained(text) => self.unexplained(what, text),
         }
+    }
+
+    /// Counts a layout that was asked whether it is tidy: the number that was agreed on, and whether the crate wrote it again.
+    pub fn add_tidy(&mut self, agreed: Result<(u32, bool), String>) {
+        match agreed {
+            Ok((number, by_crate)) => {
+                *self.tidy.hits.entry(number).or_default() += 1;
+                self.tidy.by_crate += by_crate as u64;
+            }
+            Err(text) => self.unexplained("layouts that may be tidy", text),
+        }
+    }
+
+    fn unexplained(&mut self, what: &str, text: String) {
+        if self.unexplained.len() < 20 {
+            eprintln!("unexplained, {what}: {text}");
+        }
+        self.unexplained.push(text);
     }
 
     /// Prints the counts. True where nothing is unexplained and every number was agreed on often enough.
@@ -100,8 +126,9 @@ impl Tally {
             let (name, numbers) = beside.told();
             println!("{name} {}", counts.total());
             counts.print(beside == Beside::Crate);
-            enough &= counts.floor(&numbers, if inputs < SHORT * FLOOR { 0 } else { inputs / FLOOR });
+            enough &= floor(&counts.hits, &numbers, if inputs < SHORT * FLOOR { 0 } else { inputs / FLOOR });
         }
+        enough &= self.tidy.print(if inputs < SHORT * FLOOR { 0 } else { inputs / FLOOR });
         println!("unexplained {}", self.unexplained.len());
         enough && self.unexplained.is_empty()
     }
@@ -130,21 +157,32 @@ impl Counts {
         let answers: Vec<String> = self.answers.iter().map(|(answer, count)| format!("{answer}:{count}")).collect();
         println!("  answers {}", answers.join(" "));
     }
+}
 
-    /// Whether each of the numbers was agreed on so often. Prints the one that was least.
-    fn floor(&self, all: &[u32], floor: u64) -> bool {
-        let hits = |number: u32| self.hits.get(&number).copied().unwrap_or(0);
-        for &number in all.iter().filter(|&&number| hits(number) < floor) {
-            eprintln!("too seldom: {number} was agreed on {} times, and the floor is {floor}", hits(number));
-        }
-        let least = all.iter().copied().min_by_key(|&number| hits(number)).expect("some numbers");
-        println!(
-            "  each of {} numbers agreed on {} times or more ({least} least; the floor is {floor})",
-            all.len(),
-            hits(least)
-        );
-        hits(least) >= floor
+impl Tidy {
+    /// Prints the counts. True where yes and each untidy thing were agreed on often enough.
+    fn print(&self, most: u64) -> bool {
+        println!("asked whether they are tidy {}", self.hits.values().sum::<u64>());
+        let answers: Vec<String> = self.hits.iter().map(|(number, count)| format!("{number}:{count}")).collect();
+        println!("  answers, 0 for yes {}", answers.join(" "));
+        println!("  written again by the crate, the same bytes exactly where tidy, and tidy then {}", self.by_crate);
+        floor(&self.hits, &OF_TIDY, most)
     }
+}
+
+/// Whether each of the numbers was agreed on so often. Prints the one that was least.
+fn floor(hits: &BTreeMap<u32, u64>, all: &[u32], floor: u64) -> bool {
+    let hits = |number: u32| hits.get(&number).copied().unwrap_or(0);
+    for &number in all.iter().filter(|&&number| hits(number) < floor) {
+        eprintln!("too seldom: {number} was agreed on {} times, and the floor is {floor}", hits(number));
+    }
+    let least = all.iter().copied().min_by_key(|&number| hits(number)).expect("some numbers");
+    println!(
+        "  each of {} numbers agreed on {} times or more ({least} least; the floor is {floor})",
+        all.len(),
+        hits(least)
+    );
+    hits(least) >= floor
 }
 
 pub fn told(answer: &Answer) -> String {

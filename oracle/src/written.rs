@@ -3,7 +3,7 @@
 use crate::{
     compare::{cut_stream, hex, rising, with_input, writer_beside_paper, Made},
     gen::{self, Rng, Sheet},
-    of_crate::{Answer, BUILDS},
+    of_crate::{layout_of, Answer, BUILDS},
     ours, paper_start,
     starts::{self, Read},
     tally::{Beside, Kind, Tally},
@@ -25,7 +25,12 @@ fn moved(r: &mut Rng, stream: &[u8], values: &Values) -> crate::calls::Start {
     Read { version: stream[3], block: &stream[8..], out: &out, rows, layout: &layout }.moved(r)
 }
 
-/// What is written for a start, which the plain program must write too; one byte less of output is refused by 112.
+/// Whether the layout of a start is tidy, where it has one.
+fn has_tidy_layout(sheet: &Sheet, stream: &[u8], width: usize) -> bool {
+    stream[3] < 4 || ours::tidy(layout_of(&stream[8..]), width as u16, sheet) == Ok(Ok(()))
+}
+
+/// What is written for a start, which the plain program must write too, with a tidy layout; one byte less of output is refused by 112.
 fn write(r: &mut Rng, sheet: &Sheet, start: &crate::calls::Start) -> Result<Result<Vec<u8>, u32>, String> {
     let wanted = paper_start::write(start, &sheet.0);
     let room = wanted.as_ref().map_or(200, Vec::len);
@@ -36,6 +41,9 @@ fn write(r: &mut Rng, sheet: &Sheet, start: &crate::calls::Start) -> Result<Resu
     }
     if got.is_ok() && ours::write_start(r, start, sheet, room - 1)? != Err(112) {
         return Err("an output one byte short".into());
+    }
+    if got.as_ref().is_ok_and(|stream| !has_tidy_layout(sheet, stream, start.fields[8] as usize)) {
+        return Err("a layout that is not tidy".into());
     }
     Ok(got)
 }
@@ -78,7 +86,8 @@ fn same_values(r: &mut Rng, made: &Made, written: &[u8], values: &Values) -> Kin
     }
 }
 
-/// A start of the crate's own encoder, read here and written again: the same bytes, but for those that the crate puts after the symbology.
+/// A start of the crate's own encoder, whose layout is tidy, read here and written again: the same bytes, but for those that the crate puts after the
+/// symbology.
 pub fn of_the_encoder(r: &mut Rng, made: &Made, tally: &mut Tally) {
     let version = 1 + r.below(4) as u8;
     // The encoder has no word for a width of 0.
@@ -91,6 +100,9 @@ pub fn of_the_encoder(r: &mut Rng, made: &Made, tally: &mut Tally) {
     };
     let kind = match (BUILDS[made.build][2].encode)(&stream) {
         Ok(theirs) => match accepted(r, &made.sheet, &theirs) {
+            Some(values) if !has_tidy_layout(&made.sheet, &theirs, values.width) => {
+                Kind::Unexplained(format!("the crate wrote a layout that is not tidy: {}", hex(&theirs)))
+            }
             Some(values) if values.symbology.len() == read.symbology.len() => {
                 let start = moved(r, &theirs, &values);
                 match write(r, &made.sheet, &start) {

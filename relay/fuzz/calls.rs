@@ -152,11 +152,21 @@ pub fn layout(layout: &[u8], width: u16, sheet: &[u16; 520], rows: &[u32], out: 
 
 /// The number and `out` of a layout by the plain engine.
 pub fn layout_plain(layout: &[u8], width: u16, sheet: &[u16; 520], out: &[u64; 16]) -> (u32, [u64; 16]) {
+    verdict(ffi::dbn_layout_plain, layout, width, sheet, out)
+}
+
+/// The number and `out` of a layout that may be tidy.
+pub fn tidy(layout: &[u8], width: u16, sheet: &[u16; 520], out: &[u64; 16]) -> (u32, [u64; 16]) {
+    verdict(ffi::dbn_tidy, layout, width, sheet, out)
+}
+
+/// A function that judges a layout without a table.
+type Judge = unsafe extern "C" fn(*const u8, usize, u16, *const [u16; 520], *mut [u64; 16]) -> u32;
+
+fn verdict(judge: Judge, layout: &[u8], width: u16, sheet: &[u16; 520], out: &[u64; 16]) -> (u32, [u64; 16]) {
     let (bytes, lent_sheet, mut values) = (Lent::new(layout), Lent::new(sheet), Lent::new(out));
     // SAFETY: every pointer is to a buffer of the given length, and no two overlap.
-    let number = unsafe {
-        ffi::dbn_layout_plain(bytes.at(), layout.len(), width, lent_sheet.at().cast(), values.at_mut().cast())
-    };
+    let number = unsafe { judge(bytes.at(), layout.len(), width, lent_sheet.at().cast(), values.at_mut().cast()) };
     bytes.unchanged("the layout", layout);
     lent_sheet.unchanged("the sheet", sheet);
     (number, values.content("out").try_into().unwrap())

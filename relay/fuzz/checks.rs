@@ -3,7 +3,7 @@ use super::{
     calls::{self, BlockAnswer, FeedAnswer},
     columns, days,
     gen::{self, Rng, Sheet},
-    names, owners, texts, writing, Count,
+    names, owners, texts, tidy, untidy, writing, Count,
 };
 use dbn_start::ffi::SYMBOLOGY_ROW;
 
@@ -18,7 +18,7 @@ pub fn marked_out<const N: usize>(r: &mut Rng) -> [u64; N] {
 
 /// Counts an answer: 0 with nothing needed, 0 with bytes needed, or a refusal, whose number must be of the table.
 pub fn tell(count: &mut Count, number: u32, needed: u64) {
-    let table = [0..=3, 10..=13, 20..=45, 50..=55, 60..=64, 71..=83, 90..=96, 100..=101, 110..=112];
+    let table = [0..=3, 10..=13, 20..=45, 50..=55, 60..=64, 71..=83, 90..=96, 100..=101, 110..=112, 120..=123];
     assert!(table.iter().any(|numbers| numbers.contains(&number)), "{number} is no number of the table");
     count.calls += 1;
     match (number, needed) {
@@ -42,12 +42,13 @@ fn named(number: u32) -> std::ops::Range<usize> {
 const PLACE: usize = 13;
 
 fn has_place(number: u32) -> bool {
-    matches!(number, 10..=12 | 20..=55)
+    matches!(number, 10..=12 | 20..=55 | 120..=123)
 }
 
 /// The place of a refusal lies in the prelude, or in the block or layout of so many bytes that was given. Only what does not fit may be
 /// at its end. Where a number or a length has one place in a block of that version, it is that.
 fn placed(number: u32, place: u64, length: usize, version: Option<u8>) {
+    assert!(number < 90, "{number} is no reader's number");
     let place = place as usize;
     match number {
         10..=12 => assert_eq!(place, [0, 3, 4][number as usize - 10], "the place of {number}"),
@@ -343,26 +344,42 @@ fn within(version: u8, block: &[u8], sheet: &Sheet, out: &[u64; 16], number: u32
     assert_eq!((alone.number, alone.out[PLACE] + 104), (number, place), "a layout in a block and by itself");
 }
 
-/// One layout: read, written back, and its rows bent and written.
+/// One layout, bent or damaged.
 pub fn layout(r: &mut Rng, sheet: &Sheet, count: &mut Count) {
     let (bytes, width) = gen::some_layout(r, sheet, &[0, 0, 0, 1, 1, 2]);
+    one_layout(r, sheet, &bytes, width, count);
+}
+
+/// One layout, tidy but for a few things; of eight one has a byte changed.
+pub fn spoiled_layout(r: &mut Rng, sheet: &Sheet, count: &mut Count) {
+    let (mut bytes, width) = untidy::layout(r, sheet, &[0, 0, 1, 1, 2, 3]);
+    if r.one_in(8) {
+        let i = r.below(bytes.len());
+        bytes[i] = r.byte();
+    }
+    one_layout(r, sheet, &bytes, width, count);
+}
+
+/// A layout: read, asked whether it is tidy, written back, and its rows bent and written.
+fn one_layout(r: &mut Rng, sheet: &Sheet, bytes: &[u8], width: u16, count: &mut Count) {
     let out = marked_out(r);
-    let bare = calls::layout(&bytes, width, &sheet.0, &[], &out);
+    let bare = calls::layout(bytes, width, &sheet.0, &[], &out);
     tell(count, bare.number, 0);
     let rows = if bare.number == 3 { bare.out[11] as usize } else { 0 };
     let length = rows * 9 + r.below(20);
     let table = marked(r, length, |x| x as u32);
     if rows > 0 {
         let short = &table[..rows * 9 - 1];
-        let a = calls::layout(&bytes, width, &sheet.0, short, &out);
+        let a = calls::layout(bytes, width, &sheet.0, short, &out);
         assert_eq!((a.number, a.out[11]), (3, rows as u64), "a table one number short");
         assert_eq!(a.rows, short, "the table after 3");
     }
-    let a = calls::layout(&bytes, width, &sheet.0, &table, &out);
+    let a = calls::layout(bytes, width, &sheet.0, &table, &out);
     tell(count, a.number, 0);
     assert_eq!(a.number, if bare.number == 3 { 0 } else { bare.number }, "tables matter for 3 alone");
-    let plain = calls::layout_plain(&bytes, width, &sheet.0, &out);
+    let plain = calls::layout_plain(bytes, width, &sheet.0, &out);
     assert_eq!(plain, (a.number, a.out), "either engine gives one answer");
+    tell(count, tidy::asked(bytes, width, sheet, &a, &out), 0);
     told_by_a_layout(a.number, &a.out, &out, bytes.len());
     if a.number != 0 {
         assert_eq!(a.rows, table, "the table after {}", a.number);
@@ -372,13 +389,13 @@ pub fn layout(r: &mut Rng, sheet: &Sheet, count: &mut Count) {
     assert_eq!(a.rows[rows * 9..], table[rows * 9..], "past the last row");
     let version = a.out[9] as u16;
     let read = &a.rows[..rows * 9];
-    names::accepted(r, &bytes, &a.rows, 9, rows);
-    write_back(r, sheet, read, &bytes, version, width, count);
+    names::accepted(r, bytes, &a.rows, 9, rows);
+    write_back(r, sheet, read, bytes, version, width, count);
     let mut bent = read.to_vec();
     for _ in 0..1 + r.below(2) {
         bend_rows(r, &mut bent);
     }
-    write_any(r, sheet, &bent, &bytes, version, width, count);
+    write_any(r, sheet, &bent, bytes, version, width, count);
 }
 
 /// What a layout of so many bytes tells in `out`: version and rows, or the place of a refusal that has one.
@@ -433,8 +450,9 @@ fn write_any(r: &mut Rng, sheet: &Sheet, rows: &[u32], text: &[u8], version: u16
     same_back(&a.output[..length], text, rows, sheet, version, width);
 }
 
-/// Written bytes read back as the same version, rows and names, starts apart.
+/// Written bytes are tidy, and read back as the same version, rows and names, starts apart.
 fn same_back(written: &[u8], text: &[u8], rows: &[u32], sheet: &Sheet, version: u16, width: u16) {
+    tidy::written(written, width, sheet);
     let table = vec![0; rows.len()];
     let back = calls::layout(written, width, &sheet.0, &table, &[0; 16]);
     assert_eq!((back.number, back.out[9]), (0, version as u64), "what was written reads back");

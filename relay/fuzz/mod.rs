@@ -7,7 +7,8 @@
 //! holds no NUL, and the rest of its width is NULs, or the text is refused; what is read is written back, and what is written is read back; an
 //! interval has the day numbers of its stored dates, and days and dates turn into each other; an interval has the row of its mapping, and every
 //! other row its own; a block that was read is written, in any version, and what the block writer accepts reads back; records stand one after
-//! the other, each as long as its first byte says.
+//! the other, each as long as its first byte says; a layout is tidy exactly if it is written again as the same bytes, and what is untidy is told first
+//! by place; what a writer gives is tidy.
 pub mod calls;
 mod checks;
 mod columns;
@@ -18,6 +19,8 @@ mod names;
 mod owners;
 mod starts;
 mod texts;
+pub mod tidy;
+pub mod untidy;
 mod writing;
 
 use gen::Rng;
@@ -60,7 +63,8 @@ pub fn run(first: u64, end: u64, seed: u64) -> Count {
         };
         match r.below(9) {
             0..=3 => checks::stream(&mut r, &sheet, &mut count),
-            4..=6 => checks::layout(&mut r, &sheet, &mut count),
+            4..=5 => checks::layout(&mut r, &sheet, &mut count),
+            6 => checks::spoiled_layout(&mut r, &sheet, &mut count),
             7 => frames::records(&mut r, &mut count),
             _ => checks::anything(&mut r, &sheet, &mut count),
         }

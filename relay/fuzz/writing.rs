@@ -5,7 +5,7 @@ use super::{
     columns::{self, Row},
     gen::{Rng, Sheet},
     starts::{self, Read},
-    Count,
+    tidy, Count,
 };
 use dbn_start::{
     ffi::{DATASET_START, LAYOUT_ROW, SYMBOLOGY_ROW},
@@ -71,7 +71,7 @@ fn write(r: &mut Rng, start: &Start, sheet: &Sheet, most: usize, count: &mut Cou
         assert_eq!(a.number, 11, "version {}", start.version);
     }
     assert!(
-        !matches!(a.number, 1..=10 | 12 | 24 | 26..=28 | 30 | 33..=35 | 37..=39 | 44..=55 | 96..=101),
+        !matches!(a.number, 1..=10 | 12 | 24 | 26..=28 | 30 | 33..=35 | 37..=39 | 44..=55 | 96..=101 | 120..),
         "{}",
         a.number
     );
@@ -97,7 +97,8 @@ fn short(r: &mut Rng, start: &Start, sheet: &Sheet, stream: &[u8]) {
     assert_eq!((a.number, &a.output[..]), (0, stream), "an output that is just long enough");
 }
 
-/// A start that was written reads back with the same fields, rows and texts, starts apart, and is then written as the same bytes.
+/// A start that was written reads back with the same fields, rows and texts, starts apart, its layout is tidy, and it is then written as the same
+/// bytes.
 fn same_back(start: &Start, sheet: &Sheet, stream: &[u8]) {
     let (prelude, block) = stream.split_at(8);
     assert_eq!((&prelude[..3], prelude[3]), (&b"DBN"[..], start.version), "the prelude");
@@ -124,6 +125,10 @@ fn same_back(start: &Start, sheet: &Sheet, stream: &[u8]) {
                 .map(|(row, bytes)| part(bytes, row[1].into(), row[2].into()));
             assert_eq!(was, is, "a name");
         }
+    }
+    if start.version == 4 {
+        let length = u32::from_le_bytes(block[100..104].try_into().unwrap()) as usize;
+        tidy::written(&block[104..104 + length], back.out[8] as u16, sheet);
     }
     again(start.version, sheet, stream, &back);
 }

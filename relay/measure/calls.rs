@@ -11,6 +11,7 @@ pub type Rows = [usize; 2];
 pub enum Function {
     Block,
     Layout,
+    Tidy,
     Write,
     WriteBlock,
 }
@@ -20,6 +21,7 @@ impl fmt::Display for Function {
         f.write_str(match self {
             Self::Block => "dbn_block",
             Self::Layout => "dbn_layout",
+            Self::Tidy => "dbn_tidy",
             Self::Write => "dbn_write_layout",
             Self::WriteBlock => "dbn_write_block",
         })
@@ -50,7 +52,7 @@ impl Function {
         let Answer { number, rows } = match self {
             Self::Block => block(version, bytes, [0; 2])(),
             Self::Layout => layout(bytes, [0; 2])(),
-            Self::Write | Self::WriteBlock => return self.with(version, bytes, [0; 2]),
+            Self::Tidy | Self::Write | Self::WriteBlock => return self.with(version, bytes, [0; 2]),
         };
         self.with(version, bytes, if number == 3 { rows } else { [0; 2] })
     }
@@ -64,6 +66,7 @@ impl Function {
         match self {
             Self::Block => Box::new(block(version, bytes, rows)),
             Self::Layout => Box::new(layout(bytes, rows)),
+            Self::Tidy => Box::new(tidy(bytes)),
             Self::Write => Box::new(write(bytes)),
             Self::WriteBlock => Box::new(write_block(version, bytes)),
         }
@@ -101,6 +104,17 @@ fn layout(bytes: &[u8], rows: Rows) -> impl FnMut() -> Answer + '_ {
             ffi::dbn_layout(bytes.as_ptr(), bytes.len(), 71, sheet.numbers(), table.as_mut_ptr(), table.len(), &mut out)
         };
         Answer { number, rows: [0, out[11] as usize] }
+    }
+}
+
+/// Whether that layout is tidy. No table is lent, and no row is written.
+fn tidy(bytes: &[u8]) -> impl FnMut() -> Answer + '_ {
+    let (sheet, mut out) = (shapes::sheet(), [0; 16]);
+    move || {
+        let bytes = black_box(bytes);
+        // SAFETY: every pointer is to a buffer of the given length, and no two overlap.
+        let number = unsafe { ffi::dbn_tidy(bytes.as_ptr(), bytes.len(), 71, sheet.numbers(), &mut out) };
+        Answer { number, rows: [0; 2] }
     }
 }
 

@@ -17,11 +17,11 @@ pub struct Shape {
 const REFUSED: (&str, u32) = ("(55)", 55);
 
 impl Shape {
-    /// Layouts, each through the reader and, where it is accepted, through the writer; then blocks, each through both.
+    /// Layouts, each through the reader, asked whether it is tidy and, where it is accepted, through the writer; then blocks, each through both.
     pub fn all() -> Vec<Self> {
         let mut all = Vec::new();
         for (what, n, make) in LAYOUTS {
-            all.push(Self { function: Function::Layout, what, n, make });
+            all.extend([Function::Layout, Function::Tidy].map(|function| Self { function, what, n, make }));
             if !what.ends_with(REFUSED.0) {
                 all.push(Self { function: Function::Write, what, n, make });
             }

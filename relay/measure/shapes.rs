@@ -187,8 +187,13 @@ fn no_name(_: usize) -> Vec<u8> {
 
 /// What a version 4 stream carries: 20 records with 405 fields in all, 2 structs, 3 label defs of 8 labels.
 pub fn daily() -> Vec<u8> {
+    daily_of(20)
+}
+
+/// The same with so many records, the first five of them of 21 fields and the others of 20.
+pub fn daily_of(records: usize) -> Vec<u8> {
     let named = |i: usize| format!("field_{i:02}").into_bytes();
-    let records: Vec<Vec<u8>> = (0..20)
+    let records: Vec<Vec<u8>> = (0..records)
         .map(|r| {
             let mut entries: Vec<Entry> = vec![(1, 0, HEADER, TEXT, 0, 0)];
             let mut at = HEADER;

@@ -17,7 +17,7 @@ pub const SYMBOLOGY_ROW: usize = 6;
 /// Numbers in one row of a layout. The rows of a table stand one after the other.
 pub const LAYOUT_ROW: usize = 9;
 
-/// Where `out` has the place of a refusal that has one, 10 to 12 and 20 to 55. After any other refusal it keeps its value.
+/// Where `out` has the place of a refusal that has one, 10 to 12, 20 to 55 and 120 to 123. After any other refusal it keeps its value.
 pub const PLACE: usize = 13;
 
 /// The same in `out` of [`dbn_prelude`].
@@ -107,6 +107,10 @@ extern "C" {
         sheet: *const [u16; SHEET],
         out: *mut [u64; 16],
     ) -> u32;
+
+    /// 0: tidy, and `out` keeps its value. Else the number of [`dbn_layout`], 3 apart, or 120 to 123 for the first untidy thing in wire order.
+    /// 50 to 55 and 120 to 123: `out[13]` is the place.
+    pub fn dbn_tidy(layout: *const u8, n: usize, width: u16, sheet: *const [u16; SHEET], out: *mut [u64; 16]) -> u32;
 
     /// 0: `out[0]` the written length.
     pub fn dbn_write_layout(

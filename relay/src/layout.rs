@@ -35,6 +35,28 @@ impl<'a> Layout<'a> {
         Ok(Self::accepted(bytes, promise(out[9], "a layout version"), &tables.layout[..count * ROW]))
     }
 
+    /// Whether a layout for a stream of that symbol width is tidy: the bytes that [`write_layout`] gives for the rows that it reads to, with its
+    /// own version. No table is needed, and nothing is written.
+    ///
+    /// Refused first by the reader's own number, then by the first untidy thing in wire order: 120 for bytes left over in a section, 121 for a
+    /// label's code that is not above the one before it, 122 for a skipped byte of an entry that is not zero, 123 for bytes left over after the
+    /// label defs. Each tells its place.
+    ///
+    /// ```
+    /// # use dbn_start::{Layout, Sheet, SheetIds};
+    /// # let sheet = Sheet::new(SheetIds { struct_id: 1, symbol_id: 2, decimal_id: 4, padding_id: 0, extension_weight: 64, no_label_def: 65535, header_size: 24 });
+    /// let empty = [1, 0, 0, 0, 0, 0, 0, 0]; // a version and three counts
+    /// assert_eq!(Layout::tidy(&empty, 71, &sheet), Ok(()));
+    /// let refusal = Layout::tidy(&[&empty[..], &[0]].concat(), 71, &sheet).expect_err("a byte left over");
+    /// assert_eq!(refusal.to_string(), "refused by 123 at byte 8: bytes are left over after the label defs");
+    /// ```
+    pub fn tidy(bytes: &[u8], width: u16, sheet: &Sheet) -> Result<(), Refusal> {
+        let mut out = [0; 16];
+        // SAFETY: the pointer and length are those of a slice, and `out` is ours.
+        let number = unsafe { ffi::dbn_tidy(bytes.as_ptr(), bytes.len(), width, sheet.numbers(), &mut out) };
+        Refusal::unless_read(number, out[ffi::PLACE])
+    }
+
     /// The layout that these rows tell of.
     pub(crate) fn accepted(bytes: &'a [u8], version: u16, rows: &'a [u32]) -> Self {
         Self { bytes, version, rows }

@@ -4,6 +4,7 @@
 //! them their buffers and gives back names as parts of the caller's own bytes. [`Feed`] reads a stream's start from a source or takes it in pieces,
 //! and [`Frames`] takes the records after it, [`Block`] and [`Layout`] take what is already whole, and [`Refusal`] tells what was refused, and at which byte.
 //! The dates of an interval are [`Day`]s, which can be subtracted, and an interval tells its [`Mapping`]. [`Columns`] has the symbology by column.
+//! [`Layout::tidy`] tells whether a layout is in the plain form that [`write_layout`] gives.
 //! [`BlockBuilder`] writes the start of a stream, from owned values or from a block that was read.
 //!
 //! Nothing here stands in for what is missing: where the library broke its promise, the call panics and says which promise.

@@ -102,6 +102,10 @@ refusals! {
     StartMalformed 110 "the symbology rows, texts or fields to write are malformed"
     TextWide 111 "a symbol or the dataset is too wide, or a width in version 1 is not 22"
     StartOutputShort 112 "the output is too short for the prelude and the block"
+    LeftoverInSection 120 "bytes are left over in a section"
+    CodesNotRising 121 "a label's code is not above the one before it"
+    SkippedNotZero 122 "a skipped byte of an entry is not zero"
+    LeftoverAfterLabels 123 "bytes are left over after the label defs"
     NoSheet 200 "a version 4 stream, and no type sheet was given to judge its layout by"
     NoMemory 201 "the system has no memory for the bytes or the rows"
 }
@@ -122,9 +126,9 @@ impl RefusalKind {
         }
     }
 
-    /// Whether refusals of this kind have a place where they come from reading: 10 to 12 and 20 to 55 do.
+    /// Whether refusals of this kind have a place: 10 to 12 and 20 to 55 do where they come from reading, and 120 to 123, which tell what is untidy.
     pub const fn has_place(self) -> bool {
-        matches!(self.number(), 10..=12 | 20..=55)
+        matches!(self.number(), 10..=12 | 20..=55 | 120..=123)
     }
 }
 
@@ -164,7 +168,8 @@ impl Refusal {
     /// For 10 to 12 it counts from the prelude, and 11 is at byte 3 also where a version is given with a block. For 20 to 55 it counts
     /// from the block, which begins at byte 8 of a stream, or from the layout where a layout was given. It is the first byte of the
     /// number or text that broke its rule, or the byte where something was to begin that does not fit, which may be the end of the
-    /// bytes; for 28 the first byte that the contents do not reach. `docs/REFUSALS.md` has the rule of each number.
+    /// bytes; for 28 the first byte that the contents do not reach. For 120 to 123 it counts from the layout: the first byte left over (120,
+    /// 123), the label's code (121), the first skipped byte that is not zero (122). `docs/REFUSALS.md` has the rule of each number.
     pub const fn place(self) -> Option<usize> {
         self.place
     }
@@ -228,8 +233,8 @@ mod tests {
 
     #[test]
     fn every_number_of_the_table_has_one_name_and_one_sentence() {
-        let ranges = [1..=3, 10..=13, 20..=45, 50..=55, 60..=64, 71..=83, 90..=96, 100..=101, 110..=112, 200..=201];
-        let numbers: Vec<u32> = ranges.into_iter().flatten().collect();
+        let below = [1..=3, 10..=13, 20..=45, 50..=55, 60..=64, 71..=83, 90..=96, 100..=101];
+        let numbers: Vec<u32> = below.into_iter().chain([110..=112, 120..=123, 200..=201]).flatten().collect();
         assert_eq!(RefusalKind::ALL.iter().map(|kind| kind.number()).collect::<Vec<_>>(), numbers);
         assert!(RefusalKind::ALL
             .iter()
@@ -242,7 +247,7 @@ mod tests {
     fn a_place_is_told_for_the_kinds_that_have_one() {
         let placed: Vec<u32> =
             RefusalKind::ALL.iter().filter(|kind| kind.has_place()).map(|kind| kind.number()).collect();
-        let ranges = [10..=12, 20..=45, 50..=55];
+        let ranges = [10..=12, 20..=45, 50..=55, 120..=123];
         assert_eq!(placed, ranges.into_iter().flatten().collect::<Vec<_>>());
         for kind in RefusalKind::ALL {
             let refusal = Refusal::unless_read(kind.number(), 104).expect_err("a refusal");
@@ -250,6 +255,7 @@ mod tests {
         }
         let text = |number| Refusal::unless_read(number, 104).expect_err("a refusal").to_string();
         assert_eq!(text(44), "refused by 44 at byte 104: the layout goes past the end of the block");
+        assert_eq!(text(120), "refused by 120 at byte 104: bytes are left over in a section");
         assert_eq!(text(13), format!("refused by 13: {}", RefusalKind::Size.sentence()));
     }
 

@@ -43,8 +43,10 @@ fn places_stand_where_the_header_says() {
     for (name, place) in [("DBN_OUT_PLACE", ffi::PLACE), ("DBN_PRELUDE_PLACE", ffi::PRELUDE_PLACE)] {
         assert!(HEADER.contains(&format!("{name} = {place}")), "{name}");
     }
-    assert!(HEADER.contains("(number >= 10 && number <= 12) || (number >= 20 && number <= 55)"));
-    let placed = |number: u32| (10..=12).contains(&number) || (20..=55).contains(&number);
+    let ranges = [10..=12, 20..=55, 120..=123];
+    let told = ranges.clone().map(|range| format!("(number >= {} && number <= {})", range.start(), range.end()));
+    assert!(HEADER.contains(&format!("return {};", told.join(" || "))));
+    let placed = |number: u32| ranges.iter().any(|range| range.contains(&number));
     assert!(RefusalKind::ALL.iter().all(|kind| kind.has_place() == placed(kind.number())));
 }
 

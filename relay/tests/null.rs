@@ -21,8 +21,10 @@ fn every_function_takes_null_at_length_0() {
         assert_eq!(out, [7; 16]);
         assert_eq!(ffi::dbn_layout(null(), 0, 71, sheet, null_mut(), 0, &mut out), 50);
         assert_eq!(std::mem::replace(&mut out[ffi::PLACE], 7), 0, "the place");
-        assert_eq!(ffi::dbn_layout_plain(null(), 0, 71, sheet, &mut out), 50);
-        assert_eq!(std::mem::replace(&mut out[ffi::PLACE], 7), 0, "the place");
+        for verdict in [ffi::dbn_layout_plain, ffi::dbn_tidy] {
+            assert_eq!(verdict(null(), 0, 71, sheet, &mut out), 50);
+            assert_eq!(std::mem::replace(&mut out[ffi::PLACE], 7), 0, "the place");
+        }
         assert_eq!(ffi::dbn_block(9, null(), 0, sheet, null_mut(), 0, null_mut(), 0, &mut out), 11);
         assert_eq!(std::mem::replace(&mut out[ffi::PLACE], 7), 3, "the place in a prelude");
         assert_eq!(out, [7; 16]);

@@ -54,6 +54,12 @@ fn stored() -> (Vec<u8>, String) {
     (stream, std::fs::read_to_string(at("crates/show/stdout")).expect("the stored report"))
 }
 
+/// The layout of the stored stream, 414 bytes. From byte 4 on stands a record's section of 298 bytes, whose first entry begins at
+/// byte 29, and at bytes 400 and 407 the codes of the two labels.
+fn layout() -> Vec<u8> {
+    stored().0[112..526].to_vec()
+}
+
 /// A version 2 stream of symbols of this width, with a dataset, and bytes after the symbology.
 fn version_2(dataset: &[u8; 16], width: u16, symbols: &[&[u8]], after: usize) -> Vec<u8> {
     let mut block = dataset.to_vec();
@@ -95,6 +101,12 @@ fn sheet(name: &str, at: usize, to: u16) -> String {
 
 const MADE: &str = "type sheet: a made one, not Databento's; --sheet FILE gives another\n";
 const GIVEN: &str = "type sheet: the given one\n";
+const USUAL: &str = "symbol width: 71; --width N gives another\n";
+
+/// What is told of a layout that is judged with the usual width and the made sheet.
+fn judged(status: i32, verdict: &str) -> Shown {
+    told(status, &format!("{verdict}{USUAL}{MADE}"))
+}
 
 #[test]
 fn accepted_from_a_file_and_from_standard_input() {
@@ -220,7 +232,9 @@ fn options_that_cannot_be_used() {
 fn help() {
     let shown = show(&["--help"], b"");
     assert_eq!((shown.status, shown.err.as_str()), (0, ""));
-    for word in ["show [--sheet FILE] [FILE]", "--sheet FILE", "--status", "--help", "0 accepted, 1 refused"] {
+    let calls = ["show [--sheet FILE] [FILE]\n", "show [--sheet FILE] [--width N] --tidy [FILE]\n"];
+    let options = ["  --tidy ", "  --width N ", "  --sheet FILE ", "  --status ", "  --help "];
+    for word in calls.into_iter().chain(options).chain(["0 accepted or tidy, 1 refused, untidy or cut short, 2 "]) {
         assert!(shown.out.contains(word), "{word}");
     }
 }
@@ -265,9 +279,105 @@ fn room_for_a_days_stream() {
 
 #[test]
 fn a_report_that_cannot_be_written() {
-    let Ok(full) = std::fs::OpenOptions::new().write(true).open("/dev/full") else { return };
-    let mut command = command(&[]);
-    command.stdout(full);
-    let shown = run(command, &stored().0);
-    assert_eq!(shown, failed("show: standard output: No space left on device\n"));
+    for (args, input) in [(&[][..], stored().0), (&["--tidy"], layout())] {
+        let Ok(full) = std::fs::OpenOptions::new().write(true).open("/dev/full") else { return };
+        let mut command = command(args);
+        command.stdout(full);
+        assert_eq!(run(command, &input), failed("show: standard output: No space left on device\n"));
+    }
+}
+
+#[test]
+fn a_tidy_layout_from_a_file_and_from_standard_input() {
+    let path = file("tidy.layout", &layout());
+    for args in [["--tidy", &path], [&path, "--tidy"]] {
+        assert_eq!(show(&args, b""), judged(0, "tidy\n"));
+    }
+    for args in [&["--tidy", "-"][..], &["--tidy"]] {
+        assert_eq!(show(args, &layout()), judged(0, "tidy\n"));
+    }
+    assert_eq!(show(&["--tidy"], &[1, 0, 0, 0, 0, 0, 0, 0]), judged(0, "tidy\n"));
+}
+
+/// What is told of the stored stream's layout after a change.
+fn changed(change: fn(&mut Vec<u8>)) -> Shown {
+    let mut layout = layout();
+    change(&mut layout);
+    show(&["--tidy"], &layout)
+}
+
+#[test]
+fn each_untidy_thing_with_its_place() {
+    let in_section = "refused 120: Bytes are left over in a section.\nplace 302 of the layout\n\
+        00 05 76 65 6e 75 65 00 [2a] 01 00 54 00 10 00 05 4c\n";
+    let longer = changed(|layout| {
+        layout[4] += 1;
+        layout.insert(302, 0x2a);
+    });
+    assert_eq!(longer, judged(1, in_section));
+    let codes = "refused 121: A label's code is not above the one before it.\nplace 407 of the layout\n\
+        00 43 00 03 41 73 6b 00 [42] 00 03 42 69 64 00\n";
+    assert_eq!(changed(|layout| layout[400] = 0x43), judged(1, codes));
+    let skipped = "refused 122: A skipped byte of an entry is not zero.\nplace 44 of the layout\n\
+        00 ff ff 00 00 00 00 00 [80] 02 00 01 00 01 00 01 00\n";
+    assert_eq!(changed(|layout| layout[44] = 0x80), judged(1, skipped));
+    let after = "refused 123: Bytes are left over after the label defs.\nplace 414 of the layout\n\
+        00 42 00 03 42 69 64 00 [07] 08\n";
+    assert_eq!(changed(|layout| layout.extend([7, 8])), judged(1, after));
+}
+
+#[test]
+fn a_layout_that_the_reader_refuses() {
+    let cut = "refused 50: The layout is cut short.\nplace 392 of the layout\n\
+        76 65 64 00 01 00 18 00 [04] 53 69 64 65 00 02 00 41\n";
+    assert_eq!(changed(|layout| layout.truncate(413)), judged(1, cut));
+    let empty = "refused 50: The layout is cut short.\nplace 0 of the layout\n[]\n";
+    assert_eq!(changed(Vec::clear), judged(1, empty));
+    assert_eq!(changed(|layout| layout[6] = 0x4E), judged(1, "refused 62: An rtype's low byte is 4E.\n"));
+}
+
+#[test]
+fn a_layout_for_a_width_and_a_sheet_of_ones_own() {
+    let width = |width: &str, verdict: &str| format!("{verdict}symbol width: {width}\n{MADE}");
+    assert_eq!(show(&["--width", "71", "--tidy"], &layout()), told(0, &width("71", "tidy\n")));
+    assert_eq!(show(&["--tidy", "--width", "0071", "-"], &layout()), told(0, &width("71", "tidy\n")));
+    let other = "refused 77: A symbol field's size is not the symbol width.\n";
+    for n in ["0", "8", "72", "65535"] {
+        assert_eq!(show(&["--tidy", "--width", n], &layout()), told(1, &width(n, other)));
+    }
+    let same = sheet("same_for_layouts.sheet", 519, 0);
+    assert_eq!(show(&["--sheet", &same, "--tidy"], &layout()), told(0, &format!("tidy\n{USUAL}{GIVEN}")));
+    let long_header = sheet("long_header_for_layouts.sheet", 518, 64);
+    let below = "refused 63: A record's base size is below the header.\nsymbol width: 71\n";
+    let args = ["--sheet", &long_header, "--width", "71", "--tidy", "-"];
+    assert_eq!(show(&args, &layout()), told(1, &format!("{below}{GIVEN}")));
+}
+
+#[test]
+fn a_layout_that_cannot_be_read() {
+    assert_eq!(show(&["--tidy", "no such file"], b""), failed("show: no such file: No such file or directory\n"));
+    assert_eq!(show(&["--tidy", "/"], b""), failed("show: /: Is a directory\n"));
+    let mut long = layout();
+    long.resize(1_048_576, 9);
+    let after = "refused 123: Bytes are left over after the label defs.\nplace 414 of the layout\n\
+        00 42 00 03 42 69 64 00 [09] 09 09 09 09 09 09 09 09\n";
+    assert_eq!(show(&["--tidy"], &long), judged(1, after));
+    long.push(9);
+    let path = file("long.layout", &long);
+    let longer =
+        |name: &str| failed(&format!("show: {name}: more than 1,048,576 bytes, show takes no longer layout\n"));
+    assert_eq!(show(&["--tidy", &path], b""), longer(&path));
+    assert_eq!(show(&["--tidy", "-"], &long), longer("standard input"));
+}
+
+#[test]
+fn widths_that_cannot_be_used() {
+    for word in ["65536", "18446744073709551687", "-1", "+71", "7 1", "0x47", "71.", "--tidy", ""] {
+        let err = format!("show: {word}: no symbol width, which is a number from 0 to 65535\n");
+        assert_eq!(show(&["--tidy", "--width", word, "-"], &layout()), failed(&err));
+    }
+    assert_eq!(show(&["--tidy", "-", "--width"], &layout()), failed("show: --width: the number is missing\n"));
+    let alone = failed("show: --width: only --tidy takes a symbol width\n");
+    assert_eq!(show(&["--width", "71"], &stored().0), alone);
+    assert_eq!(show(&["-", "--width", "71", "--status"], &stored().0), alone);
 }

@@ -177,6 +177,7 @@ fn calls<'a>(sheet: &'a Sheet, layouts: &'a [Measured], symbols: &'a [u8]) -> Ve
         call("dbn_write_block", *most, Box::new(write_block(4, &shapes::block4(layout))));
         let marked = if *most == ORDINARY { MARKED } else { LARGE };
         call("dbn_layout_plain", marked, Box::new(|| assert!(check_layout_plain(layout, 71, sheet).is_ok())));
+        call("dbn_tidy", marked, Box::new(|| assert!(Layout::tidy(layout, 71, sheet).is_ok())));
     }
     calls
 }

@@ -16,7 +16,7 @@ use bench::{
     hostile::Shape,
     in_turn, median, medians, shapes, turns_of,
 };
-use dbn_start::{Block, Feed, Frames, Limits, Step, Tables};
+use dbn_start::{write_layout, Block, Feed, Frames, Layout, Limits, Step, Tables};
 use std::{env, hint::black_box, io::Read, process::ExitCode};
 
 fn main() -> ExitCode {
@@ -132,7 +132,30 @@ fn daily() {
         tell("version 4, 20 records with 405 fields (c)", function, 4, &shapes::block4(&inner));
     }
     tell("that layout", Function::Write, 4, &inner);
+    tidy(&inner, &shapes::daily_of(40));
     starts(3, &usual());
+}
+
+/// Whether the layout of (c) is tidy, beside reading it and beside reading, writing and comparing it; and the same for one of about twice the bytes.
+fn tidy(one: &[u8], two: &[u8]) {
+    let times = [("that layout", one), ("that layout with 40 records", two)].map(|(what, bytes)| {
+        let (mut tidy, mut read) = (Function::Tidy.exact(4, bytes), Function::Layout.exact(4, bytes));
+        assert_eq!([tidy().number, read().number], [0; 2], "{what}");
+        let (sheet, mut tables, mut output) = (shapes::sheet(), Tables::default(), vec![0; bytes.len()]);
+        let mut compared = || {
+            let read = Layout::read(black_box(bytes), 71, &sheet, &mut tables).expect("an accepted layout");
+            let written = write_layout(read.numbers(), bytes, read.version(), 71, &sheet, &mut output);
+            assert!(written == Ok(bytes.len()) && output == bytes, "{what}");
+        };
+        let [tidy, read, compared] =
+            in_turn([&mut || _ = black_box(tidy()), &mut || _ = black_box(read()), &mut compared]);
+        let (of_read, of_compared) = (tidy / read, tidy / compared);
+        print!("  dbn_tidy, {what}: {} bytes, {:.1} us, {of_read:.2} of dbn_layout", bytes.len(), tidy / 1e3);
+        println!(", {of_compared:.2} of reading, writing and comparing");
+        tidy
+    });
+    let (bytes, time) = (two.len() as f64 / one.len() as f64, times[1] / times[0]);
+    println!("  dbn_tidy: {time:.2} times the time for {bytes:.2} times the bytes");
 }
 
 /// A way to read a start.
