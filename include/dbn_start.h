@@ -29,10 +29,11 @@
  * Stack, in bytes that a call needs at the most:
  *     dbn_text, dbn_date, dbn_day, dbn_prelude, dbn_symbology_name,
  *     dbn_layout_name, dbn_frame                                               4 KiB
- *     dbn_block, dbn_feed, dbn_layout, dbn_write_layout, dbn_write_block      32 KiB
+ *     dbn_block, dbn_feed, dbn_layout, dbn_tidy, dbn_write_layout,
+ *     dbn_write_block                                                         32 KiB
  *     the same for a layout of more than 4,096 structs, or with a record
  *     or struct whose fields stand far from the order of their offsets       320 KiB
- *     dbn_layout_plain, dbn_tidy                                              64 KiB
+ *     dbn_layout_plain                                                        64 KiB
  *     the same for a layout of more than 4,096 structs, or with a record
  *     or struct that reaches to byte 8,191 or past it                        320 KiB
  * So 64 KiB do for streams below version 4 and for layouts in order, and 320 KiB for anything that a stranger sends.

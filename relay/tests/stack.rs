@@ -175,9 +175,9 @@ fn calls<'a>(sheet: &'a Sheet, layouts: &'a [Measured], symbols: &'a [u8]) -> Ve
         call("dbn_layout", *most, Box::new(read(layout)));
         call("dbn_write_layout", *most, Box::new(write(layout)));
         call("dbn_write_block", *most, Box::new(write_block(4, &shapes::block4(layout))));
+        call("dbn_tidy", *most, Box::new(|| assert!(Layout::tidy(layout, 71, sheet).is_ok())));
         let marked = if *most == ORDINARY { MARKED } else { LARGE };
         call("dbn_layout_plain", marked, Box::new(|| assert!(check_layout_plain(layout, 71, sheet).is_ok())));
-        call("dbn_tidy", marked, Box::new(|| assert!(Layout::tidy(layout, 71, sheet).is_ok())));
     }
     calls
 }

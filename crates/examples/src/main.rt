@@ -9,6 +9,7 @@
 //   m  a layout with many labels: how many stand before the last (two bytes), with codes 0, 1 and so on, the last one (four
 //      bytes), the symbol width (two), the layout up to its first label
 //   t  a layout that is read, written and read again: the symbol width (two bytes), the layout
+//   i  a layout that is asked whether it is tidy: the symbol width (two bytes), the layout
 //   w  rows for the writer: symbol width, layout version, bytes of output, how often the last row stands once more, length
 //      of the texts (two bytes each), the texts, the rows
 mod bytes;
@@ -92,6 +93,7 @@ fn case(kind: u8, s: &[u8], sheet: &mut [u16; 520]) {
         b'l' => readers::layout(s, sheet),
         b'm' => readers::layout(bytes::from(s, 6), sheet),
         b't' => written::again(s, sheet),
+        b'i' => readers::tidy(s, sheet),
         b'w' => written::rows(s, sheet),
         _ => show::line(b"no such kind"),
     }

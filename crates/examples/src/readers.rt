@@ -8,6 +8,7 @@ use layout::Answer;
 use layout::Verdict;
 use refusal::Refusal;
 use symbology::SectionAnswer;
+use tidy::Tidy;
 ghost use Prim.Native.Nat.{_≤_};
 
 // A block of a case: its fields and rows, the rows needed, or the refusal.
@@ -77,6 +78,14 @@ pub(crate) fn layout(s: &[u8], sheet: &[u16; 520]) {
     rules_of_bytes(layout, width, sheet);
     rules_of_rows(rows::front(&table, n), layout, width, sheet);
     show::layout_rows(layout, &table, n);
+}
+
+// Whether a layout of a case is tidy; else the refusal, or the first untidy thing.
+pub(crate) fn tidy(s: &[u8], sheet: &[u16; 520]) {
+    match tidy::check_tidy(bytes::from(s, 2), bytes::u16_at(s, 0), sheet) {
+        Tidy::Yes => show::line(b"tidy"),
+        Tidy::Refused(why) => show::refused(why),
+    }
 }
 
 // Reads the rows of a layout, says what came of it, and answers how many there are.
