@@ -1,7 +1,7 @@
 -- What the tests of the fields come to, and by which number the reader would refuse the header that fields make. Assumes nothing.
 use Prim.Native.Nat.{ℕ, _+_, _-_, _≤_, _<_}
 use native.Mathlib.Omega.{arith}
-use mathlib.Core.Path.{_≡_, refl, ap₂, _∙_}
+use mathlib.Core.Path.{_≡_, refl, ap, ap₂, _∙_}
 use mathlib.Core.Bool.{Bool, true, false, _&&_, _||_, cond}
 use mathlib.Core.List.{List}
 use lib.ListN.{length, take, drop, length-drop}
@@ -16,8 +16,10 @@ use Rattle.block.specs.BlockFaults.{headerFault}
 use Rattle.block.specs.LengthsLaws.{header-fault}
 use Rattle.columns_check.specs.RowFaults.{textFault}
 use Rattle.columns_check.specs.FaultLaws.{filled-fault}
-use Rattle.block_writer.specs.Fields.{datasetLen, schema, end, limit, stypeIn, stypeOut, tsOut, width, layoutVersion, present, datasetStart, datasetText, has, optionFits, optionsFit, numbersFit, datasetFits, fieldsFit}
-use Rattle.block_writer.specs.Tree.{headerOf}
+use Rattle.header_bytes.specs.Numbers.{datasetLen, schema, end, limit, stypeIn, stypeOut, tsOut, width, layoutVersion, present, datasetStart, has}
+use Rattle.block_writer.specs.Fields.{datasetText, optionFits, optionsFit, numbersFit, datasetFits, fieldsFit}
+use Rattle.header_bytes.specs.Header.{headerOf}
+use Rattle.header_bytes.specs.HeaderLaws.{header-is}
 use Rattle.block_writer.specs.PlanLaws.{fields-fit}
 
 -- ---- the options
@@ -118,10 +120,10 @@ code-stored false x top absent e = rw (eq-eqb absent absent refl, eqb-true x 0 e
 
 -- the dataset's text, then the codes as they are given
 pub header-fault-is : (version : ℕ) (fs text : List ℕ) → fieldsFit version fs text ≡ true
-    → headerFault (headerOf version fs text) ≡ first (textFault 20 29 (datasetText fs text)) (first (unless (leb (schema fs) 19) 21) (first (unless (leb (stypeIn fs) 12) 22) (unless (leb (stypeOut fs) 12) 23)))
-unfolding headerOf
+    → headerFault (headerOf version fs (datasetText fs text)) ≡ first (textFault 20 29 (datasetText fs text)) (first (unless (leb (schema fs) 19) 21) (first (unless (leb (stypeIn fs) 12) 22) (unless (leb (stypeOut fs) 12) 23)))
 header-fault-is version fs text e =
     let f = fields-fit version fs text e in
-    header-fault (headerOf version fs text)
+    ap headerFault (header-is version fs (datasetText fs text))
+    ∙ header-fault _
     ∙ ap₂ first (filled-fault (lengths version .«dataset_cstr_len») 20 29 (datasetText fs text))
     (ap₂ (λ a b. first (unless a 21) (first (unless b 22) (unless (leb (stypeOut fs) 12) 23))) (code-stored (has 1 fs) (schema fs) 19 65535 (f .schemaFits)) (code-stored (has 8 fs) (stypeIn fs) 12 255 (f .stypeInFits)))

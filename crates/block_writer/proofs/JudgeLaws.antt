@@ -34,8 +34,10 @@ use Rattle.columns_check.specs.FitLaws.{formed}
 use Rattle.columns_check.specs.SizedLaws.{heads-le}
 use Rattle.columns_check.specs.LengthLaws.{mappings-are, columns-length}
 use Rattle.columns_check.specs.ToldLaws.{Told}
-use Rattle.block_writer.specs.Fields.{width, fieldsFit, fieldsNarrow}
-use Rattle.block_writer.specs.Tree.{headerOf, layoutTree, blockBytes}
+use Rattle.header_bytes.specs.Numbers.{width}
+use Rattle.block_writer.specs.Fields.{datasetText, fieldsFit, fieldsNarrow}
+use Rattle.header_bytes.specs.Header.{headerOf}
+use Rattle.block_writer.specs.Tree.{layoutTree, blockBytes}
 use Rattle.block_writer.specs.Write as Write
 use Rattle.block_writer.specs.Write.{writeFault}
 use Rattle.block_writer.specs.Plan.{Ready, Names, Planned}
@@ -192,12 +194,12 @@ module _
     -- no number but those of the header, the layout and the symbology
     fault-left : 104 + x + y + p .names ≤ 4294967295 → let has = lengths version .«has_layout» in
         writeFault sheet version fs t n rows text
-        ≡ first (headerFault (headerOf version fs text)) (first (layoutFault has sheet (width fs) (layoutTree has fs rows text)) (symbologyFault utf8 nulPadded isDate (width fs) (symbologyOf (width fs) t n text)))
+        ≡ first (headerFault (headerOf version fs (datasetText fs text))) (first (layoutFault has sheet (width fs) (layoutTree has fs rows text)) (symbologyFault utf8 nulPadded isDate (width fs) (symbologyOf (width fs) t n text)))
     fault-left h =
         let l = block-long in
         write-fault-is sheet version fs t n rows text r small bytes (whole rows text q) ∙ rw (le-leb (length (blockBytes sheet version fs t n rows text)) 4294967295 (omega arith))
 
-    pub planned : {head rules inner all : ℕ} → 104 + x + y + p .names ≤ 4294967295 → head ≡ headerFault (headerOf version fs text)
+    pub planned : {head rules inner all : ℕ} → 104 + x + y + p .names ≤ 4294967295 → head ≡ headerFault (headerOf version fs (datasetText fs text))
         → rules ≡ cond (eqb version 4) (rowsRules sheet (width fs) rows text) (unless (isNil rows) 25) → inner ≡ first rules (p .number) → all ≡ first head inner
         → Planned sheet version fs t n rows text (record {
           number = all;

@@ -55,8 +55,11 @@ use Rattle.columns_check.specs.BackLaws.{rowsAt, textsAt, rows-length, rows-bac
 use Rattle.writer.specs.Write.{outAfter}
 use Rattle.writer.specs.RoundTripLaws.{out-written}
 use Rattle.writer.specs.declared.Written.the-variants.{Length, Refused}
-use Rattle.block_writer.specs.Fields.{datasetLen, schema, start, end, limit, stypeIn, stypeOut, tsOut, width, layoutVersion, datasetText, has, optionFits}
-use Rattle.block_writer.specs.Tree.{headerOf, layoutTree, blockTree, blockBytes, preludeBytes}
+use Rattle.header_bytes.specs.Numbers.{datasetLen, schema, start, end, limit, stypeIn, stypeOut, tsOut, width, layoutVersion, has}
+use Rattle.block_writer.specs.Fields.{datasetText, optionFits}
+use Rattle.header_bytes.specs.Header.{headerOf}
+use Rattle.header_bytes.specs.HeaderLaws.{header-is}
+use Rattle.block_writer.specs.Tree.{layoutTree, blockTree, blockBytes, preludeBytes}
 use Rattle.block_writer.specs.Write.{formed, slim, startBytes, writeFault, writeBlock, WritesBlock}
 use Rattle.block_writer.specs.Plan.{Ready}
 use Rattle.block_writer.specs.PlanLaws.{Small, Fit, layout-fault-is, ready-fit, ready-formed, ready-dataset, ready-width, dataset-long, header-sized, layout-sized, block-shaped, block-bytes-length, block-bytes-are, write-fault-is}
@@ -284,7 +287,7 @@ module _ (sheet : List ℕ) (version : ℕ) (fs t : List ℕ) (n : ℕ) (rows te
     parts-fine : (length bytes ≤ 4294967295) × (layoutFault (v .«has_layout») sheet (width fs) layoutOf ≡ 0)
     parts-fine =
         let (a, b) = first-zero (Faults.unless (leb (length bytes) 4294967295) 13) _ (sym (write-fault-is sheet version fs t n rows text (p .ready) small octets (p .whole)) ∙ none) in
-        let (_, c) = first-zero (headerFault (headerOf version fs text)) _ b in
+        let (_, c) = first-zero (headerFault (headerOf version fs (datasetText fs text))) _ b in
         (leb-true (length bytes) 4294967295 (unless-zero _ 13 (omega arith) a), first-zero _ _ c .0)
 
     -- below version 4 there are no rows, and the version is 0
@@ -316,18 +319,19 @@ module _ (sheet : List ℕ) (version : ℕ) (fs t : List ℕ) (n : ℕ) (rows te
     suits = layout-suits (v .«has_layout») fs rows text
 
     fields-same : fieldsOf v tree ≡ fieldsGiven fs n (length (rowsIn rows))
-    unfolding fieldsGiven blockTree headerOf
+    unfolding fieldsGiven blockTree
     fields-same =
         fields-are v tree
         ∙ rw (
           lines,
+          ready-width (p .ready),
+          header-is version fs (datasetText fs text),
           dataset-back f (v .«dataset_cstr_len»),
           coded-back 65535 (has 1 fs) (schema fs) (f .schemaFits),
           end-back (has 2 fs) (end fs) (f .endFits),
           limit-back (has 4 fs) (limit fs) (f .limitFits),
           coded-back 255 (has 8 fs) (stypeIn fs) (f .stypeInFits),
           flag-back (tsOut fs) (f .tsOutFits),
-          ready-width (p .ready),
           layout-version (v .«has_layout») fs rows text plain,
           rows-count (width fs) t n text (ready-formed (p .ready)),
         ) refl
@@ -346,19 +350,22 @@ module _ (sheet : List ℕ) (version : ℕ) (fs t : List ℕ) (n : ℕ) (rows te
     -- ---- where the names stand
 
     dataset-same : take (datasetLen fs) bytes ≡ datasetText fs text
-    unfolding headerOf
     dataset-same =
         let w = v .«dataset_cstr_len» in
         let d = filled w (datasetText fs text) in
         let body = layoutPart (v .«has_layout») sheet (width fs) .codec .print layoutOf ++ symbologyPart (v .«has_layout») (width fs) .codec .print (symbologyOf (width fs) t n text) in
         let h : datasetLen fs ≤ length d = omega (arith, filled-length w (datasetText fs text) (omega (arith, dataset-long f, ready-dataset (p .ready))), ready-dataset (p .ready)) in
-        ap (take (datasetLen fs)) (block-bytes-are (p .ready) sheet rows ∙ ap (λ u. u ++ body) (header-print v (headerOf version fs text)) ∙ append-assoc d _ body)
-        ∙ take-append-le (datasetLen fs) d _ h
+        let H = headerOf version fs (datasetText fs text) in
+        let g : H .dataset ≡ d = ap (λ x. x .dataset) (header-is version fs (datasetText fs text)) in
+        let k : datasetLen fs ≤ length (H .dataset) = omega (arith, ap length g, h) in
+        ap (take (datasetLen fs)) (block-bytes-are (p .ready) sheet rows ∙ ap (λ u. u ++ body) (header-print v H) ∙ append-assoc (H .dataset) _ body)
+        ∙ take-append-le (datasetLen fs) (H .dataset) _ k
+        ∙ ap (take (datasetLen fs)) g
         ∙ subst (λ k. take k d ≡ datasetText fs text) (dataset-back f w) (filled-back w (datasetText fs text) (f .datasetEnds))
 
     layout-same : take (length writtenLayout) (drop 104 bytes) ≡ writtenLayout
     layout-same =
-        let H = header v .codec .print (headerOf version fs text) in
+        let H = header v .codec .print (headerOf version fs (datasetText fs text)) in
         let N = little 4 (length writtenLayout) in
         let S = symbologyPart (v .«has_layout») (width fs) .codec .print (symbologyOf (width fs) t n text) in
         let e : bytes ≡ (H ++ N) ++ (writtenLayout ++ S) =
@@ -366,7 +373,7 @@ module _ (sheet : List ℕ) (version : ℕ) (fs t : List ℕ) (n : ℕ) (rows te
         ∙ ap (λ u. H ++ (u ++ S)) (part-print (v .«has_layout») sheet (width fs) layoutOf)
         ∙ ap (λ u. H ++ u) (append-assoc N writtenLayout S)
         ∙ sym (append-assoc H N (writtenLayout ++ S)) in
-        let h : length (H ++ N) ≡ 104 = omega (arith, length-append H N, header-length version (headerOf version fs text) (header-sized (p .ready) small octets), length-little 4 (length writtenLayout)) in
+        let h : length (H ++ N) ≡ 104 = omega (arith, length-append H N, header-length version (headerOf version fs (datasetText fs text)) (header-sized (p .ready) small octets), length-little 4 (length writtenLayout)) in
         ap (λ u. take (length writtenLayout) (drop 104 u)) e
         ∙ ap (take (length writtenLayout)) (drop-at (H ++ N) (writtenLayout ++ S) 104 h)
         ∙ take-append-seam writtenLayout S

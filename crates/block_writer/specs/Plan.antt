@@ -15,7 +15,7 @@ use Rattle.block.specs.BlockFaults.{layoutBytes, layoutFault, symbologyBytes}
 use Rattle.columns_check.specs.Tree.{kindOf, symbolRows, partialRows, notFoundRows, symbologyOf}
 use Rattle.columns_check.specs.Check.{wellFormed, narrow}
 use Rattle.columns_check.specs.FitLaws.{Along, Good}
-use Rattle.block_writer.specs.Fields.{width, layoutVersion}
+use Rattle.header_bytes.specs.Numbers.{width, layoutVersion}
 use Rattle.block_writer.specs.Tree.{layoutTree, blockBytes}
 use Rattle.block_writer.specs.Write.{formed, slim, writeFault}
 use Rattle.block_writer.specs.declared.Plan.{Plan}

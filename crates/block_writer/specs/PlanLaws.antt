@@ -36,8 +36,11 @@ use Rattle.columns_check.specs.Tree.{symbologyOf}
 use Rattle.columns_check.specs.Check.{wellFormed, narrow}
 use Rattle.columns_check.specs.FilledLaws.{nuls-bytes, filled-length, filled-bytes}
 use Rattle.columns_check.specs.SizedLaws.{symbology-sized}
-use Rattle.block_writer.specs.Fields.{datasetLen, schema, start, end, limit, stypeIn, stypeOut, tsOut, width, layoutVersion, present, datasetStart, datasetText, has, optionFits, optionsFit, numbersFit, datasetFits, fieldsFit, fieldsNarrow}
-use Rattle.block_writer.specs.Tree.{headerOf, layoutTree, blockTree, blockBytes, preludeBytes}
+use Rattle.header_bytes.specs.Numbers.{datasetLen, schema, start, end, limit, stypeIn, stypeOut, tsOut, width, layoutVersion, present, datasetStart, has}
+use Rattle.block_writer.specs.Fields.{datasetText, optionFits, optionsFit, numbersFit, datasetFits, fieldsFit, fieldsNarrow}
+use Rattle.header_bytes.specs.Header.{headerOf}
+use Rattle.header_bytes.specs.HeaderLaws.{header-is}
+use Rattle.block_writer.specs.Tree.{layoutTree, blockTree, blockBytes, preludeBytes}
 use Rattle.block_writer.specs.Write.{formed, slim, startBytes, writeFault}
 use Rattle.block_writer.specs.Plan.{Ready}
 
@@ -110,10 +113,9 @@ module _ {version : ℕ} {fs t : List ℕ} {n : ℕ} {text : List ℕ} (r : Read
   ready-width-1 = both-true (leb (datasetLen fs) (lengths version .«dataset_cstr_len»)) _ (both-true (fieldsNarrow version fs) _ (r .slim) .0) .1
 
   -- the reader finds the width that is given
-  pub ready-width : widthOf (lengths version) (headerOf version fs text) ≡ width fs
-  unfolding headerOf
+  pub ready-width : widthOf (lengths version) (headerOf version fs (datasetText fs text)) ≡ width fs
   ready-width =
-      rw (lengths-width version)
+      rw (header-is version fs (datasetText fs text), lengths-width version)
       (by-bool (eqb version 1) (λ e. rw e (sym (eqb-true (width fs) 22 (rw e at ready-width-1)))) (λ e. rw e refl))
 
   -- two bytes hold it
@@ -159,13 +161,12 @@ module _ {version : ℕ} {fs text : List ℕ} (f : Fit version fs text) where
 
 module _ {version : ℕ} {fs t : List ℕ} {n : ℕ} {text : List ℕ} (r : Ready version fs t n text) where
   -- every field of the header fits its place
-  pub header-sized : Small fs → Bytes text → SizedHeader (lengths version) (headerOf version fs text)
-  unfolding headerOf
+  pub header-sized : Small fs → Bytes text → SizedHeader (lengths version) (headerOf version fs (datasetText fs text))
   header-sized small bytes =
       let v = lengths version in
       let f = ready-fit r in
       let d = datasetText fs text in
-      record {
+      rw (header-is version fs d) (record {
         dataset = (filled-length (v .«dataset_cstr_len») d (omega (arith, dataset-long f, ready-dataset r)), filled-bytes (v .«dataset_cstr_len») d (dataset-bytes f bytes));
         schema = stored-below (has 1 fs) (schema fs) 65535 (256 ^ 2) (λ e. omega (arith, ltb-true (schema fs) 65535 (rw e at (f .schemaFits)))) (omega arith);
         start = omega (arith, small 2);
@@ -177,7 +178,7 @@ module _ {version : ℕ} {fs t : List ℕ} {n : ℕ} {text : List ℕ} (r : Read
         tsOut = omega (arith, f .tsOutFits);
         width = width-sized f;
         reserved = (length-replicate (v .«reserved_len») 0, nuls-bytes (v .«reserved_len»));
-      }
+      })
 
 -- ---- the layout
 
@@ -242,7 +243,7 @@ module _ {version : ℕ} {fs t : List ℕ} {n : ℕ} {text : List ℕ} (r : Read
   -- its parts, one after the other
   pub block-bytes-are : (sheet rows : List ℕ) → let has = lengths version .«has_layout» in
       blockBytes sheet version fs t n rows text
-      ≡ header (lengths version) .codec .print (headerOf version fs text)
+      ≡ header (lengths version) .codec .print (headerOf version fs (datasetText fs text))
       ++ (layoutPart has sheet (width fs) .codec .print (layoutTree has fs rows text)
       ++ symbologyPart has (width fs) .codec .print (symbologyOf (width fs) t n text))
   unfolding blockBytes blockTree
@@ -252,7 +253,7 @@ module _ {version : ℕ} {fs t : List ℕ} {n : ℕ} {text : List ℕ} (r : Read
   pub start-bytes-is : (sheet rows : List ℕ) → let has = lengths version .«has_layout» in
       startBytes sheet version fs t n rows text
       ≡ preludeBytes version (length (blockBytes sheet version fs t n rows text))
-      ++ (header (lengths version) .codec .print (headerOf version fs text)
+      ++ (header (lengths version) .codec .print (headerOf version fs (datasetText fs text))
       ++ (layoutPart has sheet (width fs) .codec .print (layoutTree has fs rows text)
       ++ symbologyPart has (width fs) .codec .print (symbologyOf (width fs) t n text)))
   unfolding startBytes
@@ -286,7 +287,7 @@ module _ (sheet : List ℕ) (version : ℕ) (fs t : List ℕ) (n : ℕ) (rows te
     pub write-fault-is : Small fs → Bytes text → fault true rows text ≡ 0 → let has = lengths version .«has_layout» in
         writeFault sheet version fs t n rows text
         ≡ first (unless (leb (length (blockBytes sheet version fs t n rows text)) 4294967295) 13)
-        (first (headerFault (headerOf version fs text))
+        (first (headerFault (headerOf version fs (datasetText fs text)))
         (first (layoutFault has sheet (width fs) (layoutTree has fs rows text)) (symbologyFault utf8 nulPadded isDate (width fs) (symbologyOf (width fs) t n text))))
     unfolding writeFault blockBytes blockTree
     write-fault-is small bytes whole =

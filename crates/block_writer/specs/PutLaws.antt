@@ -1,17 +1,16 @@
--- What the storing functions store, in the order in which they store it: the prelude, the header, the layout, the rows and the symbology.
+-- What the storing functions store, in the order in which they store it: the prelude, the layout, the rows and the symbology; and that the dataset is there.
 -- Assumes nothing.
 use Prim.Native.Nat.{ℕ, zero, suc, _+_, _-_, _%_, _≤_, _<_}
 use native.Mathlib.Omega.{arith}
-use mathlib.Core.Path.{_≡_, refl, sym, ap, ap₂, subst, _∙_}
+use mathlib.Core.Path.{_≡_, refl, sym, ap₂, subst, _∙_}
 use mathlib.Core.Bool.{Bool, true, false, cond, _&&_}
 use mathlib.Core.List.{List, [], _∷_, _++_}
-use lib.ListN.{length, take, drop, replicate, length-take}
-use lib.Dec.{eqb, leb}
+use lib.ListN.{length, take, drop, length-take}
+use lib.Dec.{leb}
 use borrow.Author.Tests.{leb-true}
-use Rattle.codec.specs.CaseLaws.{both-true, by-bool, by-le, by-eqb, by-order}
+use Rattle.codec.specs.CaseLaws.{both-true, by-le, by-order}
 use Rattle.codec.specs.Codec.{little, isNil}
 use Rattle.codec.specs.Faults.{unless-zero}
-use Rattle.dates.specs.Day.{dateOfDay}
 use Rattle.prelude.specs.PrintLaws.{prelude-print}
 use Rattle.symbology.specs.Symbology.{Symbology}
 use Rattle.rows_check.specs.Check.{fault, printed}
@@ -21,19 +20,20 @@ use Rattle.writer.specs.Write.{Writes}
 use Rattle.writer.specs.RoundTripLaws.{accepts, out-written}
 use Rattle.writer.specs.declared.Written.{Written}
 use Rattle.put.specs.Output.{RoomFor, Wrote, Filled, Stored}
-use Rattle.put.specs.OutputLaws.{Left, left-start, left-room, left-step, left-stored, left-last, left-rest, lent-length, lent-wrote}
+use Rattle.put.specs.OutputLaws.{Left, left-start, left-stored, left-rest, lent-length, lent-wrote}
 use Rattle.block.specs.Block.{lengths, header, layoutPart, symbologyPart}
 use Rattle.block.specs.BlockFaults.{symbologyBytes}
-use Rattle.block.specs.declared.MetadataLengths.{MetadataLengths}
-use Rattle.block.specs.LengthsLaws.{lengths-width}
-use Rattle.block.specs.PrintLaws.{header-print, layout-print, no-layout-print, names-print, rest-names-print}
-use Rattle.columns_check.specs.Tree.{kindOf, startOf, lenOf, xOf, yOf, textOf, filled, symbolRows, partialRows, listRows, symbologyOf}
+use Rattle.block.specs.PrintLaws.{layout-print, no-layout-print, names-print, rest-names-print}
+use Rattle.columns_check.specs.Tree.{kindOf, symbolRows, partialRows, listRows, symbologyOf}
 use Rattle.columns_check.specs.Check.{wellFormed, narrow}
 use Rattle.columns_check.specs.RowLaws.{Placed, done, mapping, interval, run-kind, lists-le}
-use Rattle.columns_check.specs.FitLaws.{Along, Good, formed, all-good, text-is}
-use Rattle.columns_check.specs.PrintLaws.{printedRow, printedRows, printedListRows, list-row, mapping-row, interval-row, columns-print}
-use Rattle.block_writer.specs.Fields.{datasetLen, schema, start, end, limit, stypeIn, stypeOut, tsOut, width, layoutVersion, datasetStart, datasetText, has, optionsFit, numbersFit, datasetFits, fieldsFit, fieldsNarrow}
-use Rattle.block_writer.specs.Tree.{headerOf, layoutTree, preludeBytes}
+use Rattle.columns_check.specs.FitLaws.{Along, formed, all-good}
+use Rattle.columns_check.specs.PrintLaws.{printedRow, printedRows, printedListRows, columns-print}
+use Rattle.header_bytes.specs.Numbers.{datasetLen, width, layoutVersion, datasetStart, has}
+use Rattle.block_writer.specs.Fields.{datasetText, optionsFit, numbersFit, datasetFits, fieldsFit, fieldsNarrow}
+use Rattle.header_bytes.specs.Header.{headerOf, headerBytes}
+use Rattle.header_bytes.specs.HeaderLaws.{header-stored}
+use Rattle.block_writer.specs.Tree.{layoutTree, preludeBytes}
 use Rattle.block_writer.specs.Plan.{LayoutReady, RowReady, RowsReady, NamesReady}
 use Rattle.block_writer.specs.PlanLaws.{layout-bytes-length, layout-fault-is}
 use Rattle.block_writer.specs.declared.Plan.{Plan}
@@ -45,20 +45,7 @@ pub prelude-bytes : (version len : ℕ) → version < 256 → preludeBytes versi
 unfolding preludeBytes
 prelude-bytes version len h = let e : version % 256 ≡ version = omega arith in prelude-print (record { version = version; len = len }) ∙ rw e
 
--- ---- the header
-
--- version 1 has no place for a width
-width-bytes : (version w : ℕ) → little (lengths version .«symbol_cstr_len_len») (cond (eqb version 1) 0 w) ≡ little (lengths version .«symbol_cstr_len_len») w
-width-bytes version w = rw (lengths-width version) (by-bool (eqb version 1) (λ e. rw e) (λ e. rw e))
-
--- each field where it stands, by what the code has for it
-pub header-bytes : (version : ℕ) (fs text : List ℕ) {v : MetadataLengths} {name : List ℕ} {s e i : ℕ} → v ≡ lengths version → name ≡ datasetText fs text
-    → s ≡ cond (has 1 fs) (schema fs) 65535 → e ≡ cond (has 2 fs) (end fs) 18446744073709551615 → i ≡ cond (has 8 fs) (stypeIn fs) 255
-    → header (lengths version) .codec .print (headerOf version fs text)
-    ≡ filled (v .«dataset_cstr_len») name ++ (little 2 s ++ (little 8 (start fs) ++ (little 8 e ++ (little 8 (limit fs) ++ (little (v .«record_count_len») 18446744073709551615
-    ++ (little 1 i ++ (little 1 (stypeOut fs) ++ (little 1 (tsOut fs) ++ (little (v .«symbol_cstr_len_len») (width fs) ++ replicate (v .«reserved_len») 0)))))))))
-unfolding headerOf
-header-bytes version fs text a b c d f = rw (a, b, c, d, f) (header-print (lengths version) (headerOf version fs text) ∙ rw (width-bytes version (width fs)))
+-- ---- the dataset
 
 -- the dataset can be found
 pub dataset-found : (version : ℕ) (fs text : List ℕ) → fieldsFit version fs text ≡ true → datasetFits fs text ≡ true
@@ -71,6 +58,11 @@ unfolding fieldsNarrow datasetText
 dataset-narrow version fs text e =
     let h = leb-true (datasetLen fs) (lengths version .«dataset_cstr_len») (both-true (leb (datasetLen fs) (lengths version .«dataset_cstr_len»)) _ e .0) in
     omega (arith, length-take (datasetLen fs) (drop (datasetStart fs) text))
+
+-- so that the header is stored whole
+pub header-whole : (version : ℕ) (fs text : List ℕ) {at : ℕ} {dataset o p : List ℕ} {a : ℕ} → fieldsNarrow version fs ≡ true → dataset ≡ datasetText fs text
+    → Stored at (headerBytes version fs dataset) o p a → Stored at (header (lengths version) .codec .print (headerOf version fs (datasetText fs text))) o p a
+header-whole version fs text e d s = header-stored version fs (datasetText fs text) (dataset-narrow version fs text e) (rw d at s)
 
 -- ---- the layout
 
@@ -139,34 +131,6 @@ module _ (width : ℕ) (t text : List ℕ) where
   next-ready r (suc n) h s =
       let e : suc n - 1 ≡ n = omega arith in
       (s .rows r (omega arith) (omega arith), record { few = omega (arith, s .few); rows = λ j a b. s .rows j (omega arith) (omega arith) })
-
--- ---- one row
-
-module _ (width : ℕ) (t text : List ℕ) (r : ℕ) {at : ℕ} {o : List ℕ} (h : RoomFor at (printedRow width t text r) o) where
-  -- an interval's dates are stored: its text is left
-  pub interval-left : {x y a b : ℕ} {p q : List ℕ} → kindOf t r ≡ 4 → x ≡ dateOfDay (xOf t r) → y ≡ dateOfDay (yOf t r) → Stored at (little 4 x) o p a → Stored a (little 4 y) p q b
-      → Left at (printedRow width t text r) o b (filled width (textOf t text r)) q
-  interval-left k e f v w = left-stored (left-stored (left-start h) _ (interval-row width t text r k) (rw e at v)) _ refl (rw f at w)
-
-  -- of any other row the text comes first
-  pub other-room : kindOf t r ≤ 4 → (kindOf t r ≡ 4 → ⊥) → RoomFor at (filled width (textOf t text r)) o
-  other-room k n =
-      by-eqb (kindOf t r) 3
-      (λ _ e. left-room (left-start h) (little 4 (xOf t r)) (mapping-row width t text r e))
-      (λ _ m. subst (λ (bs : List ℕ). RoomFor at bs o) (list-row width t text r (omega arith)) h)
-
-  -- then a mapping's count
-  pub mapping-wrote : {x a b : ℕ} {p q : List ℕ} → kindOf t r ≡ 3 → x ≡ xOf t r → Wrote at (filled width (textOf t text r)) o p a → Stored a (little 4 x) p q b → Wrote at (printedRow width t text r) o q b
-  mapping-wrote k e v w = left-last (left-step (left-start h) (mapping-row width t text r k) v) (rw e at w)
-
--- the part of the text that a row names
-pub part-is : (t text : List ℕ) (r : ℕ) {s l : ℕ} → s ≡ startOf t r → l ≡ lenOf t r → take (s + l - s) (drop s text) ≡ textOf t text r
-part-is t text r {s} {l} a b = let k : s + l - s ≡ lenOf t r = omega arith in rw (k, a) (sym (text-is t text r))
-
--- what storing it asks
-pub text-ready : {width : ℕ} {t text : List ℕ} {r at : ℕ} {part o : List ℕ} → part ≡ textOf t text r → Good width t text r → RoomFor at (filled width (textOf t text r)) o
-    → (length part ≤ width) × RoomFor at (filled width part) o
-text-ready e g h = (omega (arith, ap length e, g .0 .long, g .1), rw e h)
 
 -- ---- all rows
 

@@ -17,8 +17,10 @@ use Rattle.writer.specs.declared.Written.the-variants.{Length, Refused}
 use Rattle.block.specs.Block.{lengths, header, layoutPart, symbologyPart}
 use Rattle.block.specs.LengthsLaws.{lengths-layout}
 use Rattle.columns_check.specs.Tree.{symbologyOf}
-use Rattle.block_writer.specs.Fields.{width, fieldsFit, fieldsNarrow}
-use Rattle.block_writer.specs.Tree.{headerOf, layoutTree, preludeBytes, blockBytes}
+use Rattle.header_bytes.specs.Numbers.{width}
+use Rattle.block_writer.specs.Fields.{datasetText, fieldsFit, fieldsNarrow}
+use Rattle.header_bytes.specs.Header.{headerOf}
+use Rattle.block_writer.specs.Tree.{layoutTree, preludeBytes, blockBytes}
 use Rattle.block_writer.specs.Write as Write
 use Rattle.block_writer.specs.Write.{startBytes, writeFault, writeBlock, WritesBlock}
 use Rattle.block_writer.specs.Plan.{Ready, Sizes, Planned, LayoutReady, NamesReady}
@@ -38,10 +40,10 @@ module _ {sheet : List ℕ} {version : ℕ} {fs t : List ℕ} {n : ℕ} {rows te
 
     -- prelude, header, layout, symbology
     pub start-parts : startBytes sheet version fs t n rows text
-        ≡ preludeBytes version (p .len) ++ (header (lengths version) .codec .print (headerOf version fs text)
+        ≡ preludeBytes version (p .len) ++ (header (lengths version) .codec .print (headerOf version fs (datasetText fs text))
         ++ (layoutPart has sheet (width fs) .codec .print (layoutTree has fs rows text) ++ symbologyPart has (width fs) .codec .print (symbologyOf (width fs) t n text)))
     start-parts =
-        let rest : Bool → List ℕ = λ h. header (lengths version) .codec .print (headerOf version fs text)
+        let rest : Bool → List ℕ = λ h. header (lengths version) .codec .print (headerOf version fs (datasetText fs text))
         ++ (layoutPart h sheet (width fs) .codec .print (layoutTree h fs rows text) ++ symbologyPart h (width fs) .codec .print (symbologyOf (width fs) t n text)) in
         subst (λ (h : Bool). startBytes sheet version fs t n rows text ≡ preludeBytes version (p .len) ++ rest h) own
         (start-bytes-is (z .ready) sheet rows ∙ ap (λ m. preludeBytes version m ++ rest (lengths version .«has_layout»)) (sym (z .len)))

@@ -3,33 +3,16 @@
 use Prim.Native.Nat.{ℕ}
 use mathlib.Core.Bool.{Bool, true, false, cond}
 use mathlib.Core.List.{List, []}
-use lib.ListN.{length, replicate}
-use lib.Dec.{eqb}
-use Rattle.codec.specs.Codec.{little, isNil}
+use Rattle.codec.specs.Codec.{isNil}
 use Rattle.layout.specs.Layout.{Layout}
 use Rattle.rows_check.specs.Tree.{treeOf}
 use Rattle.rows_check.specs.Check.{printed}
-use Rattle.block.specs.Block.{Header, Block, lengths, noItems, block}
+use Rattle.block.specs.Block.{Block, lengths, noItems, block}
 use Rattle.prelude.specs.Prelude.{prelude}
-use Rattle.columns_check.specs.Tree.{filled, symbologyOf}
-use Rattle.block_writer.specs.Fields.{schema, start, end, limit, stypeIn, stypeOut, tsOut, width, layoutVersion, datasetText, has}
-
--- absent: schema 65535, end 2^64-1, limit 0, stype_in 255; version 1's record count is 2^64-1; reserved bytes are zero
-unfoldable pub headerOf : ℕ → List ℕ → List ℕ → Header
-headerOf version fs text =
-    let v = lengths version in record {
-      dataset = filled (v .«dataset_cstr_len») (datasetText fs text);
-      schema = cond (has 1 fs) (schema fs) 65535;
-      start = start fs;
-      end = cond (has 2 fs) (end fs) 18446744073709551615;
-      limit = limit fs;
-      count = little (v .«record_count_len») 18446744073709551615;
-      stypeIn = cond (has 8 fs) (stypeIn fs) 255;
-      stypeOut = stypeOut fs;
-      tsOut = tsOut fs;
-      width = cond (eqb version 1) 0 (width fs);
-      reserved = replicate (v .«reserved_len») 0;
-    }
+use Rattle.columns_check.specs.Tree.{symbologyOf}
+use Rattle.header_bytes.specs.Numbers.{width, layoutVersion}
+use Rattle.header_bytes.specs.Header.{headerOf}
+use Rattle.block_writer.specs.Fields.{datasetText}
 
 -- the bytes of layout rows below version 4: none where there are no rows
 abbrev pub strayLayout : List ℕ → List ℕ → List ℕ
@@ -43,7 +26,7 @@ layoutTree false fs rows text = noItems (strayLayout rows text)
 -- header, layout, symbology
 unfoldable pub blockTree : ℕ → List ℕ → List ℕ → ℕ → List ℕ → List ℕ → Block
 blockTree version fs t n rows text = record {
-  header = headerOf version fs text;
+  header = headerOf version fs (datasetText fs text);
   layout = layoutTree (lengths version .«has_layout») fs rows text;
   symbology = symbologyOf (width fs) t n text;
 }

@@ -1,7 +1,7 @@
 -- What writing a block answers and what it leaves of the output: 11, 110, 111, 90 to 95, then the reader's number for the block that is about to be
 -- written, then 112. Each is about no byte: its place is 0.
 -- Assumes nothing.
-use Prim.Native.Nat.{ℕ, _+_}
+use Prim.Native.Nat.{ℕ}
 use mathlib.Core.Bool.{Bool, true, _&&_, cond}
 use mathlib.Core.Path.{_≡_}
 use mathlib.Core.List.{List, _++_}
@@ -16,7 +16,8 @@ use Rattle.writer.specs.declared.Written.{Written}
 use Rattle.writer.specs.declared.Written.the-variants.{Length, Refused}
 use Rattle.block.specs.Block.{blockOf}
 use Rattle.columns_check.specs.Check.{wellFormed, narrow}
-use Rattle.block_writer.specs.Fields.{fieldsFit, fieldsNarrow, width}
+use Rattle.header_bytes.specs.Numbers.{width}
+use Rattle.block_writer.specs.Fields.{fieldsFit, fieldsNarrow}
 use Rattle.block_writer.specs.Tree.{blockBytes, preludeBytes}
 
 -- 110: fields, texts or symbology rows

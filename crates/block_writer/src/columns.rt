@@ -1,18 +1,13 @@
 // The symbology, stored row by row.
 use super::Plan;
-use super::header;
-use dates::Calendar;
-ghost use mathlib.Core.Path.{_≡_};
 ghost use mathlib.Core.Bool.{cond};
 ghost use mathlib.Core.List.{[]};
-ghost use Prim.Native.Nat.{_≤_};
 ghost use Rattle.codec.specs.Codec.{little};
 ghost use Rattle.put.specs.Output.{RoomFor, Wrote};
-ghost use Rattle.dates.specs.Day.{dateOfDay};
 ghost use Rattle.block.specs.Block.{symbologyPart};
 ghost use Rattle.columns_check.specs.Tree.{symbologyOf};
-ghost use Rattle.columns_check.specs.PrintLaws.{printedRow, printedRows, printedListRows};
-ghost use Rattle.block_writer.specs.Plan.{NamesReady, RowReady, RowsReady};
+ghost use Rattle.columns_check.specs.PrintLaws.{printedRows, printedListRows};
+ghost use Rattle.block_writer.specs.Plan.{NamesReady, RowsReady};
 
 // In version 4 the length of the section; then the lists symbols, partial, not found, and the mappings.
 pub(crate) fn put_symbology(
@@ -87,42 +82,9 @@ fn put_rows(
     let mut r = from;
     let mut todo = n;
     while 0 < todo {
-        a = put_row(out, a, table, text, width, r);
+        a = row_bytes::put_row(out, a, table, text, width, r);
         r += 1;
         todo -= 1;
     }
     a
-}
-
-// The bytes of row r: of an interval its dates and its symbol, of a mapping its symbol and the count of its intervals, else a symbol.
-fn put_row(out: &mut [u8], at: usize, table: &[u32], text: &[u8], width: usize, r: usize) -> usize
-    requires { ⌜ RowReady width (now table) (now text) r ⌝ }
-    requires { ⌜ RoomFor at (printedRow width (now table) (now text) r) (now out) ⌝ }
-    ensures { λ a. ⌜ Wrote at (printedRow width (now (table .entry)) (now (text .entry)) r) (now (out .entry)) (now (out .exit)) a ⌝ }
-{
-    let kind = table::number_at(table, r, 0);
-    let x = table::number_at(table, r, 3);
-    let start = table::number_at(table, r, 1) as usize;
-    let end = start + table::number_at(table, r, 2) as usize;
-    if kind == 4 {
-        let a = put::put_little(out, at, date(x), 4);
-        let b = put::put_little(out, a, date(table::number_at(table, r, 4)), 4);
-        return header::put_text(out, b, &text[start..end], width);
-    }
-    let a = header::put_text(out, at, &text[start..end], width);
-    if kind == 3 {
-        return put::put_little(out, a, x as usize, 4);
-    }
-    a
-}
-
-// The date of a day, as it is stored.
-fn date(day: u32) -> usize
-    requires { ⌜ day ≤ 3652424 ⌝ }
-    ensures { λ r. ⌜ r ≡ dateOfDay day ⌝ }
-{
-    match dates::date_of_day(day) {
-        Calendar::Has(d) => d as usize,
-        Calendar::Lacks => 0,
-    }
 }

@@ -6,8 +6,9 @@ ghost use Prim.Native.Nat.{_<_};
 ghost use lib.Dec.{leb, ltb, eqb};
 ghost use lib.ListN.{length, getD};
 ghost use Rattle.block.specs.BlockFaults.{headerFault};
-ghost use Rattle.block_writer.specs.Tree.{headerOf};
-ghost use Rattle.block_writer.specs.Fields.{has, optionFits, optionsFit, numbersFit, datasetFits, fieldsFit, fieldsNarrow, datasetText};
+ghost use Rattle.header_bytes.specs.Header.{headerOf};
+ghost use Rattle.header_bytes.specs.Numbers.{has};
+ghost use Rattle.block_writer.specs.Fields.{optionFits, optionsFit, numbersFit, datasetFits, fieldsFit, fieldsNarrow, datasetText};
 ghost use Rattle.block_writer.specs.PlanLaws.{Small};
 
 // Whether presence bit `bit` is set.
@@ -147,7 +148,7 @@ pub(crate) fn dataset<'a>(fields: &[u64; 16], text: &'a [u8]) -> &'a [u8]
 // The number by which the reader would refuse the header, 0 for none: 20, 29, 21, 22, 23.
 pub(crate) fn header_fault(version: u8, fields: &[u64; 16], text: &[u8]) -> u32
     requires { ⌜ fieldsFit version (now fields) (now text) ≡ true ⌝ }
-    ensures { λ r. ⌜ r ≡ headerFault (headerOf version (now (fields .entry)) (now (text .entry))) ⌝ }
+    ensures { λ r. ⌜ r ≡ headerFault (headerOf version (now (fields .entry)) (datasetText (now (fields .entry)) (now (text .entry)))) ⌝ }
 {
     match padded::check_padded(dataset(fields, text)) {
         Padded::Fine => {}

@@ -1,8 +1,8 @@
 // Whole starts of streams, written: prelude and block of versions 1 to 4, from fields, symbology rows by column, layout rows and a text.
 mod columns;
 mod given;
-mod header;
 mod judge;
+mod parts;
 
 use refusal::Refusal;
 use writer::Written;
@@ -70,9 +70,9 @@ fn put_start(
 {
     let has = version == 4;
     let width = fields[8] as usize;
-    let a = header::put_prelude(out, version, p.len);
-    let b = header::put_header(out, a, version, fields, text);
-    let c = header::put_layout(out, b, has, fields, rows, text, sheet, p.layout);
+    let a = parts::put_prelude(out, version, p.len);
+    let b = header_bytes::put_header(out, a, version, fields, given::dataset(fields, text));
+    let c = parts::put_layout(out, b, has, fields, rows, text, sheet, p.layout);
     columns::put_symbology(out, c, has, p.names, p, table, count, text, width)
 }
 

@@ -4,7 +4,7 @@ use Prim.Native.Nat.{ℕ, _+_, _-_, _≤_}
 use native.Mathlib.Nat.{add-zero, zero-add, add-assoc}
 use native.Mathlib.Omega.{arith}
 use mathlib.Core.Path.{_≡_, refl, sym, ap, _∙_}
-use mathlib.Core.Bool.{true, false}
+use mathlib.Core.Bool.{Bool, true, false}
 use mathlib.Core.List.{List, [], _++_, append-assoc, append-nil}
 use lib.ListN.{length, take, drop, length-append, length-take, length-drop, take-append-drop, drop-of-length-le}
 use lib.Seq.{length-take-le, take-at, drop-at, take-append-le, take-take, drop-drop, take-all}
@@ -122,6 +122,14 @@ room-told {at} {n} {bs} {o} l e = record { fits = omega (arith, l, leb-true (at 
 -- where there is no room all stays
 pub stored-short : {at n : ℕ} {bs o : List ℕ} → length bs ≡ n → leb (at + n) (length o) ≡ false → Stored at bs o o at
 stored-short l e = record { next = rw (l, e); bytes = rw (l, e) }
+
+-- no bytes change nothing
+pub stored-none : (at : ℕ) (o : List ℕ) → Stored at [] o o at
+stored-none at o = go (leb (at + 0) (length o)) refl
+  where
+    go : (b : Bool) → leb (at + 0) (length o) ≡ b → Stored at [] o o at
+    go true e = record { next = rw (e, add-zero); bytes = rw (e, put-nil at o) }
+    go false e = stored-short {n = 0} refl e
 
 -- ---- what is still to be written
 

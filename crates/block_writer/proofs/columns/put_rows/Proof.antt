@@ -2,8 +2,9 @@
 -- Assumes nothing.
 use native.Mathlib.Omega.{arith}
 use denote.Ref.{now}
-use Rattle.put.specs.OutputLaws.{Left, left-start, left-room, left-step, left-done}
+use Rattle.put.specs.OutputLaws.{Left, left-start, left-stored, left-done}
 use Rattle.columns_check.specs.PrintLaws.{printedRows}
+use Rattle.row_bytes.specs.RowLaws.{good-stands, row-stored}
 use Rattle.block_writer.specs.Plan.{RowsReady}
 use Rattle.block_writer.specs.PutLaws.{rows-none, rows-next, next-ready}
 use borrow.Author.Needs.{needs}
@@ -19,13 +20,6 @@ abbrev μ-loop : tie.MeasureT-loop
 loop-holds : tie.Need-loop-holds Inv-loop μ-loop
 loop-holds c = (c .before .before .before .pre .0, left-start (c .before .before .before .pre .1))
 
-put-row-requires : tie.Need-put-row-requires Inv-loop μ-loop
-put-row-requires c κs =
-    let args = c .before .before .before .before .before .before .args in
-    let loop = c .before .before .loop in
-    let taken = c .before .loop-test .taken in
-    (next-ready (args .width) (now (args .table)) (now (args .text)) (loop .r) (loop .todo) taken (loop .inv .0) .0, left-room (loop .inv .1) _ (rows-next (args .width) (now (args .table)) (now (args .text)) (loop .r) (loop .todo) taken))
-
 add-r : tie.Need-add-r Inv-loop μ-loop
 add-r c = omega (arith, c .before .before .before .before .before .loop .inv .0 .few)
 
@@ -34,7 +28,9 @@ loop-again c =
     let args = c .before .before .before .before .before .before .before .before .before .args in
     let loop = c .before .before .before .before .before .loop in
     let taken = c .before .before .before .before .loop-test .taken in
-    (next-ready (args .width) (now (args .table)) (now (args .text)) (loop .r) (loop .todo) taken (loop .inv .0) .1, left-step (loop .inv .1) (rows-next (args .width) (now (args .table)) (now (args .text)) (loop .r) (loop .todo) taken) (c .before .before .put-row .ensures))
+    let (first, rest) = next-ready (args .width) (now (args .table)) (now (args .text)) (loop .r) (loop .todo) taken (loop .inv .0) in
+    let stands = good-stands (args .width) (now (args .table)) (now (args .text)) (loop .r) (first .good) (first .kind) in
+    (rest, left-stored (loop .inv .1) _ (rows-next (args .width) (now (args .table)) (now (args .text)) (loop .r) (loop .todo) taken) (row-stored (args .width) (now (args .table)) (now (args .text)) (loop .r) stands (c .before .before .put-row .ensures)))
 
 same-length : tie.Need-same-length Inv-loop μ-loop
 same-length c = c .before .loop .inv .1 .long
@@ -52,7 +48,7 @@ put-rows-spec =
     Inv-loop
     μ-loop
     loop-holds
-    put-row-requires
+    (λ c κs. search needs)
     add-r
     (λ c. search needs)
     (λ c. search needs)

@@ -1,7 +1,8 @@
 -- The span lies in the text.
 -- Assumes nothing.
 use denote.Ref.{now}
-use Rattle.block_writer.specs.Fields.{datasetStart, datasetLen, datasetText}
+use Rattle.header_bytes.specs.Numbers.{datasetStart, datasetLen}
+use Rattle.block_writer.specs.Fields.{datasetText}
 use Rattle.block_writer.proofs.FieldLaws.{dataset-span, part-is}
 use borrow.Author.Needs.{needs}
 use Rattle.block_writer.proofs.given.dataset.Statement.{statement}

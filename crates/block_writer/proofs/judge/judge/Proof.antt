@@ -1,11 +1,11 @@
 -- 11, 110 and 111, then the rest.
 -- Assumes nothing.
-use mathlib.Core.Path.{sym, ap, _∙_}
+use mathlib.Core.Path.{sym, _∙_}
 use native.Mathlib.Omega.{arith}
 use denote.Ref.{now}
 use borrow.Author.Tests.{not-true, not-false}
 use Rattle.columns_check.specs.ToldLaws.{told-malformed, told-wide, told-rows}
-use Rattle.block_writer.specs.Fields.{width}
+use Rattle.header_bytes.specs.Numbers.{width}
 use Rattle.block_writer.proofs.JudgeLaws.{rowed, names-are, unknown, bad-fields, bad-rows, wide-rows, wide-fields, ready, symbols-most}
 use borrow.Author.Needs.{needs}
 use Rattle.block_writer.proofs.judge.judge.Statement.{statement}
