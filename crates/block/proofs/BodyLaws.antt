@@ -13,8 +13,8 @@ use Rattle.codec.specs.Codec.{Res, ok, refuse, refusal, named, _then_, _on_, wh
 use Rattle.layout.specs.Layout.{Layout}
 use Rattle.layout.specs.Rows.{rows}
 use Rattle.table.specs.Columns.{columns}
-use Rattle.symbology.specs.Symbology.{Symbology}
-use Rattle.symbology.specs.SymbologyRows.{symbologyRows}
+use Rattle.symbology_format.specs.Symbology.{Symbology}
+use Rattle.symbology_format.specs.SymbologyRows.{symbologyRows}
 use Rattle.layout.specs.Answers.{leave}
 use Rattle.layout.specs.AnswerLaws.{leave-ok, leave-anywhere}
 use Rattle.symbology.specs.ReadLaws.{Was, rows-read, rows-counted, rows-refused}

@@ -25,7 +25,7 @@ use Rattle.dates.specs.Date.{isDate}
 use Rattle.layout.specs.Layout.{Layout, Parts, parts, toLayout, fromLayout}
 use Rattle.layout.specs.LenientLaws.{light-same}
 use Rattle.layout.specs.LayoutOf.{D, layoutOf}
-use Rattle.symbology.specs.Symbology.{Symbology, symbology}
+use Rattle.symbology_format.specs.Symbology.{Symbology, symbology}
 use Rattle.symbology.specs.Reader.{sectionOf}
 use Rattle.layout.specs.Answers.{wireNumbers, leave, verdict}
 use Rattle.layout.specs.RefusalLaws.{layout-wire}

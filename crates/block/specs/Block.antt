@@ -17,7 +17,7 @@ use Rattle.prelude.specs.Prelude.{isVersion}
 use Rattle.layout.specs.Layout.{Layout, Parts, parts, toLayout, fromLayout}
 use Rattle.layout.specs.LayoutOf.{D}
 use Rattle.layout.specs.LayoutLaws.{parts-some}
-use Rattle.symbology.specs.Symbology.{Symbology, symbology, unspanned}
+use Rattle.symbology_format.specs.Symbology.{Symbology, symbology, unspanned}
 use Rattle.rules.specs.Rules.{rulesOf}
 use Rattle.rules.specs.RuleLaws.{rules-blind}
 use Rattle.block.specs.declared.MetadataLengths.{MetadataLengths}

@@ -20,8 +20,8 @@ use Rattle.prelude.specs.Prelude.{isVersion}
 use Rattle.layout.specs.Layout.{Layout, parts, fromLayout, printLayout, LegalLayout}
 use Rattle.layout.specs.LayoutOf.{D}
 use Rattle.layout.specs.LayoutLaws.{parts-some, legal-parts, print-parts}
-use Rattle.symbology.specs.Symbology.{Symbology, symbology, unspanned}
-use Rattle.symbology.specs.SymbologyFaults.{SizedSymbology, symbologyFault, faults-symbology}
+use Rattle.symbology_format.specs.Symbology.{Symbology, symbology, unspanned}
+use Rattle.symbology_format.specs.SymbologyFaults.{SizedSymbology, symbologyFault, faults-symbology}
 use Rattle.rules.specs.Rules.{rulesOf}
 use Rattle.block.specs.Block.{Header, Block, v1, v2, v4, lengths, isSchema, isStype, isStypeIn, header, widthOf, header-width, layoutBox, layout-blind, layoutPart, symbologyPart, body, block, blockOf}
 use Rattle.block.specs.declared.MetadataLengths.{MetadataLengths}

@@ -6,8 +6,8 @@ use mathlib.Core.List.{List, [], _∷_, _++_}
 use lib.ListN.{replicate}
 use Rattle.codec.specs.Codec.{ok, refuse, refusal, raw, skip, num, _then_, _on_, named, checked, placed, sized, limited, asks, whole, remainder}
 use Rattle.text.specs.Utf8.{utf8}
-use Rattle.symbology.specs.Symbology.{symbol, date, list, interval, mapping, symbology}
-use Rattle.symbology.specs.SymbologyRows.{symbologyRows}
+use Rattle.symbology_format.specs.Symbology.{symbol, date, list, interval, mapping, symbology}
+use Rattle.symbology_format.specs.SymbologyRows.{symbologyRows}
 use Rattle.layout.specs.Rows.{rows}
 use Rattle.block.specs.Block.{lengths, header, layoutPart, symbologyPart, block, blockOf}
 use Rattle.block.specs.Fields.{fieldsWith, fieldsOf}

@@ -5,7 +5,7 @@ use lib.ListN.{length}
 use lib.Dec.{eqb}
 use Rattle.text.specs.Trim.{trimmedLen}
 use Rattle.layout.specs.Rows.{rows}
-use Rattle.symbology.specs.SymbologyRows.{symbologyRows}
+use Rattle.symbology_format.specs.SymbologyRows.{symbologyRows}
 use Rattle.block.specs.Block.{Header, Block, widthOf}
 use Rattle.block.specs.declared.MetadataLengths.{MetadataLengths}
 use Rattle.block.specs.declared.Fields.{Fields}

@@ -12,7 +12,7 @@ use Rattle.text.specs.Utf8.{utf8}
 use Rattle.padded.specs.Padded.{nulPadded}
 use Rattle.dates.specs.Date.{isDate}
 use Rattle.prelude.specs.Prelude.{isVersion}
-use Rattle.symbology.specs.SymbologyFaults.{symbologyFault}
+use Rattle.symbology_format.specs.SymbologyFaults.{symbologyFault}
 use Rattle.block.specs.Block.{Header, Block, v1, v2, v4, lengths, isSchema, isStype, isStypeIn, widthOf, block}
 use Rattle.block.specs.BlockFaults.{headerFault, layoutFault, blockFault, wholeFault}
 

@@ -14,7 +14,7 @@ use Rattle.padded.specs.Padded.{nulPadded}
 use Rattle.padded.specs.PaddedLaws.{Name}
 use Rattle.dates.specs.Date.{isDate}
 use Rattle.table.specs.EachLaws.{Each}
-use Rattle.symbology.specs.NameLaws.{NamedIn, Stands, name-stands, symbology-named}
+use Rattle.symbology_format.specs.NameLaws.{NamedIn, Stands, name-stands, symbology-named}
 use Rattle.block.specs.Block.{Block, header, widthOf, block, lengths, blockOf}
 use Rattle.block.specs.Read.{sixes}
 use Rattle.block.specs.SpanLaws.{symbology-legal, symbology-each, block-whole}

@@ -11,7 +11,7 @@ use Rattle.layout.specs.Layout.{Layout}
 use Rattle.layout.specs.Rows.{rows}
 use Rattle.wire.specs.Reader.{testsOf}
 use Rattle.layout.specs.LayoutOf.{layoutBy}
-use Rattle.symbology.specs.Symbology.{Symbology}
+use Rattle.symbology_format.specs.Symbology.{Symbology}
 use Rattle.symbology.specs.Answers.{SectionPromise}
 use Rattle.symbology.specs.declared.SectionAnswer.{SectionAnswer}
 use Rattle.layout.specs.Answers.{leave}

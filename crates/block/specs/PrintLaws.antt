@@ -12,11 +12,11 @@ use Rattle.text.specs.Trim.{trimmedLen}
 use Rattle.padded.specs.Padded.{nulPadded}
 use Rattle.dates.specs.Date.{isDate}
 use Rattle.wire.specs.Reader.{allTests}
-use Rattle.symbology.specs.Symbology.{Symbology, symbology}
-use Rattle.symbology.specs.SymbologyRows.{symbologyRows}
-use Rattle.symbology.specs.NameLaws.{Stands}
-use Rattle.symbology.specs.PrintLaws.{symbolTexts, trimmed, nameIn, noStart6}
-use Rattle.symbology.specs.PrintLaws as Symbols
+use Rattle.symbology_format.specs.Symbology.{Symbology, symbology}
+use Rattle.symbology_format.specs.SymbologyRows.{symbologyRows}
+use Rattle.symbology_format.specs.NameLaws.{Stands}
+use Rattle.symbology_format.specs.PrintLaws.{symbolTexts, trimmed, nameIn, noStart6}
+use Rattle.symbology_format.specs.PrintLaws as Symbols
 use Rattle.layout.specs.Layout.{Layout, printLayout, locateLayout, LegalLayout, EachName}
 use Rattle.layout.specs.LayoutOf.{D}
 use Rattle.layout.specs.Rows.{rows}

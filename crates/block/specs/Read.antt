@@ -9,8 +9,8 @@ use Rattle.codec.specs.Codec.{Res, ok, refuse}
 use Rattle.layout.specs.Rows.{rows}
 use Rattle.layout.specs.Answers.{wireNumbers}
 use Rattle.rules.specs.Rules.{ruleNumbers}
-use Rattle.symbology.specs.SymbologyRows.{symbologyRows}
-use Rattle.symbology.specs.Answers.{contentsNumbers}
+use Rattle.symbology_format.specs.SymbologyRows.{symbologyRows}
+use Rattle.symbology_format.specs.Contents.{contentsNumbers}
 use Rattle.table.specs.Table.{flat}
 use Rattle.table.specs.Columns.{columns}
 use Rattle.block.specs.Block.{Block, lengths, blockOf}

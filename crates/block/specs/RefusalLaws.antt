@@ -21,8 +21,8 @@ use Rattle.prelude.specs.Prelude.{isVersion}
 use Rattle.layout.specs.LayoutOf.{D}
 use Rattle.layout.specs.Answers.{wireNumbers}
 use Rattle.layout.specs.RefusalLaws.{parts-numbers}
-use Rattle.symbology.specs.Answers.{contentsNumbers}
-use Rattle.symbology.specs.RefusalLaws.{symbology-numbers}
+use Rattle.symbology_format.specs.Contents.{contentsNumbers}
+use Rattle.symbology_format.specs.Contents.{symbology-numbers}
 use Rattle.rules.specs.Rules.{ruleNumbers}
 use Rattle.rules.specs.RefusalLaws.{rules-fault}
 use Rattle.block.specs.Block.{Block, lengths, header, layoutPart, symbologyPart, block, blockOf}

@@ -14,8 +14,8 @@ use Rattle.padded.specs.Padded.{nulPadded}
 use Rattle.dates.specs.Date.{isDate}
 use Rattle.prelude.specs.Prelude.{isVersion}
 use Rattle.table.specs.EachLaws.{Each, RowInside, PartInside, part-inside}
-use Rattle.symbology.specs.Symbology.{Symbology, symbology}
-use Rattle.symbology.specs.SpanLaws.{symbology-lies}
+use Rattle.symbology_format.specs.Symbology.{Symbology, symbology}
+use Rattle.symbology_format.specs.SpanLaws.{symbology-lies}
 use Rattle.layout.specs.Layout.{Layout}
 use Rattle.layout.specs.Rows.{rows}
 use Rattle.layout.specs.ReadLaws.{no-rows}

@@ -169,12 +169,12 @@ fn end_of(n: u64) -> Optional
 fn long(s: &[u8], at: usize) -> u64
     ensures { λ r. ⌜ r ≡ value (take 8 (drop at (now (s .entry)))) ⌝ }
 {
-    numbers::u64_of(s, at) as u64
+    filled_numbers::u64_of(s, at) as u64
 }
 
 // The u16 at `at`.
 fn half(s: &[u8], at: usize) -> u64
     ensures { λ r. ⌜ (r ≡ value (take 2 (drop at (now (s .entry))))) × (r < 65536) ⌝ }
 {
-    numbers::u16_of(s, at) as u64
+    filled_numbers::u16_of(s, at) as u64
 }

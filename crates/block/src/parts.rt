@@ -135,7 +135,7 @@ fn span_at(block: &[u8], at: usize, missing: u32, past: u32) -> Span
         });
     }
     let start = at + 4;
-    let len = numbers::u32_of(block, at);
+    let len = filled_numbers::u32_of(block, at);
     if block.len() - start < len {
         return Span::Refused(Refusal {
             number: past,

@@ -16,7 +16,7 @@ use Rattle.text.specs.Utf8.{utf8}
 use Rattle.padded.specs.Padded.{nulPadded}
 use Rattle.dates.specs.Date.{isDate}
 use Rattle.prelude.specs.Prelude.{isVersion}
-use Rattle.symbology.specs.SymbologyFaults.{symbologyFault}
+use Rattle.symbology_format.specs.SymbologyFaults.{symbologyFault}
 use Rattle.rows_check.specs.Check.{fault, printed}
 use Rattle.rows_check.specs.Answers.{sizedOf, sizedNumber}
 use Rattle.rows_check.specs.AnswerLaws.{sized-length, sized-fault}

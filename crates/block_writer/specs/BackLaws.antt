@@ -34,8 +34,8 @@ use Rattle.rows_check.specs.CheckLaws.{Formed}
 use Rattle.rows_check.specs.LegalLaws.{sound}
 use Rattle.rows_check.specs.TreeLaws.{tree-rows, tree-flat, tree-version}
 use Rattle.rows_check.specs.NameLaws.{tree-each}
-use Rattle.symbology.specs.PrintLaws.{nameIn, noStart6}
-use Rattle.symbology.specs.NameLaws.{Stands}
+use Rattle.symbology_format.specs.PrintLaws.{nameIn, noStart6}
+use Rattle.symbology_format.specs.NameLaws.{Stands}
 use Rattle.block.specs.Block.{Block, lengths, header, layoutPart, symbologyPart, blockOf}
 use Rattle.block.specs.BlockFaults.{LegalPart, layoutBytes, symbologyBytes, headerFault, layoutFault, header-length, block-told}
 use Rattle.block.specs.LengthsLaws.{lengths-layout}

@@ -9,7 +9,7 @@ use Rattle.padded.specs.Padded.{nulPadded}
 use Rattle.dates.specs.Date.{isDate}
 use Rattle.prelude.specs.Prelude.{isVersion}
 use Rattle.rows_check.specs.Check.{fault}
-use Rattle.symbology.specs.SymbologyFaults.{symbologyFault}
+use Rattle.symbology_format.specs.SymbologyFaults.{symbologyFault}
 use Rattle.block.specs.Block.{lengths}
 use Rattle.block.specs.BlockFaults.{layoutBytes, layoutFault, symbologyBytes}
 use Rattle.columns_check.specs.Tree.{kindOf, symbolRows, partialRows, notFoundRows, symbologyOf}

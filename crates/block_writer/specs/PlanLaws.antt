@@ -27,7 +27,7 @@ use Rattle.rows_check.specs.LegalLaws.{sound, tree-legal}
 use Rattle.rows_check.specs.SectionLaws.{printed-is, printed-length, layout-is}
 use Rattle.rules.specs.RowRules.{rowsRules}
 use Rattle.rules.specs.RowRuleLaws.{rows-rules}
-use Rattle.symbology.specs.SymbologyFaults.{symbologyFault}
+use Rattle.symbology_format.specs.SymbologyFaults.{symbologyFault}
 use Rattle.block.specs.Block.{lengths, widthOf, header, layoutPart, symbologyPart}
 use Rattle.block.specs.BlockFaults.{SizedHeader, LegalPart, layoutBytes, SizedLayout, symbologyBytes, ShapedBlock, headerFault, layoutFault, block-length, block-told}
 use Rattle.block.specs.LengthsLaws.{lengths-width, whole-fault}

@@ -12,7 +12,7 @@ use Rattle.codec.specs.CaseLaws.{both-true, by-le, by-order}
 use Rattle.codec.specs.Codec.{little, isNil}
 use Rattle.codec.specs.Faults.{unless-zero}
 use Rattle.prelude.specs.PrintLaws.{prelude-print}
-use Rattle.symbology.specs.Symbology.{Symbology}
+use Rattle.symbology_format.specs.Symbology.{Symbology}
 use Rattle.rows_check.specs.Check.{fault, printed}
 use Rattle.rows_check.specs.SectionLaws.{printed-is}
 use Rattle.rules.specs.RowRules.{rowsRules}

@@ -9,10 +9,10 @@ use lib.ListN.{length, length-map}
 use Rattle.dates.specs.DayLaws.{day-back}
 use Rattle.text.specs.Trim.{trimmedLen}
 use Rattle.table.specs.Table.{flat, From, _andThen_, eachFrom}
-use Rattle.symbology.specs.SymbologyRows.{row6, symbolRow, listRow, intervalRow, mappingRows, symbologyRows}
-use Rattle.symbology.specs.SymbologyRows as S
-use Rattle.symbology.specs.PrintLaws.{listTexts, mappingTexts, symbolTexts, trimmed, noStart6}
-use Rattle.symbology.specs.RowParts.{rows-parts}
+use Rattle.symbology_format.specs.SymbologyRows.{row6, symbolRow, listRow, intervalRow, mappingRows, symbologyRows}
+use Rattle.symbology_format.specs.SymbologyRows as S
+use Rattle.symbology_format.specs.PrintLaws.{listTexts, mappingTexts, symbolTexts, trimmed, noStart6}
+use Rattle.symbology_format.specs.RowParts.{rows-parts}
 use Rattle.columns_check.specs.Tree.{kindOf, startOf, lenOf, xOf, yOf, ownerOf, textOf, filled, symbolOf, intervalOf, symbolsFrom, intervalsFrom, mappingsFrom, run, symbolRows, partialRows, notFoundRows, symbologyOf}
 use Rattle.columns_check.specs.Check.{wellFormed}
 use Rattle.columns_check.specs.RowLaws.{Placed, done, mapping, interval, intervals-count, run-kind, lists-le}

@@ -9,7 +9,7 @@ use Rattle.text.specs.Utf8.{utf8}
 use Rattle.padded.specs.Padded.{nulPadded}
 use Rattle.text.specs.Trim.{trimmedLen}
 use Rattle.dates.specs.Date.{isDate}
-use Rattle.symbology.specs.SymbologyFaults.{symbologyFault}
+use Rattle.symbology_format.specs.SymbologyFaults.{symbologyFault}
 use Rattle.columns_check.specs.Tree.{kindOf, startOf, lenOf, xOf, yOf, ownerOf, textOf, listRows, symbologyOf}
 use Rattle.columns_check.specs.declared.Columns.{Columns}
 use Rattle.columns_check.specs.declared.Columns.the-variants.{Malformed, Wide, Rows}

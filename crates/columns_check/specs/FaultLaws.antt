@@ -21,7 +21,7 @@ use Rattle.padded.specs.Padded.{nulPadded}
 use Rattle.padded.specs.PaddedLaws.{trimmed-no-nul}
 use Rattle.dates.specs.Date.{isDate}
 use Rattle.dates.specs.DayLaws.{day-dated}
-use Rattle.symbology.specs.SymbologyFaults.{symbolFault, listFault, intervalFault, mappingFault, symbologyFault}
+use Rattle.symbology_format.specs.SymbologyFaults.{symbolFault, listFault, intervalFault, mappingFault, symbologyFault}
 use Rattle.columns_check.specs.Tree.{kindOf, xOf, yOf, textOf, filled, symbolOf, intervalOf, symbolsFrom, intervalsFrom, mappingsFrom, run, symbolRows, partialRows, notFoundRows, listRows, symbologyOf}
 use Rattle.columns_check.specs.Check.{every, rowFits, mapped, wellFormed}
 use Rattle.columns_check.specs.RowFaults.{textFault, rowFault, rowsFault}

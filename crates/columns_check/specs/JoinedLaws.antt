@@ -5,7 +5,7 @@ use mathlib.Core.Path.{_≡_, refl, sym, ap, ap₂, _∙_}
 use mathlib.Core.List.{List, [], _++_, map, append-assoc}
 use lib.ListN.{length}
 use Rattle.table.specs.Table.{flat}
-use Rattle.symbology.specs.Symbology.{Symbol, Interval, Mapping}
+use Rattle.symbology_format.specs.Symbology.{Symbol, Interval, Mapping}
 use Rattle.columns_check.specs.Tree.{kindOf, xOf, symbolOf, intervalOf, symbolsFrom, intervalsFrom, mappingsFrom}
 use Rattle.columns_check.specs.RowLaws.{Placed, done, mapping, interval, intervals-count}
 use Rattle.columns_check.specs.FitLaws.{Along, first-of, next-of}

@@ -12,7 +12,7 @@ use Rattle.text.specs.Utf8.{utf8}
 use Rattle.padded.specs.Padded.{nulPadded}
 use Rattle.dates.specs.Date.{isDate}
 use Rattle.dates.specs.Day.{dateOfDay}
-use Rattle.symbology.specs.Symbology.{symbology}
+use Rattle.symbology_format.specs.Symbology.{symbology}
 use Rattle.columns_check.specs.Tree.{kindOf, xOf, yOf, textOf, filled, run, symbolRows, partialRows, notFoundRows, listRows, symbologyOf}
 use Rattle.columns_check.specs.Check.{wellFormed, narrow}
 use Rattle.columns_check.specs.RowFaults.{heads}

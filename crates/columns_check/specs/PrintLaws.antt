@@ -14,8 +14,8 @@ use Rattle.padded.specs.Padded.{nulPadded}
 use Rattle.dates.specs.Date.{isDate}
 use Rattle.dates.specs.Day.{dateOfDay}
 use Rattle.table.specs.Table.{flat}
-use Rattle.symbology.specs.Symbology.{symbology}
-use Rattle.symbology.specs.PrintLaws.{printedInterval, printedMapping, printedList, symbology-print}
+use Rattle.symbology_format.specs.Symbology.{symbology}
+use Rattle.symbology_format.specs.PrintLaws.{printedInterval, printedMapping, printedList, symbology-print}
 use Rattle.columns_check.specs.Tree.{kindOf, xOf, yOf, textOf, filled, symbolOf, intervalOf, symbolsFrom, mappingsFrom, run, symbolRows, partialRows, notFoundRows, listRows, symbologyOf}
 use Rattle.columns_check.specs.Check.{wellFormed}
 use Rattle.columns_check.specs.RowLaws.{Placed, symbols-count, run-kind}

@@ -10,7 +10,7 @@ use Rattle.codec.specs.Codec.{Bytes}
 use Rattle.codec.specs.Faults.{every}
 use Rattle.dates.specs.Day.{dateOfDay}
 use Rattle.dates.specs.DayLaws.{date-is, day-dated}
-use Rattle.symbology.specs.SymbologyFaults.{SizedSymbol, SizedInterval, SizedMapping, SizedSymbology, Counted}
+use Rattle.symbology_format.specs.SymbologyFaults.{SizedSymbol, SizedInterval, SizedMapping, SizedSymbology, Counted}
 use Rattle.columns_check.specs.Tree.{kindOf, xOf, yOf, textOf, symbolOf, intervalOf, symbolsFrom, intervalsFrom, mappingsFrom, symbolRows, partialRows, notFoundRows, listRows, symbologyOf}
 use Rattle.columns_check.specs.Check.{wellFormed, narrow}
 use Rattle.columns_check.specs.RowFaults.{heads}

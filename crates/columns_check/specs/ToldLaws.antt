@@ -7,7 +7,7 @@ use lib.ListN.{length}
 use Rattle.text.specs.Utf8.{utf8}
 use Rattle.padded.specs.Padded.{nulPadded}
 use Rattle.dates.specs.Date.{isDate}
-use Rattle.symbology.specs.SymbologyFaults.{symbologyFault}
+use Rattle.symbology_format.specs.SymbologyFaults.{symbologyFault}
 use Rattle.columns_check.specs.Tree.{symbolRows, partialRows, notFoundRows, symbologyOf}
 use Rattle.columns_check.specs.Check.{wellFormed, narrow, columnsOf}
 use Rattle.columns_check.specs.RowLaws.{symbols-count}

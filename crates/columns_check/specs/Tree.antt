@@ -8,7 +8,7 @@ use lib.ListN.{length, take, drop, replicate}
 use lib.Dec.{eqb}
 use Rattle.table.specs.Columns.{cellOf}
 use Rattle.dates.specs.Day.{dateOfDay}
-use Rattle.symbology.specs.Symbology.{Symbol, Interval, Mapping, Symbology}
+use Rattle.symbology_format.specs.Symbology.{Symbol, Interval, Mapping, Symbology}
 
 -- ---- one row
 

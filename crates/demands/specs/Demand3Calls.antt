@@ -11,7 +11,7 @@ use Rattle.codec.specs.Codec.{ok, Bytes}
 use Rattle.codec.specs.Edits.{Marked, bytesOf, Edit, put}
 use Rattle.table.specs.Columns.{columns}
 use Rattle.layout.specs.ReadLaws.{rows-nine}
-use Rattle.symbology.specs.ReadLaws.{rows-of-six}
+use Rattle.symbology_format.specs.WidthLaws.{rows-of-six}
 use Rattle.names.specs.declared.Span.the-variants.{Part}
 use Rattle.names.specs.NameLaws.{symbol-no-field, item-no-field}
 use Rattle.names.specs.Names.{symbolText, itemText, symbologySpan, layoutSpan, partIn}

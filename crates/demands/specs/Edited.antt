@@ -21,9 +21,9 @@ use Rattle.layout.specs.Layout.{parts, toLayout, fromLayout, printLayout, locat
 use Rattle.layout.specs.LayoutLaws.{parse-print, layout-octets}
 use Rattle.layout.specs.TextLaws.{rowText, texts, texts-bare, row-texts}
 use Rattle.layout.specs.Rows.{rows}
-use Rattle.symbology.specs.NameLaws.{Stands}
-use Rattle.symbology.specs.Symbology.{Symbology, symbology}
-use Rattle.symbology.specs.SymbologyRows.{symbologyRows}
+use Rattle.symbology_format.specs.NameLaws.{Stands}
+use Rattle.symbology_format.specs.Symbology.{Symbology, symbology}
+use Rattle.symbology_format.specs.SymbologyRows.{symbologyRows}
 use Rattle.table.specs.EachLaws.{Each, RowInside}
 use Rattle.layout.specs.SpanLaws.{read-lies}
 use Rattle.block.specs.SpanLaws.{block-whole}

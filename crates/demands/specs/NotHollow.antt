@@ -8,8 +8,8 @@ use mathlib.Core.List.{List, [], _∷_, _++_}
 use lib.ListN.{replicate}
 use Rattle.codec.specs.Codec.{Res, ok, refuse, refusal, _>>=_, raw, skip, num, named, checked, judged, sized, limited, times, whole, boxed, full, _then_, _on_, remainder}
 use Rattle.text.specs.Utf8.{utf8}
-use Rattle.symbology.specs.Symbology.{list, mapping, symbology}
-use Rattle.symbology.specs.SymbologyRows.{symbologyRows}
+use Rattle.symbology_format.specs.Symbology.{list, mapping, symbology}
+use Rattle.symbology_format.specs.SymbologyRows.{symbologyRows}
 use Rattle.layout.specs.Layout.{parts, groups}
 use Rattle.layout.specs.Rows.{rows}
 use Rattle.rules.specs.Rules.{rulesOf, seqsFault, structsFault, recordsFault}

@@ -18,7 +18,7 @@ use Rattle.padded.specs.Padded.{nulPadded}
 use Rattle.dates.specs.Date.{isDate}
 use Rattle.layout.specs.LayoutOf.{D}
 use Rattle.layout.specs.Layout.{printLayout}
-use Rattle.symbology.specs.Symbology.{Symbology, symbology}
+use Rattle.symbology_format.specs.Symbology.{Symbology, symbology}
 use Rattle.block.specs.Block.{Header, Block, v4, lengths, header, layoutPart, symbologyPart, block, blockOf}
 use Rattle.demands.specs.Edited.{header-length, B4, width, layoutIn, layout-bytes, header-legal, symbology-legal, block-back}
 

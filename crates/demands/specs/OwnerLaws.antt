@@ -10,8 +10,8 @@ use lib.Dec.{eqb}
 use Rattle.codec.specs.CaseLaws.{by-le}
 use Rattle.table.specs.Table.{From, _andThen_, eachFrom}
 use Rattle.table.specs.FromLaws.{Among, among-then, among-each, among-all}
-use Rattle.symbology.specs.Symbology.{Symbol, Interval, Mapping, Symbology}
-use Rattle.symbology.specs.SymbologyRows.{listRow, listRows, intervalRow, mappingRows, symbologyRows}
+use Rattle.symbology_format.specs.Symbology.{Symbol, Interval, Mapping, Symbology}
+use Rattle.symbology_format.specs.SymbologyRows.{listRow, listRows, intervalRow, mappingRows, symbologyRows}
 
 -- row o is a mapping, and the rows after it, as many as it counts, are its intervals; `number i j` is number j of row i, of n rows: 0 its
 -- kind, 3 its x, 5 its owner

@@ -14,10 +14,10 @@ use Rattle.dates.specs.Day.{dayOf}
 use Rattle.text.specs.TrimLaws.{trimmed-le}
 use Rattle.table.specs.Table.{flat, From, _andThen_, eachFrom}
 use Rattle.layout.specs.TextLaws.{rowText}
-use Rattle.symbology.specs.Symbology
-use Rattle.symbology.specs.Symbology.{Symbol, Interval, Mapping, Symbology, symbol, date, list, interval, mapping, symbology}
-use Rattle.symbology.specs.NameLaws.{Stands}
-use Rattle.symbology.specs.SymbologyRows.{symbolRow, intervalRow, mappingRows, listRow, listRows, symbologyRows}
+use Rattle.symbology_format.specs.Symbology
+use Rattle.symbology_format.specs.Symbology.{Symbol, Interval, Mapping, Symbology, symbol, date, list, interval, mapping, symbology}
+use Rattle.symbology_format.specs.NameLaws.{Stands}
+use Rattle.symbology_format.specs.SymbologyRows.{symbolRow, intervalRow, mappingRows, listRow, listRows, symbologyRows}
 use Rattle.demands.specs.LayoutRows.{moveRow}
 
 -- f takes each place from p on to the place as far after q

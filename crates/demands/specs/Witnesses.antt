@@ -18,8 +18,8 @@ use Rattle.text.specs.Utf8.{utf8}
 use Rattle.dates.specs.Date.{isDate, isDay, daysIn, isLeap}
 use Rattle.dates.specs.Day.{dayOf, dayNumber, daysTo, daysBefore, daysOfYear}
 use Rattle.wire.specs.Formats.{section, text, textOf, name}
-use Rattle.symbology.specs.Symbology.{symbol, date, list, interval, mapping, symbology}
-use Rattle.symbology.specs.SymbologyRows.{symbologyRows}
+use Rattle.symbology_format.specs.Symbology.{symbol, date, list, interval, mapping, symbology}
+use Rattle.symbology_format.specs.SymbologyRows.{symbologyRows}
 use Rattle.layout.specs.Layout.{entry, fields, recordL, structL, label, labelDef, parts, groups}
 use Rattle.layout.specs.LayoutOf.{D}
 use Rattle.layout.specs.Rows.{rows}

@@ -10,12 +10,12 @@ pub(crate) fn byte(s: &[u8], at: usize) -> u8 {
 
 // Two bytes at a place.
 pub(crate) fn u16_at(s: &[u8], at: usize) -> u16 {
-    numbers::u16_of(s, at) as u16
+    filled_numbers::u16_of(s, at) as u16
 }
 
 // Four bytes at a place.
 pub(crate) fn u32_at(s: &[u8], at: usize) -> u32 {
-    numbers::u32_of(s, at) as u32
+    filled_numbers::u32_of(s, at) as u32
 }
 
 // The bytes from a place on.

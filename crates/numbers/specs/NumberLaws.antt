@@ -11,7 +11,7 @@ use Rattle.refusal.specs.declared.Refusal.{Refusal}
 use Rattle.codec.specs.Codec.{Res, ok, refuse, refusal, raw, value, num}
 use Rattle.codec.specs.StepLaws.{raw-got, raw-bad, num-got, num-bad}
 use Rattle.codec.specs.CaseLaws.{by-le}
-use Rattle.numbers.specs.Numbers.{gotOf, Past, past, refused, takeAt, numAt, u16At, part, le16, le32, le64}
+use Rattle.numbers.specs.Numbers.{gotOf, Past, past, takeAt, numAt, u16At, part, le16, le32, le64}
 use Rattle.numbers.specs.declared.Got.{Got}
 use Rattle.numbers.specs.declared.Got.the-variants.{Value, Refused}
 
@@ -73,14 +73,6 @@ u32-is s i = value-join 2 2 s i ∙ rw (u16-is s i, u16-is s (i + 2))
 pub u64-is : (s : List ℕ) (i : ℕ) → value (take 8 (drop i s)) ≡ le64 s i
 u64-is s i = value-join 4 4 s i ∙ rw (u32-is s i, u32-is s (i + 4))
 
--- what is read at a place depends on the bytes from there on
-module _ (s : List ℕ) (i j : ℕ) (e : drop i s ≡ drop j s) where
-  pub u16-on : le16 s i ≡ le16 s j
-  u16-on = sym (u16-is s i) ∙ ap (λ t. value (take 2 t)) e ∙ u16-is s j
-
-  pub u32-on : le32 s i ≡ le32 s j
-  u32-on = sym (u32-is s i) ∙ ap (λ t. value (take 4 t)) e ∙ u32-is s j
-
 -- a number that was read, in the words of the format
 abbrev pub numOf : Got → Res ℕ
 numOf (Value v p) = ok v p
@@ -109,9 +101,6 @@ module _ (why w : ℕ) (s : List ℕ) (at : ℕ) where
       by-le (at + w) (length s)
       (λ h. let q = sym (num-ok h) ∙ e in (let z : value (take w (drop at s)) ≡ v = cc in sym z, let y : at + w ≡ p = cc in sym y, h))
       (λ h. let q = sym (num-no h) ∙ e in absurd (let z : _≡_ {A = ℕ} 0 1 = cc in omega arith))
-
-pub u8-ok : (why : ℕ) (s : List ℕ) (at : ℕ) → 1 ≤ length s - at → Value (getD s at 0) (at + 1) ≡ numAt why 1 s at
-u8-ok why s at h = sym (num-ok why 1 s at (omega arith) ∙ ap (λ v. Value v (at + 1)) (u8-is s at))
 
 pub u16-ok : (why : ℕ) (s : List ℕ) (at : ℕ) → 2 ≤ length s - at → Value (le16 s at) (at + 2) ≡ numAt why 2 s at
 u16-ok why s at h = sym (num-ok why 2 s at (omega arith) ∙ ap (λ v. Value v (at + 2)) (u16-is s at))

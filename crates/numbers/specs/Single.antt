@@ -3,17 +3,14 @@ use Prim.Native.Nat.{ℕ, _+_, _-_, _<_}
 use mathlib.Core.Path.{_≡_, sym, _∙_}
 use mathlib.Core.List.{List}
 use lib.ListN.{length}
-use Rattle.numbers.specs.Numbers.{takeAt, numAt, le64, Past}
+use Rattle.numbers.specs.Numbers.{takeAt, numAt, Past}
 use Rattle.numbers.specs.declared.Got.{Got}
 
--- of `wide`, `u8_of`, `u16_of` and `u32_of`, which promise a number v and that it is below b
+-- of `wide`, and of whatever else promises a number v and that it is below b
 pub below : (v b r r′ : ℕ) → (r ≡ v) × (r < b) → (r′ ≡ v) × (r′ < b) → r ≡ r′
 below v b r r′ e f = e .0 ∙ sym (f .0)
 
 module _ (s : List ℕ) (at : ℕ) where
-  pub u64-of : (r r′ : ℕ) → r ≡ le64 s at → r′ ≡ le64 s at → r ≡ r′
-  u64-of r r′ e f = e ∙ sym f
-
   pub left : (r r′ : ℕ) → r ≡ length s - at → r′ ≡ length s - at → r ≡ r′
   left r r′ e f = e ∙ sym f
 

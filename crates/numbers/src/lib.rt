@@ -2,8 +2,8 @@
 use refusal::Refusal;
 ghost use mathlib.Core.Path.{_≡_};
 ghost use Prim.Native.Nat.{_+_, _-_, _*_, _≤_, _<_};
-ghost use lib.ListN.{length, getD, drop};
-ghost use Rattle.numbers.specs.Numbers.{takeAt, numAt, le16, le32, le64, Past};
+ghost use lib.ListN.{length};
+ghost use Rattle.numbers.specs.Numbers.{takeAt, numAt, le16, Past};
 
 // What reading at a place gives: a number and the place after it, or a refusal.
 pub enum Got {
@@ -34,23 +34,6 @@ pub fn take(s: &[u8], at: usize, n: usize, why: u32) -> Got
         number: why,
         place: at,
     })
-}
-
-// The byte at `at`; `why` at `at` where there is none.
-pub fn u8_at(s: &[u8], at: usize, why: u32) -> Got
-    ensures { λ r. ⌜ (r ≡ numAt why 1 (now (s .entry)) at) × Past 256 1 (now (s .entry)) at r ⌝ }
-{
-    if 1 <= left(s, at) {
-        Got::Value {
-            value: wide(s[at]),
-            next: at + 1,
-        }
-    } else {
-        Got::Refused(Refusal {
-            number: why,
-            place: at,
-        })
-    }
 }
 
 // The u16 at `at`; `why` at `at` where it runs past the end.
@@ -94,53 +77,10 @@ pub fn wide(x: u8) -> usize
     x as usize
 }
 
-// The byte at `at`; a byte past the end counts as 0.
-pub fn u8_of(s: &[u8], at: usize) -> usize
-    ensures { λ r. ⌜ (r ≡ getD (now (s .entry)) at 0) × (r < 256) ⌝ }
-{
-    if at < s.len() { wide(s[at]) } else { 0 }
-}
-
-// The u16 at `at`, where a byte past the end counts as 0.
-pub fn u16_of(s: &[u8], at: usize) -> usize
-    ensures { λ r. ⌜ (r ≡ le16 (now (s .entry)) at) × (r < 65536) ⌝ }
-{
-    if left(s, at) < 2 {
-        u8_of(s, at)
-    } else {
-        half(s, at)
-    }
-}
-
-// The u32 at `at`, where a byte past the end counts as 0.
-pub fn u32_of(s: &[u8], at: usize) -> usize
-    ensures { λ r. ⌜ (r ≡ le32 (now (s .entry)) at) × (r < 4294967296) ⌝ }
-{
-    if left(s, at) < 4 {
-        u16_of(s, at) + 65536 * u16_of(s, ahead(s, at, 2))
-    } else {
-        half(s, at) + 65536 * half(s, at + 2)
-    }
-}
-
-// The u64 at `at`, where a byte past the end counts as 0.
-pub fn u64_of(s: &[u8], at: usize) -> usize
-    ensures { λ r. ⌜ r ≡ le64 (now (s .entry)) at ⌝ }
-{
-    u32_of(s, at) + 4294967296 * u32_of(s, ahead(s, at, 4))
-}
-
 // The u16 at `at`, which ends within s.
 fn half(s: &[u8], at: usize) -> usize
     requires { ⌜ at + 2 ≤ length (now s) ⌝ }
     ensures { λ r. ⌜ (r ≡ le16 (now (s .entry)) at) × (r < 65536) ⌝ }
 {
     wide(s[at]) + 256 * wide(s[at + 1])
-}
-
-// The place n bytes after `at`, or the end where that comes first.
-fn ahead(s: &[u8], at: usize, n: usize) -> usize
-    ensures { λ r. ⌜ drop r (now (s .entry)) ≡ drop (at + n) (now (s .entry)) ⌝ }
-{
-    if n <= left(s, at) { at + n } else { s.len() }
 }

@@ -42,7 +42,7 @@ pub fn prelude(s: &[u8]) -> Stage
     if 4 < version {
         return refused(refusal::VERSION, 3);
     }
-    let len = numbers::u32_of(s, 4);
+    let len = filled_numbers::u32_of(s, 4);
     if len < METADATA_FIXED_LEN {
         return refused(refusal::BLOCK_LENGTH, 4);
     }

@@ -50,7 +50,7 @@ pub(crate) fn load(argument: usize, sheet: &mut [u16; 520]) -> bool {
 fn take(bytes: &[u8; 4096], sheet: &mut [u16; 520]) {
     let mut i = 0;
     while i < 520 {
-        sheet[i] = numbers::u16_of(bytes, 2 * i) as u16;
+        sheet[i] = filled_numbers::u16_of(bytes, 2 * i) as u16;
         i += 1;
     }
 }

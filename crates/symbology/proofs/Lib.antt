@@ -1,2 +1,1 @@
-pub mod ReaderLaws
 pub mod Public

@@ -3,29 +3,20 @@
 use Prim.Native.Nat.{ℕ, _/_}
 use mathlib.Core.Path.{_≡_}
 use mathlib.Core.Bool.{Bool, _&&_, cond}
-use mathlib.Core.List.{List, [], _∷_}
+use mathlib.Core.List.{List, _∷_}
 use lib.ListN.{length}
 use lib.Dec.{leb}
 use Rattle.codec.specs.Codec.{Res, ok, refuse}
 use Rattle.table.specs.Columns.{columns}
-use Rattle.symbology.specs.Symbology.{Symbology}
-use Rattle.symbology.specs.SymbologyRows.{symbologyRows}
-use Rattle.symbology.specs.declared.Found.{Found}
-use Rattle.symbology.specs.declared.Found.the-variants as Found'
+use Rattle.symbology_format.specs.Contents.{contentsNumbers}
+use Rattle.symbology_format.specs.Symbology.{Symbology}
+use Rattle.symbology_format.specs.SymbologyRows.{symbologyRows}
 use Rattle.symbology.specs.declared.SectionAnswer.{SectionAnswer}
 use Rattle.symbology.specs.declared.SectionAnswer.the-variants as SectionAnswer'
 
 -- what refuses a symbology: 13 for its size, 28 where it leaves bytes of its section over, else a number of its contents
-abbrev pub contentsNumbers : List ℕ
-contentsNumbers = 30 ∷ 31 ∷ 32 ∷ 33 ∷ 34 ∷ 35 ∷ 36 ∷ 37 ∷ 38 ∷ 39 ∷ 40 ∷ 41 ∷ 42 ∷ 43 ∷ []
-
 abbrev pub symbologyNumbers : List ℕ
 symbologyNumbers = 13 ∷ 28 ∷ contentsNumbers
-
--- without a table: the rows and the place after the contents
-unfoldable pub found : Res Symbology → Found
-found (ok t j) = Found'.Accepted (length (symbologyRows t)) j
-found (refuse k) = Found'.Refused k
 
 -- the rows are written where `write` holds and a table of cap rows is long enough; else they are counted
 unfoldable pub sectionAnswer : Bool → ℕ → Res Symbology → SectionAnswer
@@ -43,11 +34,6 @@ pub record SectionPromise (write : Bool) (z : Res Symbology) (t t′ : List ℕ)
   pub leaves : t′ ≡ sectionTable write t z
 
 -- ---- the numbers of document 01
-
--- 0 for what is accepted
-abbrev pub foundNumber : Found → ℕ
-foundNumber (Found'.Accepted n j) = 0
-foundNumber (Found'.Refused k) = k .number
 
 -- 0 for what is accepted, its rows written or counted
 abbrev pub sectionNumber : SectionAnswer → ℕ

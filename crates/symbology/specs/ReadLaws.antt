@@ -2,29 +2,23 @@
 use Prim.Native.Nat.{ℕ, _+_, _/_, _≤_}
 use mathlib.Core.Path.{_≡_, refl, sym, ap, _∙_, subst}
 use mathlib.Core.Bool.{Bool, true, false, _&&_, cond}
-use mathlib.Core.List.{List, [], _∷_, _++_}
+use mathlib.Core.List.{List}
 use lib.ListN.{length, drop}
 use lib.Dec.{leb}
-use borrow.Author.Tests.{le-leb}
 use Rattle.refusal.specs.declared.Refusal.{Refusal}
 use Rattle.codec.specs.Codec.{Res, ok, refuse, moved, shifted, _>>=_, need, isNil}
 use Rattle.text.specs.Utf8.{utf8}
 use Rattle.padded.specs.Padded.{nulPadded}
 use Rattle.dates.specs.Date.{isDate}
 use Rattle.table.specs.Columns.{columns}
-use Rattle.table.specs.TableLaws.{Wide, wide-append, wide-map, wide-from}
-use Rattle.symbology.specs.Symbology
-use Rattle.symbology.specs.Symbology.{Symbol, Symbology, unspanned}
-use Rattle.symbology.specs.SymbologyRows.{symbologyRows, listRow, listRows, mappingRows, intervalRow}
-use Rattle.symbology.specs.Reader.{symbologyOf, sectionOf}
+use Rattle.symbology_format.specs.Symbology
+use Rattle.symbology_format.specs.Symbology.{Symbology, unspanned}
+use Rattle.symbology_format.specs.SymbologyRows.{symbologyRows}
+use Rattle.symbology_rows.specs.ReadLaws.{symbology-parse}
+use Rattle.symbology.specs.Reader.{sectionOf}
 use Rattle.symbology.specs.Answers.{sectionAnswer, sectionTable, SectionPromise}
 use Rattle.symbology.specs.declared.SectionAnswer.{SectionAnswer}
 use Rattle.symbology.specs.declared.SectionAnswer.the-variants as SectionAnswer'
-
--- a symbology in a block of a length that fits is read by its format
-pub symbology-parse : (width base : ℕ) (s : List ℕ) → base + length s ≤ 4294967295 → symbologyOf width base s ≡ Symbology.symbology utf8 nulPadded isDate width .codec .parse base s 0
-unfolding symbologyOf
-symbology-parse width base s h = rw (le-leb (base + length s) 4294967295 h)
 
 -- a section of its own, by the format and what it leaves over; other bytes, by the format
 pub section-parse : (width base : ℕ) (s : List ℕ) → base + length s ≤ 4294967295
@@ -35,13 +29,6 @@ section-parse width base s h = rw (symbology-parse width base s h)
 pub rest-parse : (width base : ℕ) (s : List ℕ) → base + length s ≤ 4294967295 → sectionOf false width base s ≡ Symbology.symbology utf8 nulPadded isDate width .codec .parse base s 0
 unfolding sectionOf
 rest-parse width base s h = symbology-parse width base s h
-
-pub rows-of-six : (t : Symbology) → Wide 6 (symbologyRows t)
-unfolding symbologyRows
-rows-of-six t = lists 0 (t .symbols) 0 _ (lists 1 (t .partial) _ _ (lists 2 (t .notFound) _ _ (wide-from 6 mappingRows (λ m n. (refl, wide-map 6 (intervalRow n) (λ i. refl) (m .intervals))) (t .mappings) _)))
-  where
-    lists : (kind : ℕ) (xs : List Symbol) (n : ℕ) (rest : List (List ℕ)) → Wide 6 rest → Wide 6 (listRows kind xs n ++ rest)
-    lists kind xs n rest h = wide-append 6 (listRows kind xs n) rest (wide-from 6 (λ s n. listRow kind s n ∷ []) (λ s n. (refl, tt)) xs n) h
 
 -- ---- what an answer says
 

@@ -4,7 +4,7 @@ use mathlib.Core.Path.{_≡_, sym, _∙_}
 use mathlib.Core.Bool.{Bool}
 use mathlib.Core.List.{List}
 use Rattle.codec.specs.Codec.{Res}
-use Rattle.symbology.specs.Symbology.{Symbology}
+use Rattle.symbology_format.specs.Symbology.{Symbology}
 use Rattle.symbology.specs.Answers.{SectionPromise}
 use Rattle.symbology.specs.declared.SectionAnswer.{SectionAnswer}
 

@@ -28,7 +28,7 @@ fn group(kind: usize, s: &[u8], at: usize) -> Met
     requires { ⌜ at < 2 ^ 48 ⌝ }
     ensures { λ r. ⌜ (r ≡ groupFrom kind (now (s .entry)) at) × Near at (2 ^ 40) r ⌝ }
 {
-    let count = numbers::u16_of(s, at);
+    let count = filled_numbers::u16_of(s, at);
     sections(kind, s, at + 2, count)
 }
 
@@ -56,11 +56,11 @@ fn section(kind: usize, s: &[u8], at: usize) -> Met
     ensures { λ r. ⌜ (r ≡ sectionFrom kind (now (s .entry)) at) × Near at 65536 r ⌝ }
 {
     let name = at + own_bytes(kind);
-    let count_at = name + numbers::u8_of(s, name) + 2;
-    let count = numbers::u16_of(s, count_at);
+    let count_at = name + filled_numbers::u8_of(s, name) + 2;
+    let count = filled_numbers::u16_of(s, count_at);
     match items(kind, s, count_at + 2, count) {
         Met::Clear(p) => {
-            let len = numbers::u16_of(s, at);
+            let len = filled_numbers::u16_of(s, at);
             closing(refusal::LEFTOVER_IN_SECTION, p, at + len)
         }
         Met::Untidy(what) => Met::Untidy(what),
@@ -121,7 +121,7 @@ fn zeros(s: &[u8], at: usize, count: usize) -> Met
     let mut todo = count;
     let mut p = at;
     while 0 < todo {
-        if numbers::u8_of(s, p) != 0 {
+        if filled_numbers::u8_of(s, p) != 0 {
             return untidy(refusal::SKIPPED_NOT_ZERO, p);
         }
         p += 1;
@@ -138,7 +138,7 @@ fn names_end(s: &[u8], at: usize, count: usize) -> usize
     let mut todo = count;
     let mut p = at;
     while 0 < todo {
-        p = p + numbers::u8_of(s, p) + 2;
+        p = p + filled_numbers::u8_of(s, p) + 2;
         todo -= 1;
     }
     p
@@ -153,12 +153,12 @@ fn labels(s: &[u8], at: usize, count: usize) -> Met
     let mut p = at;
     let mut least: usize = 0;
     while 0 < todo {
-        let code = numbers::u16_of(s, p);
+        let code = filled_numbers::u16_of(s, p);
         if code < least {
             return untidy(refusal::CODES_NOT_RISING, p);
         }
         least = code + 1;
-        p = p + 4 + numbers::u8_of(s, p + 2);
+        p = p + 4 + filled_numbers::u8_of(s, p + 2);
         todo -= 1;
     }
     Met::Clear(p)

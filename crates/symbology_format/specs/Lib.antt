@@ -1,0 +1,13 @@
+pub mod Symbology
+pub mod SymbologyRows
+pub mod ParseLaws
+pub mod Contents
+pub mod DateLaws
+pub mod LenientLaws
+pub mod SymbologyFaults
+pub mod EachRowLaws
+pub mod SpanLaws
+pub mod NameLaws
+pub mod PrintLaws
+pub mod RowParts
+pub mod WidthLaws
