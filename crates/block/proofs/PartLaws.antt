@@ -8,14 +8,14 @@ use mathlib.Core.Logic.{_⊎_, inl, inr}
 use mathlib.Core.List.{List, [], _∷_}
 use lib.ListN.{length, take, drop, length-take, length-drop}
 use lib.Seq.{take-all}
-use lib.Dec.{leb, eqb}
+use lib.Dec.{eqb}
 use borrow.Author.Tests.{le-leb, lt-leb}
 use Rattle.refusal.specs.declared.Refusal.{Refusal}
 use Rattle.refusal.specs.Places.{hasPlace}
 use Rattle.codec.specs.CaseLaws.{by-bool, by-le, no-true}
 use Rattle.codec.specs.Refusals.{In, allPass}
 use Rattle.codec.specs.RefusalLaws.{gives-is, in-pass}
-use Rattle.codec.specs.Codec.{Res, ok, refuse, refusal, moved, shifted, _>>=_, need, Codec, raw, num, value, sized, named, checked, judged, whole, boxed, isNil, full, remainder}
+use Rattle.codec.specs.Codec.{Res, ok, refuse, refusal, shifted, _>>=_, need, Codec, raw, num, value, sized, named, checked, judged, whole, boxed, isNil, full, remainder}
 use Rattle.codec.specs.Laws.{bind-ok, need-ok}
 use Rattle.codec.specs.StepLaws.{raw-got, raw-bad, num-got, num-bad}
 use Rattle.text.specs.Utf8.{utf8}
@@ -35,7 +35,8 @@ use Rattle.symbology.specs.ReadLaws.{section-parse, rest-parse, refused-promise
 use Rattle.layout.specs.declared.Verdict.the-variants as Verdict'
 use Rattle.symbology.specs.declared.SectionAnswer.{SectionAnswer}
 use Rattle.symbology.specs.declared.SectionAnswer.the-variants as SectionAnswer'
-use Rattle.rules.specs.Rules.{ruleNumbers, rulesOf, ruledOf}
+use Rattle.item_rules.specs.Rules.{ruleNumbers}
+use Rattle.rules.specs.Rules.{rulesOf, ruledOf}
 use Rattle.rules.specs.RefusalLaws.{ruled-either}
 use Rattle.rules.specs.RuleLaws.{ruled-is}
 use Rattle.block.specs.Block.{noItems, layoutPart, symbologyPart}

@@ -8,7 +8,7 @@ use lib.Dec.{leb}
 use Rattle.codec.specs.Codec.{Res, ok, refuse}
 use Rattle.layout.specs.Rows.{rows}
 use Rattle.layout.specs.Answers.{wireNumbers}
-use Rattle.rules.specs.Rules.{ruleNumbers}
+use Rattle.item_rules.specs.Rules.{ruleNumbers}
 use Rattle.symbology_format.specs.SymbologyRows.{symbologyRows}
 use Rattle.symbology_format.specs.Contents.{contentsNumbers}
 use Rattle.table.specs.Table.{flat}

@@ -12,7 +12,8 @@ use Rattle.symbology_format.specs.Symbology.{list, mapping, symbology}
 use Rattle.symbology_format.specs.SymbologyRows.{symbologyRows}
 use Rattle.layout.specs.Layout.{parts, groups}
 use Rattle.layout.specs.Rows.{rows}
-use Rattle.rules.specs.Rules.{rulesOf, seqsFault, structsFault, recordsFault}
+use Rattle.item_rules.specs.Rules.{seqsFault, structsFault, recordsFault}
+use Rattle.rules.specs.Rules.{rulesOf}
 use Rattle.block.specs.Block.{Block, lengths, header, layoutPart, symbologyPart, block, blockOf}
 use Rattle.block.specs.Read.{sixes, nines}
 use Rattle.block.specs.ReadLaws.{given}

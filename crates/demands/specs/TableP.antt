@@ -23,7 +23,8 @@ use Rattle.layout.specs.AnswerLaws.{verdict-refused}
 use Rattle.layout.specs.Examples.{p7, p8, p9, p7rows}
 use Rattle.layout.specs.declared.Answer.{Answer}
 use Rattle.layout.specs.declared.Answer.the-variants as Layout'
-use Rattle.rules.specs.Rules.{rulesOf, ruledOf, seqsFault, structsFault, recordsFault}
+use Rattle.item_rules.specs.Rules.{seqsFault, structsFault, recordsFault}
+use Rattle.rules.specs.Rules.{rulesOf, ruledOf}
 use Rattle.given_layout.specs.Ruled.{Ruled}
 use Rattle.given_layout.specs.RuledLaws
 use Rattle.given_layout.specs.Single.{read-layout-single}

@@ -25,7 +25,8 @@ use Rattle.layout.specs.LayoutOf.{D}
 use Rattle.layout.specs.Rows.{rows}
 use Rattle.fields.specs.Sheet.{alignOf, defOf, idOf, isDecimal, isExtension, isPadding, isStruct, isSymbol, memberAlign, namesLabel, offOf, pastBase, sizeOf, typeOf}
 use Rattle.fields.specs.Field.{breaks71, breaks72, breaks73, breaks74, breaks76, breaks77, breaks79, breaks80, fieldFault}
-use Rattle.rules.specs.Rules.{rulesOf, seqsFault, structsFault, recordsFault, structFault, recordFault, seqFault, fieldsFault, baseFault, extFault, tilingFault, spans, structAlign, largest}
+use Rattle.item_rules.specs.Rules.{seqsFault, structsFault, recordsFault, structFault, recordFault, seqFault, fieldsFault, baseFault, extFault, tilingFault, spans, structAlign, largest}
+use Rattle.rules.specs.Rules.{rulesOf}
 use Rattle.prelude.specs.Prelude.{magic, prelude, preludeOf}
 use Rattle.block.specs.Block.{Block, lengths, header, layoutPart, symbologyPart, block, blockOf}
 use Rattle.block.specs.Fields.{fieldsWith, fieldsOf}

@@ -13,7 +13,8 @@ use Rattle.layout.specs.LayoutOf.{D}
 use Rattle.entry.specs.Entry.{cutBytes, rowBytes}
 use Rattle.fields.specs.Sheet.{alignOf, defOf, idOf, isDecimal, isExtension, isPadding, isStruct, isSymbol, memberAlign, namesLabel, offOf, pastBase, sizeOf, typeOf}
 use Rattle.fields.specs.Field.{breaks71, breaks72, breaks73, breaks74, breaks76, breaks77, breaks79, breaks80, fieldFault}
-use Rattle.rules.specs.Rules.{rulesOf, seqsFault, structsFault, recordsFault, structFault, recordFault, seqFault, fieldsFault, baseFault, extFault, tilingFault, spans, structAlign, largest}
+use Rattle.item_rules.specs.Rules.{seqsFault, structsFault, recordsFault, structFault, recordFault, seqFault, fieldsFault, baseFault, extFault, tilingFault, spans, structAlign, largest}
+use Rattle.rules.specs.Rules.{rulesOf}
 use Rattle.rules.specs.RowRules.{rowsRules}
 use Rattle.writer.specs.Write.{writeLayout}
 use Rattle.writer.specs.RoundTripLaws.{accepts}

@@ -1,23 +1,19 @@
 -- Which numbers the rules give, of a layout and of rows.
 -- Assumes nothing.
-use Prim.Native.Nat.{ℕ, _%_, _≤_, zero-le}
+use Prim.Native.Nat.{ℕ, _≤_, zero-le}
 use native.Mathlib.Omega.{arith}
-use mathlib.Core.Path.{_≡_, refl, sym, subst, _∙_}
-use mathlib.Core.Bool.{Bool, true, false, not, cond}
+use mathlib.Core.Path.{_≡_, refl, sym, subst}
+use mathlib.Core.Bool.{Bool, true, false}
 use mathlib.Core.Logic.{_⊎_, inl, inr}
-use mathlib.Core.List.{List, [], _∷_, map}
-use lib.ListN.{length, getD}
-use lib.Dec.{ltb, eqb}
+use mathlib.Core.List.{List, map}
+use lib.ListN.{length}
+use lib.Dec.{eqb}
 use borrow.Author.Tests.{eqb-false}
 use Rattle.refusal.specs.declared.Refusal.{Refusal}
-use Rattle.codec.specs.Codec.{Res, ok, refuse, refusal, _>>=_, need, among}
+use Rattle.codec.specs.Codec.{Res, ok, refuse, refusal, _>>=_, need}
 use Rattle.codec.specs.Refusals.{Gives, In, Fault}
-use Rattle.codec.specs.RefusalLaws.{in-more, gives-more, gives-is, gives-then, gives-judged, fault-by}
+use Rattle.codec.specs.RefusalLaws.{in-more, gives-more, gives-is, gives-then, gives-judged}
 use Rattle.wire.specs.Reader.{allTests}
-use Rattle.fields.specs.Field.{fieldNumbers, fieldFault}
-use Rattle.fields.specs.RefusalLaws.{field-fault}
-use Rattle.fields.specs.Sheet.{idOf}
-use Rattle.plain_tiling.specs.Tile.{Span, sorted, walk}
 use Rattle.layout.specs.Layout.{Layout, Parts, fromLayout}
 use Rattle.layout.specs.LayoutOf.{layoutOf}
 use Rattle.layout.specs.Answers.{layoutNumbers, verdict}
@@ -29,88 +25,19 @@ use Rattle.rows_check.specs.Check.{faultNumbers, fault}
 use Rattle.rows_check.specs.RefusalLaws.{check-fault}
 use Rattle.rows_check.specs.AnswerLaws.{refused-told}
 use Rattle.rows_check.specs.declared.Sized.the-variants as Sized'
-use Rattle.rules.specs.Rules.{first, ruleNumbers, Seq, noted, spans, baseFault, extFault, tilingFault, structAlign, fieldsFault, seqFault, structFault, recordFault, structsFault, recordsFault, alignsOf, seqsFault, structSeq, recordSeq, rulesOf, ruledNumbers, ruledOf}
+use Rattle.item_rules.specs.Rules.{ruleNumbers, structSeq, recordSeq}
+use Rattle.item_rules.specs.RefusalLaws.{first-fault, seqs-fault}
+use Rattle.rules.specs.Rules.{rulesOf, ruledNumbers, ruledOf}
 use Rattle.rules.specs.RowRules.{rowRuleNumbers, rowsRules, rowsFault, ruledRows}
 
-module _ (P : ℕ → Type 0) where
-  first-fault : (a b : ℕ) → Fault P a → Fault P b → Fault P (first a b)
-  first-fault a b f g = fault-by P (eqb a 0) b a g f
+module _ (P : ℕ → Type 0) (h : (k : ℕ) → In ruleNumbers k → P k) where
+  pub rules-fault : (sheet : List ℕ) (width : ℕ) (t : Parts) → Fault P (rulesOf sheet width t)
+  unfolding rulesOf
+  rules-fault sheet width t = seqs-fault P h sheet width (map structSeq (t .1 .1 .0)) (map recordSeq (t .1 .0)) (length (t .1 .1 .1))
 
-  -- a number for a broken rule, or what the later rules give
-  broken-fault : (b : Bool) (k later : ℕ) → P k → Fault P later → Fault P (cond b k later)
-  broken-fault b k later p f = fault-by P b k later (λ _. p) f
-
-  none : Fault P 0
-  none z = absurd (z refl)
-
-  walk-fault : (gap : ℕ) (last : ℕ → ℕ) → P gap → ((c : ℕ) → Fault P (last c)) → (c : ℕ) (ss : List Span) → Fault P (walk gap last c ss)
-  walk-fault gap last p f c [] = f c
-  walk-fault gap last p f c (s ∷ ss) = fault-by P (eqb (s .0) c) (walk gap last (s .1) ss) gap (walk-fault gap last p f (s .1) ss) (λ _. p)
-
-  module _ (h : (k : ℕ) → In ruleNumbers k → P k) where
-    tiling-fault : (isRecord : Bool) (base : ℕ) (es : List (List ℕ)) → Fault P (tilingFault isRecord base es)
-    unfolding tilingFault baseFault extFault
-    tiling-fault isRecord base es =
-        first-fault (baseFault isRecord base es) (extFault isRecord base es)
-        (walk-fault 81 (λ c. cond (eqb c base) 0 82) (h 81 refl) (λ c. fault-by P (eqb c base) 0 82 none (λ _. h 82 refl)) 0 (sorted (spans isRecord base false es)))
-        (walk-fault 83 (λ c. 0) (h 83 refl) (λ c. none) base (sorted (spans isRecord base true es)))
-
-    module _ (sheet : List ℕ) (width labels : ℕ) (aligns : List ℕ) where
-      fields-fault : (isRecord : Bool) (base : ℕ) (ids : List ℕ) (es : List (List ℕ)) → Fault P (fieldsFault sheet width labels aligns isRecord base ids es)
-      unfolding fieldsFault
-      fields-fault isRecord base ids [] = none
-      fields-fault isRecord base ids (e ∷ es) =
-          first-fault (fieldFault sheet width labels aligns isRecord base (among (idOf e) ids) e) (fieldsFault sheet width labels aligns isRecord base (noted sheet e ids) es)
-          (field-fault P (λ k i. h k (in-more fieldNumbers ruleNumbers refl k i)) sheet width labels aligns isRecord base (among (idOf e) ids) e)
-          (fields-fault isRecord base (noted sheet e ids) es)
-
-      seq-fault : (isRecord : Bool) (q : Seq) → Fault P (seqFault sheet width labels aligns isRecord q)
-      unfolding seqFault
-      seq-fault isRecord q =
-          first-fault (fieldsFault sheet width labels aligns isRecord (q .base) [] (q .entries)) (tilingFault isRecord (q .base) (q .entries))
-          (fields-fault isRecord (q .base) [] (q .entries)) (tiling-fault isRecord (q .base) (q .entries))
-
-      struct-fault : (q : Seq) → Fault P (structFault sheet width labels aligns q)
-      unfolding structFault
-      struct-fault q = broken-fault (not (eqb (q .base % structAlign sheet (q .entries)) 0)) 60 (seqFault sheet width labels aligns false q) (h 60 refl) (seq-fault false q)
-
-      record-fault : (twice : Bool) (q : Seq) → Fault P (recordFault sheet width labels aligns twice q)
-      unfolding recordFault
-      record-fault twice q = go twice (eqb (q .rtype % 256) 78) (ltb (q .base) (getD sheet 518 0)) (not (eqb (q .base % 8) 0))
-        where
-          go : (a b c d : Bool) → Fault P (cond a 61 (cond b 62 (cond c 63 (cond d 64 (seqFault sheet width labels aligns true q)))))
-          go true b c d n = h 61 refl
-          go false true c d n = h 62 refl
-          go false false true d n = h 63 refl
-          go false false false true n = h 64 refl
-          go false false false false n = seq-fault true q n
-
-      structs-fault : (qs : List Seq) → Fault P (structsFault sheet width labels aligns qs)
-      unfolding structsFault
-      structs-fault [] = none
-      structs-fault (q ∷ qs) = first-fault (structFault sheet width labels aligns q) (structsFault sheet width labels aligns qs) (struct-fault q) (structs-fault qs)
-
-      records-fault : (seen : List ℕ) (qs : List Seq) → Fault P (recordsFault sheet width labels aligns seen qs)
-      unfolding recordsFault
-      records-fault seen [] = none
-      records-fault seen (q ∷ qs) =
-          first-fault (recordFault sheet width labels aligns (among (q .rtype) seen) q) (recordsFault sheet width labels aligns (q .rtype ∷ seen) qs)
-          (record-fault (among (q .rtype) seen) q) (records-fault (q .rtype ∷ seen) qs)
-
-    seqs-fault : (sheet : List ℕ) (width : ℕ) (structs records : List Seq) (labels : ℕ) → Fault P (seqsFault sheet width structs records labels)
-    unfolding seqsFault
-    seqs-fault sheet width structs records labels =
-        let aligns = alignsOf sheet structs in
-        first-fault (structsFault sheet width labels aligns structs) (recordsFault sheet width labels aligns [] records)
-        (structs-fault sheet width labels aligns structs) (records-fault sheet width labels aligns [] records)
-
-    pub rules-fault : (sheet : List ℕ) (width : ℕ) (t : Parts) → Fault P (rulesOf sheet width t)
-    unfolding rulesOf
-    rules-fault sheet width t = seqs-fault sheet width (map structSeq (t .1 .1 .0)) (map recordSeq (t .1 .0)) (length (t .1 .1 .1))
-
-    pub rows-fault : (sheet : List ℕ) (width : ℕ) (rows text : List ℕ) → Fault P (rowsRules sheet width rows text)
-    unfolding rowsRules
-    rows-fault sheet width rows text = rules-fault sheet width (fromLayout (treeOf 0 rows text) .0)
+  pub rows-fault : (sheet : List ℕ) (width : ℕ) (rows text : List ℕ) → Fault P (rowsRules sheet width rows text)
+  unfolding rowsRules
+  rows-fault sheet width rows text = rules-fault sheet width (fromLayout (treeOf 0 rows text) .0)
 
 module _ (sheet : List ℕ) (width : ℕ) where
   pub ruled-gives : (s : List ℕ) → Gives (In ruledNumbers) (ruledOf sheet width s)

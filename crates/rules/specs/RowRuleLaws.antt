@@ -2,19 +2,23 @@
 use Prim.Native.Nat.{ℕ}
 use mathlib.Core.Path.{_≡_, sym, ap, _∙_}
 use mathlib.Core.Bool.{Bool}
-use mathlib.Core.List.{List}
+use mathlib.Core.List.{List, map}
 use borrow.Author.Tests.{ne-eqb}
 use Rattle.refusal.specs.declared.Refusal.{Refusal}
 use Rattle.codec.specs.Codec.{refusal}
 use Rattle.layout.specs.Layout.{fromLayout}
-use Rattle.rows_check.specs.Tree.{treeOf}
+use Rattle.rows_check.specs.Tree.{kinds, treeOf}
 use Rattle.rows_check.specs.TreeLaws.{tree-records, tree-structs, tree-labels}
 use Rattle.rows_check.specs.Check.{fault}
+use Rattle.rows_check.specs.CheckLaws.{Formed}
 use Rattle.rows_check.specs.Answers.{sizedOf, sizedNumber}
 use Rattle.rows_check.specs.AnswerLaws.{Fitted, sized-length, made-is, made-told, refused-told, made-number}
 use Rattle.rows_check.specs.declared.Sized.the-variants.{Length, Refused}
+use Rattle.item_rules.specs.Rules.{seqsFault, structSeq, recordSeq}
+use Rattle.item_rules.specs.Standing.{tableFault}
+use Rattle.item_rules.specs.RowLaws.{table-is}
 use Rattle.rules.specs.Rules.{rulesOf}
-use Rattle.rules.specs.RuleLaws.{halves}
+use Rattle.item_rules.specs.RuleLaws.{halves}
 use Rattle.rules.specs.RowRules.{rowsRules, rowsFault, ruledRows}
 
 -- the rules see no version
@@ -22,6 +26,14 @@ pub rows-rules : (sheet : List ℕ) (width version : ℕ) (rows text : List ℕ)
 unfolding rowsRules rulesOf
 rows-rules sheet width version rows text =
     rw (tree-records version rows text, tree-structs version rows text, tree-labels version rows text, tree-records 0 rows text, tree-structs 0 rows text, tree-labels 0 rows text)
+
+-- they are what the records and structs of well-formed rows give
+pub rows-are : (sheet : List ℕ) (width : ℕ) (l t text : List ℕ) → Formed t text → {labels : ℕ} → labels ≡ kinds t 14 → {r : ℕ} → r ≡ tableFault sheet width labels l t (kinds t 10) (kinds t 13)
+    → r ≡ rowsRules sheet width t text
+unfolding rowsRules rulesOf
+rows-are sheet width l t text w {labels} n e =
+    e ∙ table-is l t text w sheet width labels
+    ∙ ap (seqsFault sheet width (map structSeq (treeOf 0 t text .structs)) (map recordSeq (treeOf 0 t text .records))) (n ∙ sym (tree-labels 0 t text))
 
 module _ (sheet : List ℕ) (width : ℕ) (whole : Bool) (rows text : List ℕ) where
   refused : {k : ℕ} → (k ≡ 0 → ⊥) → rowsFault sheet width whole rows text ≡ k → Refused (refusal k 0) ≡ ruledRows sheet width whole rows text

@@ -8,7 +8,8 @@ use Rattle.rows_check.specs.Tree.{treeOf}
 use Rattle.rows_check.specs.Check.{faultNumbers, fault}
 use Rattle.rows_check.specs.Answers.{made, unless}
 use Rattle.rows_check.specs.declared.Sized.{Sized}
-use Rattle.rules.specs.Rules.{first, ruleNumbers, rulesOf}
+use Rattle.item_rules.specs.Rules.{first, ruleNumbers}
+use Rattle.rules.specs.Rules.{rulesOf}
 
 -- the rules of the layout that rows stand for, whose version no rule sees
 unfoldable pub rowsRules : List ℕ → ℕ → List ℕ → List ℕ → ℕ

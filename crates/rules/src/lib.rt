@@ -1,4 +1,5 @@
 // The rules of a layout, numbers 60 to 83, over a layout's bytes or over rows.
+use item_rules::How;
 use layout::Answer;
 use layout::Verdict;
 use refusal::Refusal;
@@ -12,102 +13,6 @@ ghost use Rattle.rows_check.specs.Check.{wellFormed};
 ghost use Rattle.rules.specs.Rules.{ruledOf};
 ghost use Rattle.rules.specs.RowRules.{rowsRules, ruledRows};
 ghost use Rattle.rules.specs.LayoutRules.{Accepted, rulesIn};
-
-mod by_marks;
-mod by_search;
-mod entries;
-mod items;
-mod sequence;
-mod walk;
-
-// The entries of one record or struct: whether they lie in the rows or in the layout's bytes, how far apart, where the
-// first is and how many there are.
-pub struct Source {
-    pub rows: bool,
-    pub step: usize,
-    pub at: usize,
-    pub count: usize,
-}
-
-// How far a walk over the entries has come: whether each of either side began where the one before it on that side ends; and where the
-// next of the base and the next past the base are to begin.
-pub struct Course {
-    pub in_order: bool,
-    pub cursor: usize,
-    pub beyond: usize,
-}
-
-// What one walk over the entries tells: the first of numbers 71 to 80, or 0; whether each entry of either side begins where the one
-// before it on that side ends; and where the last of the base ends.
-pub struct Walked {
-    pub fault: u32,
-    pub in_order: bool,
-    pub end: usize,
-}
-
-// What a search finds: the end of an entry, or 0, and the entries after it.
-pub struct Hit {
-    pub end: usize,
-    pub rest: Source,
-}
-
-// A search that may go back to the front: whether it gave up before it did, what it found, and how many looks it left over.
-pub struct Turn {
-    pub quit: bool,
-    pub hit: Hit,
-    pub spare: usize,
-}
-
-// How far a chase went: whether it gave up, the entries used, and where the last ends.
-pub struct Chased {
-    pub quit: bool,
-    pub used: usize,
-    pub cursor: usize,
-}
-
-// What marking entries came to: whether two of them overlap, and where the furthest of those marked ends.
-pub struct Painted {
-    pub clash: bool,
-    pub top: usize,
-}
-
-// Records or structs yet to come, as many as are left: in the rows, from row `at` on, or in the layout's bytes, from place `at` on.
-pub struct Place {
-    pub rows: bool,
-    pub at: usize,
-    pub left: usize,
-}
-
-// A record, or a struct of rtype 0: its base size or its size, and its entries.
-pub struct Item {
-    pub rtype: u16,
-    pub base: usize,
-    pub entries: Source,
-}
-
-// How records and structs are ruled on, the same for all: the symbol width, how many label defs there are, and whether all of 81 to 83
-// are found by marks.
-pub struct How {
-    pub width: usize,
-    pub labels: usize,
-    pub by_marks: bool,
-}
-
-// What is ruled on: the structs, the records, and how.
-pub struct Task {
-    pub structs: Place,
-    pub records: Place,
-    pub how: How,
-}
-
-// The next record or struct, and what comes after it.
-pub enum Next {
-    Found(Item, Place),
-    End,
-}
-
-// The answer where a search has looked too often, or a record or a struct reaches past the owners lent: no number of document 01.
-pub(crate) const GAVE_UP: u32 = 65536;
 
 // The verdict on a layout given with a symbol width: 13, then the layout, then its rules. Its version and how many rows
 // it has, or the refusal. The answer is the same by either engine: where `by_marks` holds all of 81 to 83 are found by marks.
@@ -189,30 +94,12 @@ fn layout_rules(layout: &[u8], sheet: &[u16; 520], width: usize, by_marks: bool)
     ensures { λ r. ⌜ r ≡ rulesIn (now (sheet .entry)) width (layoutOf (now (layout .entry))) ⌝ }
 {
     let none = [0u32; 1];
-    let records = Place {
-        rows: false,
-        at: 4,
-        left: walk::half(layout, 2),
-    };
-    let p = walk::end(layout, &none, true, records);
-    let structs = Place {
-        rows: false,
-        at: p + 2,
-        left: walk::half(layout, p),
-    };
-    let q = walk::end(layout, &none, false, structs);
-    let labels = walk::half(layout, q);
     let how = How {
         width,
-        labels,
+        labels: 0,
         by_marks,
     };
-    let task = Task {
-        structs,
-        records,
-        how,
-    };
-    items::rules(sheet, layout, &none, task)
+    item_rules::check_items(sheet, layout, &none, false, 0, 0, how)
 }
 
 // The rules of well-formed rows with so many records, structs and label defs: the first number that they give, or 0.
@@ -222,20 +109,5 @@ fn formed_rules(rows: &[u32], text: &[u8], sheet: &[u16; 520], r: usize, s: usiz
     ensures { λ x. ⌜ x ≡ rowsRules (now (sheet .entry)) (how .width) (now (rows .entry)) (now (text .entry)) ⌝ }
 {
     let none = [0u8; 1];
-    let records = Place {
-        rows: true,
-        at: 0,
-        left: r,
-    };
-    let structs = Place {
-        rows: true,
-        at: walk::end(&none, rows, true, records),
-        left: s,
-    };
-    let task = Task {
-        structs,
-        records,
-        how,
-    };
-    items::rules(sheet, &none, rows, task)
+    item_rules::check_items(sheet, &none, rows, true, r, s, how)
 }

@@ -1,0 +1,16 @@
+-- No owners are lent. Assumes nothing.
+use native.Mathlib.Omega.{arith}
+use borrow.Author.Needs.{needs}
+use Rattle.plain_tiling.specs.MarkingLaws.{unowned}
+use Rattle.item_rules.specs.TriedLaws.{tried-none}
+use Rattle.item_rules.proofs.items.rules_searched.Statement.{statement}
+use Rattle.item_rules.proofs.items.rules_searched.Tie as tie
+
+rules-few-requires : tie.Need-rules-few-requires
+rules-few-requires c κs = (c .before .before .before .pre .0, (c .before .before .before .pre .1, unowned 0 (omega arith)))
+
+returns : tie.Need-returns
+returns c = tried-none (c .before .rules-few .ensures)
+
+pub rules-searched-spec : {M : Type 1} → statement M
+rules-searched-spec = tie.close (tie.spec (λ c. search needs) rules-few-requires returns)
