@@ -161,7 +161,7 @@ fn section_rules(sheet: &[u16; 520], layout: &[u8], rows: &[u32], how: How) -> u
     let records = Place {
         rows: false,
         at: 4,
-        left: numbers::u16_of(layout, 2),
+        left: filled_numbers::u16_of(layout, 2),
     };
     let p = walk::reach(layout, rows, true, records);
     if p.stands {
@@ -169,7 +169,7 @@ fn section_rules(sheet: &[u16; 520], layout: &[u8], rows: &[u32], how: How) -> u
             let structs = Place {
                 rows: false,
                 at: p.at + 2,
-                left: numbers::u16_of(layout, p.at),
+                left: filled_numbers::u16_of(layout, p.at),
             };
             return counted_rules(sheet, layout, rows, structs, records, how);
         }
@@ -194,7 +194,7 @@ fn counted_rules(
     if q.stands {
         let so = How {
             width: how.width,
-            labels: numbers::u16_of(layout, q.at),
+            labels: filled_numbers::u16_of(layout, q.at),
             by_marks: how.by_marks,
         };
         let task = Task {

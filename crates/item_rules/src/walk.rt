@@ -172,7 +172,7 @@ pub(crate) fn next_item(layout: &[u8], rows: &[u32], is_record: bool, place: Pla
 fn section_lies(layout: &[u8], is_record: bool, at: usize) -> bool
     ensures { λ r. ⌜ r ≡ sectionLies «is_record» (now (layout .entry)) at ⌝ }
 {
-    let size = numbers::u16_of(layout, at);
+    let size = filled_numbers::u16_of(layout, at);
     if numbers::left(layout, at) < size {
         return false;
     }
