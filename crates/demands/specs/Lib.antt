@@ -26,3 +26,6 @@ pub mod PlainSameLaws
 pub mod FirstLaws
 pub mod TidyExactly
 pub mod Witnesses
+pub mod HouseRead
+pub mod HouseChanged
+pub mod HouseStart

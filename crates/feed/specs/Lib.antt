@@ -7,3 +7,4 @@ pub mod LeastLaws
 pub mod PieceLaws
 pub mod NeverPastLaws
 pub mod Examples
+pub mod AnswerLaws

@@ -3,11 +3,11 @@
 use Prim.Native.Nat.{ℕ, _+_, _-_, _≤_}
 use native.Mathlib.Nat.{add-zero, zero-add, add-assoc}
 use native.Mathlib.Omega.{arith}
-use mathlib.Core.Path.{_≡_, refl, sym, ap, _∙_}
+use mathlib.Core.Path.{_≡_, refl, sym, ap, _∙_, ap₂}
 use mathlib.Core.Bool.{Bool, true, false}
 use mathlib.Core.List.{List, [], _++_, append-assoc, append-nil}
 use lib.ListN.{length, take, drop, length-append, length-take, length-drop, take-append-drop, drop-of-length-le}
-use lib.Seq.{length-take-le, take-at, drop-at, take-append-le, take-take, drop-drop, take-all}
+use lib.Seq.{length-take-le, take-append-seam, take-at, drop-at, take-append-le, take-take, drop-drop, take-all}
 use lib.Dec.{leb}
 use borrow.Author.Tests.{leb-true, le-leb}
 use Rattle.put.specs.Output.{put, RoomFor, Wrote, Filled, Stored}
@@ -72,6 +72,14 @@ wrote-length {at} {bs} {o} w = ap length (w .bytes) ∙ put-length at bs o (w .r
 
 pub wrote-is : {at : ℕ} {xs ys o o′ : List ℕ} {a : ℕ} → Wrote at xs o o′ a → xs ≡ ys → Wrote at ys o o′ a
 wrote-is w e = rw e at w
+
+-- what was stored stands there
+pub wrote-part : {at : ℕ} {bs o o′ : List ℕ} {r : ℕ} → Wrote at bs o o′ r → take (r - at) (drop at o′) ≡ bs
+unfolding put
+wrote-part {at} {bs} {o} {r = r} w =
+    let n : r - at ≡ length bs = omega (arith, w .next) in
+    let h : length (take at o) ≡ at = length-take-le at o (omega (arith, w .room)) in
+    ap₂ (λ m (l : List ℕ). take m l) n (ap (λ (l : List ℕ). drop at l) (w .bytes) ∙ drop-at (take at o) (bs ++ drop (at + length bs) o) at h) ∙ take-append-seam bs (drop (at + length bs) o)
 
 -- one after the other
 pub wrote-then : {at : ℕ} {xs ys o o′ o″ : List ℕ} {a b : ℕ} → Wrote at xs o o′ a → Wrote a ys o′ o″ b → Wrote at (xs ++ ys) o o″ b

@@ -8,11 +8,17 @@ ghost use lib.Dec.{leb};
 ghost use Rattle.codec.specs.Codec.{little};
 ghost use Rattle.put.specs.Output.{RoomFor, Wrote, Stored};
 
+// So many bytes are stored byte by byte: fewer are done sooner by fours.
+const MANY: usize = 64;
+
 // The bytes of src.
 pub fn put_bytes(out: &mut [u8], at: usize, src: &[u8]) -> usize
     ensures { λ r. ⌜ Stored at (now (src .entry)) (now (out .entry)) (now (out .exit)) r ⌝ }
 {
     if has_room(out.len(), at, src.len()) {
+        if MANY <= src.len() {
+            return store_each(out, at, src);
+        }
         return store_bytes(out, at, src);
     }
     at
@@ -54,7 +60,7 @@ fn store_bytes(out: &mut [u8], at: usize, src: &[u8]) -> usize
     ensures { λ r. ⌜ Wrote at (now (src .entry)) (now (out .entry)) (now (out .exit)) r ⌝ }
 {
     if src.len() < 4 {
-        return store_few(out, at, src);
+        return store_each(out, at, src);
     }
     let last = src.len() - 4;
     let mut a = store_four(out, at, src[0], src[1], src[2], src[3]);
@@ -73,7 +79,8 @@ fn store_bytes(out: &mut [u8], at: usize, src: &[u8]) -> usize
     )
 }
 
-fn store_few(out: &mut [u8], at: usize, src: &[u8]) -> usize
+// Byte by byte, which the compiler turns into wide steps: for the few bytes of a short source, and for many.
+fn store_each(out: &mut [u8], at: usize, src: &[u8]) -> usize
     requires { ⌜ RoomFor at (now src) (now out) ⌝ }
     ensures { λ r. ⌜ Wrote at (now (src .entry)) (now (out .entry)) (now (out .exit)) r ⌝ }
 {

@@ -190,3 +190,14 @@ pub const CODES_NOT_RISING: u32 = 121;
 pub const SKIPPED_NOT_ZERO: u32 = 122;
 
 pub const LEFTOVER_AFTER_LABELS: u32 = 123;
+
+// A house file.
+pub const HOUSE_LENGTH: u32 = 130;
+
+pub const HOUSE_CHECK: u32 = 131;
+
+pub const HOUSE_INDEX: u32 = 132;
+
+pub const HOUSE_USED: u32 = 133;
+
+pub const HOUSE_NEEDS: u32 = 134;

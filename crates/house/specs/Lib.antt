@@ -1,0 +1,4 @@
+pub mod Start
+pub mod StartLaws
+pub mod Single
+pub mod RefusalLaws

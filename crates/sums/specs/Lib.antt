@@ -1,0 +1,4 @@
+pub mod Sums
+pub mod SumLaws
+pub mod Single
+pub mod Examples
