@@ -5,19 +5,19 @@
  *
  * Places. A refusal from reading, 10 to 12 and 20 to 55, also has a place (dbn_has_place), the byte where it happened: the first byte of the
  * number or text that broke its rule, or where something was to begin that does not fit, which may be the end of the bytes; for 28 the first
- * byte that the contents do not reach. It counts from the prelude for 10 to 12, and else from the block or the layout that was given; from
- * the block in dbn_feed, too. What dbn_tidy finds untidy, 120 to 123, has a place as well, counted from the layout. docs/REFUSALS.md has the
- * place and the smallest input of every such number. dbn_write_block, which reads no block, refuses by some of the numbers from reading too,
- * and then without a place.
+ * byte that the contents do not reach. It counts from the prelude for 10 to 12, and else from the block or the layout that was given; from the
+ * block in dbn_feed, dbn_house_store and dbn_house_load, too. What dbn_tidy finds untidy, 120 to 123, has a place as well, counted from the
+ * layout. docs/REFUSALS.md has the place and the smallest input of every such number. dbn_write_block, which reads no block, refuses by some of
+ * the numbers from reading too, and then without a place.
  *
  * Buffers. A slice is a pointer and a length in elements. It may be NULL where the length is 0, and is not read then; `sheet`, `fields` and
  * `out` are never NULL. A pointer is aligned for its element: 2 bytes for uint16_t, 4 for uint32_t, 8 for uint64_t. A buffer that is lent for
  * writing (store, symbology, layout, rows, output, out, where they are not const) overlaps no other buffer of the call; two that are
  * only read may. size_t has 64 bits. Nothing is kept after a call, nothing is allocated, and any number of threads may call at once.
  *
- * What is written. Cells of a table that are none of its rows', output past the written length and the store past the bytes held are
- * untouched. `out` is written only as said here, and what is not named keeps its value. A refusal leaves tables and output as they were;
- * only the store of dbn_feed and of dbn_frame keeps the bytes it took, and a refusal by 3 tells the rows needed.
+ * What is written. Cells of a table that are none of its rows', output past the written length and the store past the bytes held are untouched.
+ * `out` is written only as said here, and what is not named keeps its value. A refusal leaves tables and output as they were; only the store of
+ * dbn_feed and of dbn_frame keeps the bytes it took, that of dbn_house_load what a sound file holds, and a refusal by 3 tells the rows needed.
  *
  * Names. A dataset or symbol comes without the NULs that fill its width, and holds none: after a NUL only NULs may follow. One that is as
  * long as its width has no NUL after it, so go by its length and not to the next NUL. A layout's names hold no NUL, and one follows each.
@@ -29,8 +29,8 @@
  * Stack, in bytes that a call needs at the most:
  *     dbn_text, dbn_date, dbn_day, dbn_prelude, dbn_symbology_name,
  *     dbn_layout_name, dbn_frame                                               4 KiB
- *     dbn_block, dbn_feed, dbn_layout, dbn_tidy, dbn_write_layout,
- *     dbn_write_block                                                         32 KiB
+ *     dbn_block, dbn_feed, dbn_house_store, dbn_house_load, dbn_layout,
+ *     dbn_tidy, dbn_write_layout, dbn_write_block                             32 KiB
  *     the same for a layout of more than 4,096 structs, or with a record
  *     or struct whose fields stand far from the order of their offsets       320 KiB
  *     dbn_layout_plain                                                        64 KiB
@@ -50,7 +50,7 @@
 
 /* The version of this header, major x 10000 + minor x 100 + patch. */
 #define DBN_START_VERSION_MAJOR 0
-#define DBN_START_VERSION_MINOR 11
+#define DBN_START_VERSION_MINOR 12
 #define DBN_START_VERSION_PATCH 0
 #define DBN_START_VERSION (DBN_START_VERSION_MAJOR * 10000 + DBN_START_VERSION_MINOR * 100 + DBN_START_VERSION_PATCH)
 
@@ -129,18 +129,23 @@ extern "C" {
     X(FRAME_STORE_SHORT, 101, "the store is too short for a record's header or for the record")    \
     X(START_MALFORMED, 110, "the symbology rows, texts or fields to write are malformed")          \
     X(TEXT_WIDE, 111, "a symbol or the dataset is too wide, or a width in version 1 is not 22")    \
-    X(START_OUTPUT_SHORT, 112, "the output is too short for the prelude and the block")            \
+    X(START_OUTPUT_SHORT, 112, "the output is too short for the start or its house file")          \
     X(LEFTOVER_IN_SECTION, 120, "bytes are left over in a section")                                \
     X(CODES_NOT_RISING, 121, "a label's code is not above the one before it")                      \
     X(SKIPPED_NOT_ZERO, 122, "a skipped byte of an entry is not zero")                             \
-    X(LEFTOVER_AFTER_LABELS, 123, "bytes are left over after the label defs")
+    X(LEFTOVER_AFTER_LABELS, 123, "bytes are left over after the label defs")                      \
+    X(HOUSE_LENGTH, 130, "a house file does not have 1 to 65,536 blocks of 512 bytes")             \
+    X(HOUSE_CHECK, 131, "the check words of a house file's block are wrong")                       \
+    X(HOUSE_INDEX, 132, "the index of a house file's block is not its place in the file")          \
+    X(HOUSE_USED, 133, "the used count of a house file's block is wrong, or its filler not zero")  \
+    X(HOUSE_NEEDS, 134, "the start of a house file ends before its prelude or its block does")
 
 enum dbn_refusal {
     DBN_ACCEPTED = 0,
 #define DBN_NAMED(name, number, sentence) DBN_REFUSED_##name = number,
     DBN_REFUSALS(DBN_NAMED)
 #undef DBN_NAMED
-    DBN_REFUSED_LAST = DBN_REFUSED_LEFTOVER_AFTER_LABELS
+    DBN_REFUSED_LAST = DBN_REFUSED_HOUSE_NEEDS
 };
 
 /* What a number says, in a few words. */
@@ -235,7 +240,7 @@ enum dbn_layout_kind {
     DBN_KIND_LABEL = 15       /* start, length, code */
 };
 
-/* The places of `out`: of dbn_block and dbn_feed, and in part of dbn_layout, dbn_layout_plain and dbn_tidy. */
+/* The places of `out`: of dbn_block, dbn_feed and dbn_house_load, and in part of dbn_layout, dbn_layout_plain, dbn_tidy and dbn_house_store. */
 enum dbn_out {
     DBN_OUT_DATASET_LENGTH = 0, /* the dataset is the block's first bytes */
     DBN_OUT_SCHEMA = 1,
@@ -251,7 +256,7 @@ enum dbn_out {
     DBN_OUT_LAYOUT_ROWS = 11,
     DBN_OUT_PRESENT = 12, /* the bits of enum dbn_present */
     DBN_OUT_PLACE = 13,   /* of a refusal that has one */
-    DBN_OUT_TAKEN = 16,   /* from here on dbn_feed alone */
+    DBN_OUT_TAKEN = 16,   /* from here on dbn_feed and dbn_house_load alone */
     DBN_OUT_HELD = 17,
     DBN_OUT_NEEDED = 18
 };
@@ -261,12 +266,21 @@ enum dbn_date_out { DBN_DATE_DAY = 0 };
 enum dbn_day_out { DBN_DAY_DATE = 0 };
 enum dbn_prelude_out { DBN_PRELUDE_MISSING = 0, DBN_PRELUDE_VERSION = 1, DBN_PRELUDE_LENGTH = 2, DBN_PRELUDE_PLACE = 3 };
 enum dbn_write_out { DBN_WRITE_LENGTH = 0 };
+enum dbn_house_out { DBN_HOUSE_LENGTH = 0 }; /* of dbn_house_store */
 enum dbn_name_out { DBN_NAME_START = 0, DBN_NAME_LENGTH = 1 };
 enum dbn_frame_out { DBN_FRAME_TAKEN = 0, DBN_FRAME_HELD = 1, DBN_FRAME_NEEDED = 2, DBN_FRAME_LENGTH = 3, DBN_FRAME_RTYPE = 4 };
 
 /* The bytes of a record's header, which are the fewest that a record has, and the most that one has. A store of DBN_FRAME_MOST bytes is never
  * refused by 101. */
 enum dbn_frame_size { DBN_FRAME_HEADER = 16, DBN_FRAME_MOST = 1020 };
+
+/* A house file: the bytes of a block, those of its payload, and the most blocks. */
+enum dbn_house_size { DBN_HOUSE_BLOCK = 512, DBN_HOUSE_PAYLOAD = 504, DBN_HOUSE_MOST = 65536 };
+
+/* How long the house file of a start of n bytes is. */
+static inline size_t dbn_house_length(size_t n) {
+    return (n / DBN_HOUSE_PAYLOAD + (n % DBN_HOUSE_PAYLOAD > 0)) * DBN_HOUSE_BLOCK;
+}
 
 /* The largest day number, that of 31 December of year 9999. */
 enum dbn_day_number { DBN_DAY_LAST = 3652424 };
@@ -331,6 +345,30 @@ uint32_t dbn_feed(uint64_t held, uint8_t *store, size_t storelen, const uint8_t 
  * for a held count beyond the record. A refusal ends the records, as the next one's start is unknown; after 101 a call with a longer
  * store that begins with the same bytes goes on. Records of version 4 are left to the caller. */
 uint32_t dbn_frame(uint64_t held, uint8_t *store, size_t storelen, const uint8_t *piece, size_t n, uint64_t out[5]);
+
+/* Stores the start of a stream, prelude and block, in a house file: blocks of 512 bytes, each its index from 0, its count of used bytes, 504
+ * payload bytes, zeros after the used ones, and two check words a and b; every number has two bytes, the low one first. Over the 254 words of
+ * two bytes before them a is the sum and b the sum of the running sums of a, both modulo 65535. Every block but the last is full, and the last
+ * has at least one used byte. 0: out[DBN_HOUSE_LENGTH] is the length written, which dbn_house_length tells before.
+ *
+ * Refused as the reader refuses the n bytes where dbn_feed holds them in a store that is long enough, 3 apart, since no table is lent: 10 to 12,
+ * 1 for bytes after the block, 134 where bytes are still needed, which is so below 8 bytes too, and what refuses the block. Then 130 above
+ * 65,536 blocks, which are 33,030,144 bytes of a start, then 112 for an output below the length. 10 to 12 and 20 to 55: out[DBN_OUT_PLACE] is
+ * the place, as dbn_feed counts it. A refusal leaves the output as it was. */
+uint32_t dbn_house_store(const uint8_t *stream, size_t n, const uint16_t sheet[520], uint8_t *output, size_t on, uint64_t out[16]);
+
+/* Loads a house file of fn bytes: the bytes that it holds come to the front of the store, and are read as dbn_feed reads held bytes. What was
+ * stored comes back as it was, and a file with any one byte changed is refused, by 131. A word of 0 and one of 65535 are alike to both sums, so
+ * that where one stands for the other in the bytes held, the check words do not tell it.
+ *
+ * Refused first by 130 for a length that is zero, not of 512 or above 65,536 blocks; then, block by block, 131 for its check words, 132 for its
+ * index, 133 for its used count or for filler that is not zero; then 1 for a store below the bytes held. These leave store, tables and `out` as
+ * they were. Else out[DBN_OUT_TAKEN] is 0, out[DBN_OUT_HELD] the count of the bytes held, and number, tables and the rest of `out` are those of
+ * dbn_feed with so many bytes held and an empty piece; but where that still needs bytes, which out[DBN_OUT_NEEDED] counts, the number is 134. So
+ * 0 is an accepted start; after 3 or 2 a call with longer tables or a longer store goes on. A store of 504 bytes for each block holds what any
+ * file holds, and 2 then means that the file ends before the start does. 130 to 134 have no place. */
+uint32_t dbn_house_load(const uint8_t *file, size_t fn, uint8_t *store, size_t storelen, const uint16_t sheet[520], uint32_t *symbology, size_t sn,
+                        uint32_t *layout, size_t ln, uint64_t out[20]);
 
 /* Reads a layout given with a symbol width, its rows into the table of rn numbers. 0: out[DBN_OUT_LAYOUT_VERSION] is the layout's version,
  * out[DBN_OUT_LAYOUT_ROWS] the rows. 3: out[DBN_OUT_LAYOUT_ROWS] is the rows needed. 50 to 55: out[DBN_OUT_PLACE] is the place in the layout. */

@@ -2,6 +2,7 @@
 use crate::{
     after_nul, aimed, calls, columns,
     gen::{self, Rng, Sheet},
+    house,
     of_crate::{Answer, Build, BUILDS},
     ours,
     paper::{self, Stage},
@@ -58,6 +59,7 @@ impl Made {
 pub fn run(inputs: u64, seed: u64) -> Tally {
     let mut tally = Tally::default();
     let (mut r, mut of_tidy) = (Rng::new(seed ^ 0x0DB0_57A7), Rng::new(seed ^ 0x71D1));
+    let mut of_house = Rng::new(seed ^ 0x40E5);
     let mut made = Made::new(&mut r);
     for i in 0..inputs {
         if i % 50 == 0 {
@@ -65,6 +67,7 @@ pub fn run(inputs: u64, seed: u64) -> Tally {
             made.install();
         }
         tidy::made(&mut of_tidy, &made, &mut tally);
+        house::made(&mut of_house, &made.sheet, &mut tally);
         // Tables of more rows than can be counted take long, so they come seldom.
         if i % 150 == 0 {
             long_rows(&mut r, &made.sheet, &mut tally);

@@ -4,11 +4,13 @@ mod aimed;
 mod bench;
 mod compare;
 mod frames;
+mod house;
 mod of_crate;
 mod ours;
 #[cfg(test)]
 mod page;
 mod paper;
+mod paper_house;
 mod paper_start;
 mod sample;
 mod tally;

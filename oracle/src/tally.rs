@@ -71,11 +71,23 @@ struct Tidy {
     by_crate: u64,
 }
 
+/// What storing a start in a house file, and loading one, is to be answered to often enough.
+const OF_STORED: [u32; 4] = [0, 1, 112, 134];
+const OF_LOADED: [u32; 8] = [0, 1, 2, 130, 131, 132, 133, 134];
+
+/// Counts of house files: how often each number was agreed on, 0 for accepted.
+#[derive(Default)]
+struct House {
+    stored: BTreeMap<u32, u64>,
+    loaded: BTreeMap<u32, u64>,
+}
+
 /// Counts of a run.
 #[derive(Default)]
 pub struct Tally {
     counts: BTreeMap<Beside, Counts>,
     tidy: Tidy,
+    house: House,
     unexplained: Vec<String>,
 }
 
@@ -109,6 +121,22 @@ impl Tally {
         }
     }
 
+    /// Counts a start that was to be stored in a house file, by the number that was agreed on.
+    pub fn add_stored(&mut self, agreed: Result<u32, String>) {
+        match agreed {
+            Ok(number) => *self.house.stored.entry(number).or_default() += 1,
+            Err(text) => self.unexplained("starts that are stored", text),
+        }
+    }
+
+    /// Counts a house file that was to be loaded, by the number that was agreed on.
+    pub fn add_loaded(&mut self, agreed: Result<u32, String>) {
+        match agreed {
+            Ok(number) => *self.house.loaded.entry(number).or_default() += 1,
+            Err(text) => self.unexplained("house files", text),
+        }
+    }
+
     fn unexplained(&mut self, what: &str, text: String) {
         if self.unexplained.len() < 20 {
             eprintln!("unexplained, {what}: {text}");
@@ -128,7 +156,8 @@ impl Tally {
             counts.print(beside == Beside::Crate);
             enough &= floor(&counts.hits, &numbers, if inputs < SHORT * FLOOR { 0 } else { inputs / FLOOR });
         }
-        enough &= self.tidy.print(if inputs < SHORT * FLOOR { 0 } else { inputs / FLOOR });
+        let most = if inputs < SHORT * FLOOR { 0 } else { inputs / FLOOR };
+        enough &= self.tidy.print(most) & self.house.print(most);
         println!("unexplained {}", self.unexplained.len());
         enough && self.unexplained.is_empty()
     }
@@ -167,6 +196,22 @@ impl Tidy {
         println!("  answers, 0 for yes {}", answers.join(" "));
         println!("  written again by the crate, the same bytes exactly where tidy, and tidy then {}", self.by_crate);
         floor(&self.hits, &OF_TIDY, most)
+    }
+}
+
+impl House {
+    /// Prints the counts. True where each number was agreed on often enough.
+    fn print(&self, most: u64) -> bool {
+        let parts = [
+            ("stored in house files", &self.stored, &OF_STORED[..]),
+            ("loaded from house files", &self.loaded, &OF_LOADED),
+        ];
+        parts.into_iter().fold(true, |enough, (what, hits, numbers)| {
+            println!("{what} {}", hits.values().sum::<u64>());
+            let answers: Vec<String> = hits.iter().map(|(number, count)| format!("{number}:{count}")).collect();
+            println!("  answers, 0 for accepted {}", answers.join(" "));
+            floor(hits, numbers, most) & enough
+        })
     }
 }
 

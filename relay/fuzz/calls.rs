@@ -101,6 +101,44 @@ pub fn feed(
     }
 }
 
+/// What the load of a house file left.
+pub fn house_load(
+    file: &[u8],
+    store: &[u8],
+    sheet: &[u16; 520],
+    symbology: &[u32],
+    layout: &[u32],
+    out: &[u64; 20],
+) -> FeedAnswer {
+    let (bytes, lent_sheet) = (Lent::new(file), Lent::new(sheet));
+    let (mut first, mut second) = (Lent::new(symbology), Lent::new(layout));
+    let (mut kept, mut values) = (Lent::new(store), Lent::new(out));
+    // SAFETY: every pointer is to a buffer of the given length, and no two overlap.
+    let number = unsafe {
+        ffi::dbn_house_load(
+            bytes.at(),
+            file.len(),
+            kept.at_mut(),
+            store.len(),
+            lent_sheet.at().cast(),
+            first.at_mut(),
+            symbology.len(),
+            second.at_mut(),
+            layout.len(),
+            values.at_mut().cast(),
+        )
+    };
+    bytes.unchanged("the file", file);
+    lent_sheet.unchanged("the sheet", sheet);
+    FeedAnswer {
+        number,
+        out: values.content("out").try_into().unwrap(),
+        store: kept.content("the store").to_vec(),
+        symbology: first.content("the symbology table").to_vec(),
+        layout: second.content("the layout table").to_vec(),
+    }
+}
+
 /// What a call for a record left.
 #[derive(Debug, Clone, PartialEq)]
 pub struct FrameAnswer {
@@ -210,6 +248,26 @@ pub fn write(
     names.unchanged("the text", text);
     lent_sheet.unchanged("the sheet", sheet);
     WriteAnswer { number, out: values.content("out").try_into().unwrap(), output: bytes.content("the output").to_vec() }
+}
+
+/// What storing a start in a house file left.
+pub fn house_store(stream: &[u8], sheet: &[u16; 520], output: &[u8], out: &[u64; 16]) -> WriteAnswer {
+    let (bytes, lent_sheet) = (Lent::new(stream), Lent::new(sheet));
+    let (mut file, mut values) = (Lent::new(output), Lent::new(out));
+    // SAFETY: every pointer is to a buffer of the given length, and no two overlap.
+    let number = unsafe {
+        ffi::dbn_house_store(
+            bytes.at(),
+            stream.len(),
+            lent_sheet.at().cast(),
+            file.at_mut(),
+            output.len(),
+            values.at_mut().cast(),
+        )
+    };
+    bytes.unchanged("the stream", stream);
+    lent_sheet.unchanged("the sheet", sheet);
+    WriteAnswer { number, out: values.content("out").try_into().unwrap(), output: file.content("the output").to_vec() }
 }
 
 /// What the block writer is lent for reading, the sheet apart.

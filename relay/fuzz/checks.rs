@@ -18,7 +18,8 @@ pub fn marked_out<const N: usize>(r: &mut Rng) -> [u64; N] {
 
 /// Counts an answer: 0 with nothing needed, 0 with bytes needed, or a refusal, whose number must be of the table.
 pub fn tell(count: &mut Count, number: u32, needed: u64) {
-    let table = [0..=3, 10..=13, 20..=45, 50..=55, 60..=64, 71..=83, 90..=96, 100..=101, 110..=112, 120..=123];
+    let table =
+        [0..=3, 10..=13, 20..=45, 50..=55, 60..=64, 71..=83, 90..=96, 100..=101, 110..=112, 120..=123, 130..=134];
     assert!(table.iter().any(|numbers| numbers.contains(&number)), "{number} is no number of the table");
     count.calls += 1;
     match (number, needed) {

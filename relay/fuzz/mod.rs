@@ -8,13 +8,15 @@
 //! interval has the day numbers of its stored dates, and days and dates turn into each other; an interval has the row of its mapping, and every
 //! other row its own; a block that was read is written, in any version, and what the block writer accepts reads back; records stand one after
 //! the other, each as long as its first byte says; a layout is tidy exactly if it is written again as the same bytes, and what is untidy is told first
-//! by place; what a writer gives is tidy.
+//! by place; what a writer gives is tidy; a start is stored in a house file as a plain program packs it, and comes back; a file is loaded as a plain
+//! program unpacks it and the feed then reads it, and any one changed byte is refused.
 pub mod calls;
 mod checks;
 mod columns;
 mod days;
 mod frames;
 pub mod gen;
+pub mod house;
 mod names;
 mod owners;
 mod starts;
@@ -61,11 +63,12 @@ pub fn run(first: u64, end: u64, seed: u64) -> Count {
             1 => gen::Sheet::random(&mut r),
             _ => gen::plain_sheet(),
         };
-        match r.below(9) {
+        match r.below(10) {
             0..=3 => checks::stream(&mut r, &sheet, &mut count),
             4..=5 => checks::layout(&mut r, &sheet, &mut count),
             6 => checks::spoiled_layout(&mut r, &sheet, &mut count),
             7 => frames::records(&mut r, &mut count),
+            8 => house::files(&mut r, &sheet, &mut count),
             _ => checks::anything(&mut r, &sheet, &mut count),
         }
         count.inputs += 1;

@@ -3,6 +3,7 @@
 pub mod calls;
 pub mod frames;
 pub mod hostile;
+pub mod house;
 pub mod shapes;
 pub mod written;
 

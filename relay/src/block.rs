@@ -13,7 +13,7 @@ const WITH_LAYOUT: u8 = 4;
 /// The fewest bytes of a block that a row of symbology is guessed for.
 const SYMBOL_LEAST: usize = 16;
 /// What is lent where a stream has no layout to judge.
-const NO_TYPES: &[u16; ffi::SHEET] = &[0; ffi::SHEET];
+pub(crate) const NO_TYPES: &[u16; ffi::SHEET] = &[0; ffi::SHEET];
 
 /// The sheet to lend for a version. Below version 4 any will do, since nothing is judged by it.
 pub(crate) fn lent(version: u8, sheet: Option<&Sheet>) -> Result<&[u16; ffi::SHEET], Refusal> {

@@ -29,6 +29,15 @@ pub const DATASET_START: usize = 13;
 /// The largest day number, that of 31 December of year 9999. 1 January of year 0 has the number 0.
 pub const DAY_LAST: u32 = 3_652_424;
 
+/// The bytes of a block of a house file.
+pub const HOUSE_BLOCK: usize = 512;
+
+/// The bytes of a stored start that a block of a house file holds. Every block but the last is full.
+pub const HOUSE_PAYLOAD: usize = 504;
+
+/// The most blocks of a house file.
+pub const HOUSE_MOST: usize = 65_536;
+
 /// The bytes of a record's header, which are the fewest that a record has.
 pub const FRAME_HEADER: usize = 16;
 
@@ -86,6 +95,33 @@ extern "C" {
     /// 0 with nothing needed: a record, `out[3]` its length and `out[4]` its rtype. 100, 101 and 1: refused.
     pub fn dbn_frame(held: u64, store: *mut u8, storelen: usize, piece: *const u8, n: usize, out: *mut [u64; 5])
         -> u32;
+
+    /// 0: `out[0]` the length written. 10 to 12, 20 to 55: `out[13]` is the place, counted as [`dbn_feed`] counts it. 134: the stream ends too
+    /// early. 130 above [`HOUSE_MOST`] blocks, then 112 for an output that is too short.
+    pub fn dbn_house_store(
+        stream: *const u8,
+        n: usize,
+        sheet: *const [u16; SHEET],
+        output: *mut u8,
+        on: usize,
+        out: *mut [u64; 16],
+    ) -> u32;
+
+    /// 130 to 133, and 1 for a store below the bytes that the file holds, leave store, tables and `out` as they were. Else the bytes stand at the
+    /// front of the store, `out[16]` is 0, `out[17]` their count, and the answer is that of [`dbn_feed`] with so many held and an empty piece;
+    /// but 134 where that needs more bytes, `out[18]` of them.
+    pub fn dbn_house_load(
+        file: *const u8,
+        fn_: usize,
+        store: *mut u8,
+        storelen: usize,
+        sheet: *const [u16; SHEET],
+        symbology: *mut u32,
+        sn: usize,
+        layout: *mut u32,
+        ln: usize,
+        out: *mut [u64; 20],
+    ) -> u32;
 
     /// 0: `out[9]` layout version, `out[11]` rows. 3: `out[11]`. 50 to 55: `out[13]` is the place.
     pub fn dbn_layout(

@@ -5,7 +5,7 @@
 //! and [`Frames`] takes the records after it, [`Block`] and [`Layout`] take what is already whole, and [`Refusal`] tells what was refused, and at which byte.
 //! The dates of an interval are [`Day`]s, which can be subtracted, and an interval tells its [`Mapping`]. [`Columns`] has the symbology by column.
 //! [`Layout::tidy`] tells whether a layout is in the plain form that [`write_layout`] gives.
-//! [`BlockBuilder`] writes the start of a stream, from owned values or from a block that was read.
+//! [`BlockBuilder`] writes the start of a stream, from owned values or from a block that was read. [`HouseFile`] keeps an accepted start on disk.
 //!
 //! Nothing here stands in for what is missing: where the library broke its promise, the call panics and says which promise.
 #![warn(missing_docs)]
@@ -23,6 +23,7 @@ mod day;
 mod feed;
 pub mod ffi;
 mod frames;
+mod house;
 mod layout;
 mod refusal;
 mod sheet;
@@ -34,6 +35,7 @@ pub use block::{Block, Fields};
 pub use day::Day;
 pub use feed::{Fed, Feed, Step};
 pub use frames::Frames;
+pub use house::HouseFile;
 pub use layout::{check_layout_plain, write_layout, Field, Label, LabelDef, Layout, RecordLayout, StructLayout};
 pub use refusal::{Refusal, RefusalKind};
 pub use sheet::{Sheet, SheetIds};

@@ -101,11 +101,16 @@ refusals! {
     FrameStoreShort 101 "the store is too short for a record's header or for the record"
     StartMalformed 110 "the symbology rows, texts or fields to write are malformed"
     TextWide 111 "a symbol or the dataset is too wide, or a width in version 1 is not 22"
-    StartOutputShort 112 "the output is too short for the prelude and the block"
+    StartOutputShort 112 "the output is too short for the start or its house file"
     LeftoverInSection 120 "bytes are left over in a section"
     CodesNotRising 121 "a label's code is not above the one before it"
     SkippedNotZero 122 "a skipped byte of an entry is not zero"
     LeftoverAfterLabels 123 "bytes are left over after the label defs"
+    HouseLength 130 "a house file does not have 1 to 65,536 blocks of 512 bytes"
+    HouseCheck 131 "the check words of a house file's block are wrong"
+    HouseIndex 132 "the index of a house file's block is not its place in the file"
+    HouseUsed 133 "the used count of a house file's block is wrong, or its filler not zero"
+    HouseNeeds 134 "the start of a house file ends before its prelude or its block does"
     NoSheet 200 "a version 4 stream, and no type sheet was given to judge its layout by"
     NoMemory 201 "the system has no memory for the bytes or the rows"
 }
@@ -234,7 +239,8 @@ mod tests {
     #[test]
     fn every_number_of_the_table_has_one_name_and_one_sentence() {
         let below = [1..=3, 10..=13, 20..=45, 50..=55, 60..=64, 71..=83, 90..=96, 100..=101];
-        let numbers: Vec<u32> = below.into_iter().chain([110..=112, 120..=123, 200..=201]).flatten().collect();
+        let numbers: Vec<u32> =
+            below.into_iter().chain([110..=112, 120..=123, 130..=134, 200..=201]).flatten().collect();
         assert_eq!(RefusalKind::ALL.iter().map(|kind| kind.number()).collect::<Vec<_>>(), numbers);
         assert!(RefusalKind::ALL
             .iter()

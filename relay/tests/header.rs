@@ -61,6 +61,14 @@ fn records_are_told_as_the_header_says() {
 }
 
 #[test]
+fn house_files_are_told_as_the_header_says() {
+    let sizes = [("BLOCK", ffi::HOUSE_BLOCK), ("PAYLOAD", ffi::HOUSE_PAYLOAD), ("MOST", ffi::HOUSE_MOST)];
+    for (name, number) in sizes.into_iter().chain([("LENGTH", 0)]) {
+        assert!(HEADER.contains(&format!("DBN_HOUSE_{name} = {number}")), "{name}");
+    }
+}
+
+#[test]
 fn days_are_told_as_the_header_says() {
     assert!(HEADER.contains(&format!("DBN_DAY_LAST = {}", ffi::DAY_LAST)));
     for name in ["DBN_DATE_DAY", "DBN_DAY_DATE"] {

@@ -1,5 +1,6 @@
-//! What a feed takes of the machine: it grows with what arrives, stays below the stated bound, and is told where there is none. Records take nothing.
-use dbn_start::{Block, Feed, Frames, Limits, Refusal, RefusalKind, Sheet, Step, Tables};
+//! What a feed takes of the machine: it grows with what arrives, stays below the stated bound, and is told where there is none. Records take nothing, and
+//! house files their length and their tables.
+use dbn_start::{Block, Feed, Frames, HouseFile, Limits, Refusal, RefusalKind, Sheet, Step, Tables};
 use std::{
     alloc::{GlobalAlloc, Layout, System},
     cell::Cell,
@@ -197,6 +198,32 @@ fn a_feed_that_begins_anew_takes_no_more() {
         }
     });
     assert_eq!(took, 0);
+}
+
+#[test]
+fn a_house_file_takes_its_length_and_the_tables_of_its_rows() {
+    let (stream, limits) = (one_byte_symbols(100_000), Limits::default());
+    let (file, took) = most(|| HouseFile::store(&stream, None).expect("an accepted start"));
+    assert_eq!(took, file.len(), "the file and nothing else");
+    let (loaded, took) = most(|| HouseFile::load(&file, None, limits).expect("its file"));
+    assert!(loaded.block().rows().len() == 100_000 && took < file.len() + 24 * 100_000 + 4096, "{took} bytes");
+    // Files that are refused take a few times their bytes, whatever their first block claims.
+    for (place, filler) in (7..12).flat_map(|place| [0, 1, 4, 0xFF].map(|filler| (place, filler))) {
+        let mut changed = file.clone();
+        changed[place] = filler;
+        let (loaded, took) = most(|| HouseFile::load(&changed, None, limits).map(|_| ()).map_err(Refusal::number));
+        assert_eq!(loaded, if changed == file { Ok(()) } else { Err(131) });
+        assert!(loaded.is_ok() || took <= 4 * file.len(), "{took} bytes");
+    }
+    let told = |may: usize| {
+        MAY.set(HAS.get() + may);
+        let answers = [HouseFile::store(&stream, None).map(|_| ()), HouseFile::load(&file, None, limits).map(|_| ())];
+        MAY.set(usize::MAX);
+        answers.map(|answer| answer.map_err(Refusal::kind))
+    };
+    assert_eq!(told(50_000), [Err(RefusalKind::NoMemory); 2], "for the bytes");
+    assert_eq!(told(1_000_000), [Ok(()), Err(RefusalKind::NoMemory)], "for the rows");
+    assert_eq!(told(3_000_000), [Ok(()); 2]);
 }
 
 #[test]

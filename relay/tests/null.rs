@@ -34,6 +34,10 @@ fn every_function_takes_null_at_length_0() {
         let (number, store) = (ffi::dbn_feed, null_mut());
         assert_eq!(number(0, store, 0, null(), 0, sheet, null_mut(), 0, null_mut(), 0, &mut fed), 2);
         assert_eq!(fed[16..19], [0, 0, 0]);
+        let (mut fed, nothing, none) = ([7; 20], null_mut(), null_mut());
+        assert_eq!(ffi::dbn_house_load(null(), 0, nothing, 0, sheet, none, 0, none, 0, &mut fed), 130);
+        assert_eq!(ffi::dbn_house_store(null(), 0, sheet, nothing, 0, &mut out), 134);
+        assert_eq!((fed, out), ([7; 20], [7; 16]));
         let mut told = [7; 5];
         assert_eq!((ffi::dbn_frame(0, null_mut(), 0, null(), 0, &mut told), told), (101, [0, 0, 0, 7, 7]));
         assert_eq!((ffi::dbn_frame(9, null_mut(), 0, null(), 0, &mut told), told), (1, [0, 9, 0, 7, 7]));
@@ -71,9 +75,26 @@ fn null_tables_are_enough_where_there_are_no_rows() {
         assert_eq!((number, &fed[16..19]), (0, &[0, held, 0][..]));
     }
     assert_eq!(store, stream);
+    house_with_null_tables(&stream, sheet.numbers());
     // An end of 0 is absent, and is written as the largest number.
     written[8 + 26..8 + 34].iter_mut().for_each(|byte| *byte = !*byte);
     assert_eq!(written, stream);
+}
+
+/// A start without rows in a house file. An output and a store of length 0 may be null too.
+fn house_with_null_tables(stream: &[u8], sheet: &[u16; 520]) {
+    let (mut file, mut store, mut out, mut fed) = ([0; 512], vec![0; stream.len()], [7; 16], [7; 20]);
+    let (at, n, held) = (stream.as_ptr(), stream.len(), stream.len() as u64);
+    // SAFETY: every pointer is to a buffer of the given length, or null at length 0, and no two overlap.
+    unsafe {
+        assert_eq!(ffi::dbn_house_store(at, n, sheet, null_mut(), 0, &mut out), 112);
+        assert_eq!((ffi::dbn_house_store(at, n, sheet, file.as_mut_ptr(), 512, &mut out), out[0]), (0, 512));
+        let (load, at, none) = (ffi::dbn_house_load, file.as_ptr(), null_mut());
+        assert_eq!(load(at, 512, null_mut(), 0, sheet, none, 0, none, 0, &mut fed), 1);
+        assert_eq!(fed, [7; 20]);
+        assert_eq!(load(at, 512, store.as_mut_ptr(), n, sheet, none, 0, none, 0, &mut fed), 0);
+    }
+    assert_eq!((&store[..], &fed[16..19]), (stream, &[0, held, 0][..]));
 }
 
 #[test]

@@ -8,7 +8,9 @@ mod shapes;
 #[path = "../measure/written.rs"]
 mod written;
 
-use dbn_start::{check_layout_plain, ffi, is_date, is_text, prelude, write_layout, Day, Frames, Layout, Sheet, Tables};
+use dbn_start::{
+    check_layout_plain, ffi, is_date, is_text, prelude, write_layout, Day, Frames, HouseFile, Layout, Sheet, Tables,
+};
 use shapes::{sheet, tiled, Order};
 use std::ffi::c_void;
 use written::Written;
@@ -121,6 +123,46 @@ fn feed(version: u8, block: &[u8]) -> impl FnMut() {
     }
 }
 
+/// A stream start of a version, stored in a house file.
+fn house_store(version: u8, block: &[u8]) -> impl FnMut() {
+    let (stream, sheet, mut out) = (shapes::stream_of(version, block), sheet(), [0; 16]);
+    let mut file = vec![0; stream.len().div_ceil(ffi::HOUSE_PAYLOAD) * ffi::HOUSE_BLOCK];
+    move || {
+        // SAFETY: every pointer is to a buffer of the given length, and no two overlap.
+        let number = unsafe {
+            let (at, n, on) = (stream.as_ptr(), stream.len(), file.len());
+            ffi::dbn_house_store(at, n, sheet.numbers(), file.as_mut_ptr(), on, &mut out)
+        };
+        assert_eq!((number, out[0]), (0, file.len() as u64));
+    }
+}
+
+/// The house file of a stream start of a version, loaded.
+fn house_load(version: u8, block: &[u8]) -> impl FnMut() {
+    let (stream, sheet, mut out) = (shapes::stream_of(version, block), sheet(), [0; 20]);
+    let file = HouseFile::store(&stream, &sheet).expect("an accepted start");
+    let (mut store, mut first, mut second) =
+        (vec![0; stream.len()], vec![0; ffi::SYMBOLOGY_ROW * block.len()], vec![0; ffi::LAYOUT_ROW * block.len()]);
+    move || {
+        // SAFETY: every pointer is to a buffer of the given length, and no two overlap.
+        let number = unsafe {
+            ffi::dbn_house_load(
+                file.as_ptr(),
+                file.len(),
+                store.as_mut_ptr(),
+                store.len(),
+                sheet.numbers(),
+                first.as_mut_ptr(),
+                first.len(),
+                second.as_mut_ptr(),
+                second.len(),
+                &mut out,
+            )
+        };
+        assert_eq!((number, out[18]), (0, 0));
+    }
+}
+
 /// A whole stream start of a version, written from what was read of its block.
 fn write_block(version: u8, block: &[u8]) -> impl FnMut() {
     let mut written = Written::of(version, block, sheet());
@@ -166,12 +208,16 @@ fn calls<'a>(sheet: &'a Sheet, layouts: &'a [Measured], symbols: &'a [u8]) -> Ve
         ("the names".into(), SMALL, Box::new(|| names(&layouts[0].1, symbols))),
         ("dbn_frame".into(), SMALL, Box::new(record())),
         ("dbn_feed, version 3".into(), ORDINARY, Box::new(feed(3, symbols))),
+        ("dbn_house_store, version 3".into(), ORDINARY, Box::new(house_store(3, symbols))),
+        ("dbn_house_load, version 3".into(), ORDINARY, Box::new(house_load(3, symbols))),
         ("dbn_write_block, version 3".into(), ORDINARY, Box::new(write_block(3, symbols))),
     ];
     for (what, layout, most) in layouts {
         let mut call = |name: &str, most: usize, work| calls.push((format!("{name}, {what}"), most, work));
         call("dbn_block", *most, Box::new(block(layout)));
         call("dbn_feed", *most, Box::new(feed(4, &shapes::block4(layout))));
+        call("dbn_house_store", *most, Box::new(house_store(4, &shapes::block4(layout))));
+        call("dbn_house_load", *most, Box::new(house_load(4, &shapes::block4(layout))));
         call("dbn_layout", *most, Box::new(read(layout)));
         call("dbn_write_layout", *most, Box::new(write(layout)));
         call("dbn_write_block", *most, Box::new(write_block(4, &shapes::block4(layout))));

@@ -1,6 +1,7 @@
 //! bench: the speed of the C functions. Each figure is a median of the thread's own CPU time, all in one run.
 //!
-//! First texts beside the standard library, then records beside a plain loop, what a relay meets every day, and what a hostile sender would make, at
+//! First texts beside the standard library, then records beside a plain loop, house files beside a plain copy with both sums, what a relay meets every
+//! day, and what a hostile sender would make, at
 //! three sizes each: a cost that grows with the bytes doubles from one size to the next. `relay/bench` prints the same days
 //! beside the crate dbn.
 //!
@@ -14,6 +15,7 @@ use bench::{
     calls::{Answer, Function},
     frames,
     hostile::Shape,
+    house::{self, House},
     in_turn, median, medians, shapes, turns_of,
 };
 use dbn_start::{write_layout, Block, Feed, Frames, Layout, Limits, Step, Tables};
@@ -25,6 +27,7 @@ fn main() -> ExitCode {
         [] => {
             texts();
             records();
+            houses();
             daily();
             hostile();
         }
@@ -104,6 +107,51 @@ fn records() {
     tell("a plain loop", plain);
     tell("a plain loop that takes a record at once where the piece has it", at_once);
     tell("the bare copy", copied);
+}
+
+/// A way to store or to load.
+type Work = fn(&mut House);
+
+/// House files of starts that the reader skips nearly all of, beside a plain copy with both sums, at two sizes; then the whole calls on (a).
+fn houses() {
+    println!("house files: a start that the reader skips nearly all of, beside a plain copy with both sums");
+    let lengths = [512 << 10, 1 << 20];
+    let mut houses = lengths.map(|length| House::of(house::skipped(length)));
+    lengths.iter().zip(&houses).for_each(|(length, house)| of_house(&format!("{length} bytes"), house));
+    for (name, work) in [("dbn_house_store", House::store as Work), ("dbn_house_load", House::load)] {
+        let [half, whole] = &mut houses;
+        let turns = turns_of(101, [&mut || work(half), &mut || work(whole)]);
+        let times = median(turns.iter().map(|turn| turn[1] / turn[0]).collect());
+        println!("  {name}: {times:.2} times the time for 2 times the bytes");
+    }
+    whole_calls();
+}
+
+/// Storing (a) and loading it, beside the plain copy, which reads nothing, and beside dbn_block.
+fn whole_calls() {
+    let usual = usual();
+    let mut house = House::of(shapes::stream_of(3, &usual));
+    of_house("version 3, width 71, 1,000 symbols, 100 mappings of 4 (a)", &house);
+    for (name, work) in [("dbn_house_store", House::store as Work), ("dbn_house_load", House::load)] {
+        let mut block = Function::Block.exact(3, &usual);
+        let turns = turns_of(101, [&mut || work(&mut house), &mut || _ = black_box(block())]);
+        let (ratio, [_, read]) = (median(turns.iter().map(|turn| turn[0] / turn[1]).collect()), medians(&turns));
+        println!("  {name}, (a): {ratio:.2} of dbn_block, {:.1} us", read / 1e3);
+    }
+}
+
+/// Storing and loading take turns with the plain program. The ratios are medians of those of each turn.
+fn of_house(what: &str, house: &House) {
+    let mut houses: [House; 2] = std::array::from_fn(|_| house.clone());
+    houses.iter_mut().for_each(House::agreed);
+    let [here, plain] = &mut houses;
+    let stored = turns_of(101, [&mut || here.store(), &mut || plain.plain_store()]);
+    let loaded = turns_of(101, [&mut || here.load(), &mut || plain.plain_load()]);
+    for (name, turns) in [("dbn_house_store", stored), ("dbn_house_load", loaded)] {
+        let ratio = median(turns.iter().map(|turn| turn[0] / turn[1]).collect());
+        let [here, plain] = medians(&turns);
+        println!("  {name}, {what}: {:.1} us, {:.1} us, {ratio:.2} of it", here / 1e3, plain / 1e3);
+    }
 }
 
 /// The time of a call with tables that are just long enough, and its answer.
