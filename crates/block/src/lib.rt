@@ -1,4 +1,6 @@
 // Blocks of versions 1 to 4: their fields, and their rows in two lent tables.
+#![tactic(auto)]
+
 mod header;
 mod parts;
 
@@ -14,14 +16,14 @@ use metadata_lengths::MetadataLengths;
 use refusal::Refusal;
 
 // A part of a slice by start and length; or the refusal.
-#[derive(Drop)]
+#[derive(Clone, Copy)]
 enum Span {
     Part { start: usize, len: usize },
     Refused(Refusal),
 }
 
 // The layout part: its version, its rows and the place after it; or the refusal.
-#[derive(Drop)]
+#[derive(Clone, Copy)]
 enum LayoutFound {
     Accepted {
         version: usize,

@@ -1,15 +1,17 @@
 // The block of versions 1 to 4: its format, what it gives, and their laws, in specs/. Of code there are the types alone.
+#![tactic(auto)]
+
 use refusal::Refusal;
 
 // What may be absent.
-#[derive(Drop)]
+#[derive(Clone, Copy)]
 pub enum Optional {
     Absent,
     Present(u64),
 }
 
 // What an accepted block says besides its rows.
-#[derive(Drop)]
+#[derive(Clone, Copy)]
 pub struct Fields {
     pub dataset_len: usize,
     pub schema: Optional,
@@ -26,7 +28,7 @@ pub struct Fields {
 }
 
 // The fields of a block whose rows are written; the refusal; or the rows that both tables need.
-#[derive(Drop)]
+#[derive(Clone, Copy)]
 pub enum BlockAnswer {
     Read(Fields),
     Refused(Refusal),

@@ -1,4 +1,6 @@
 // Whole starts of streams, written: prelude and block of versions 1 to 4, from fields, symbology rows by column, layout rows and a text.
+#![tactic(auto)]
+
 mod columns;
 mod given;
 mod judge;
@@ -15,7 +17,7 @@ use writer::Written;
 
 // What is about to be written: the number that refuses it, 0 for none; the bytes of the block, of its layout and of its symbology; and how many symbols of
 // each list and how many mappings there are.
-#[derive(Drop)]
+#[derive(Clone, Copy)]
 pub struct Plan {
     pub number: u32,
     pub len: usize,

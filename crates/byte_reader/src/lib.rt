@@ -1,6 +1,8 @@
 // A reader that keeps its section and its place together. Each step takes the reader apart, calls the reader of a slice at its
 // place, and moves the place past what was read. The function at the end takes a slice and a place, so that who calls it does
 // not hold a reader.
+#![tactic(auto)]
+
 ghost use Rattle.std.specs.Prelude.{◌≡◌, ◌+◌};
 ghost use Rattle.numbers.specs.Numbers.{take_at, num_at};
 ghost use Rattle.wire.specs.Reader.{all_tests, name_at};
@@ -52,7 +54,7 @@ impl<'a> ByteReader<'a> {
 }
 
 // A label: its code, and the length of its name's text.
-#[derive(Drop)]
+#[derive(Clone, Copy)]
 pub struct Label {
     pub code: Got,
     pub name: Got,

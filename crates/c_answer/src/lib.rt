@@ -1,4 +1,6 @@
 // What a C function gives for an answer of the feed: a number, and values in `out`.
+#![tactic(auto)]
+
 ghost use Rattle.std.specs.Prelude.{◌≡◌, ◌≤◌};
 ghost use Rattle.std.proofs.lemmas.List.Edits.{sets};
 ghost use Rattle.feed.specs.Feeding.{answer_number};

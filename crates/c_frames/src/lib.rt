@@ -1,4 +1,6 @@
 // The C function of frames. Nothing here but a call of the layer.
+#![tactic(auto)]
+
 ghost use Rattle.std.specs.Prelude.{◌≡◌};
 ghost use Rattle.frames.specs.Frames.{answer_number};
 ghost use Rattle.c_frames.specs.Numbers.{answer_out, FrameC};

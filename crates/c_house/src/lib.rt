@@ -1,4 +1,6 @@
 // C functions for the start of a stream that is kept in a house file. Nothing here but calls of the layers.
+#![tactic(auto)]
+
 ghost use Rattle.std.specs.Prelude.{◌≡◌};
 ghost use Rattle.house.specs.Start.{number_of};
 ghost use Rattle.c_house.specs.Numbers.{held_out, StoreC, LoadC};

@@ -1,4 +1,6 @@
 // C functions for a layout: read, ruled on by marks alone, and written. Nothing here but calls of the layers.
+#![tactic(auto)]
+
 ghost use Rattle.c_layout.specs.Numbers.{LayoutC, LayoutPlainC, WriteC};
 
 use writer::Written;

@@ -1,4 +1,6 @@
 // C functions for the text of a row. Nothing here but calls of the layers.
+#![tactic(auto)]
+
 ghost use Rattle.std.specs.Prelude.{◌≡◌, length};
 ghost use Rattle.names.specs.Names.{symbology_span, layout_span, span_number};
 ghost use Rattle.c_names.specs.Numbers.{span_out};

@@ -1,4 +1,6 @@
 // The C function of the prelude. Nothing here but a call of the layer.
+#![tactic(auto)]
+
 ghost use Rattle.std.specs.Prelude.{◌≡◌};
 ghost use Rattle.prelude.specs.Prelude.{prelude_of, stage_number};
 ghost use Rattle.c_prelude.specs.Numbers.{prelude_out};

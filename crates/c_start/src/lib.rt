@@ -1,4 +1,6 @@
 // C functions for the start of a stream: a block given whole, and feeding. Nothing here but calls of the layers.
+#![tactic(auto)]
+
 ghost use Rattle.c_start.specs.Numbers.{BlockC, FeedC};
 
 use block::BlockAnswer;

@@ -1,4 +1,6 @@
 // C functions on one text and one number, and where a C function tells the place of a refusal. Nothing here but calls of the layers.
+#![tactic(auto)]
+
 ghost use Rattle.std.specs.Prelude.{◌≡◌};
 ghost use Rattle.text.specs.Utf8.{utf8};
 ghost use Rattle.dates.specs.Day.{day_on, date_on};

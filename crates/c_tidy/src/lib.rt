@@ -1,4 +1,6 @@
 // The C function that tells whether a layout is tidy. Nothing here but a call of the layer.
+#![tactic(auto)]
+
 ghost use Rattle.c_tidy.specs.Numbers.{TidyC};
 
 use tidy::Tidy;

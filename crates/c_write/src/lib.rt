@@ -1,4 +1,6 @@
 // The C function that writes a whole start: prelude and block. Nothing here but a call of the layer.
+#![tactic(auto)]
+
 ghost use Rattle.c_write.specs.Numbers.{WriteBlockC};
 
 use writer::Written;

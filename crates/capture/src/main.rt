@@ -1,6 +1,8 @@
 // The stand-in for a trader's capture, on standard input: one continuous symbol with four mapping intervals. It is fed in four pieces cut
 // inside the intervals, and what came of it is written; then at every cut into two pieces, and the cuts that gave the same are counted.
 // The type sheet is all zeros, which no block without a layout looks at.
+#![tactic(auto)]
+
 ghost use Rattle.std.specs.Prelude.{length, ◌≤◌, ◌<◌};
 
 use feed::{Answer, State};

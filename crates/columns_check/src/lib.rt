@@ -1,5 +1,7 @@
 // What symbology rows lent by column make: whether each stands in its place (110), whether its text fits (111), and by which number the
 // reader would refuse what they stand for.
+#![tactic(auto)]
+
 mod rows;
 mod texts;
 
@@ -7,7 +9,7 @@ ghost use Rattle.std.specs.Prelude.{◌≡◌};
 ghost use Rattle.columns_check.specs.Check.{columns_of};
 
 // 110; 111; or how many symbols of each list and how many mappings there are, and the reader's number, 0 for none.
-#[derive(Drop)]
+#[derive(Clone, Copy)]
 pub enum Columns {
     Malformed,
     Wide,

@@ -1,5 +1,7 @@
 // What the programs for people have in common: three options, the type sheet that one of them names, what is said on standard error, and
 // the status.
+#![tactic(auto)]
+
 pub mod escape;
 pub mod words;
 
@@ -16,7 +18,7 @@ pub const NO_SHEET: u64 = 2;
 
 // What the arguments ask for: the help, the status, and which argument names the sheet, 0 for none. A fault is a number, 0 for none, and
 // `at` the argument that it is about.
-#[derive(Drop)]
+#[derive(Clone, Copy)]
 pub struct Asked {
     pub help: bool,
     pub status: bool,

@@ -1,4 +1,6 @@
 // The morning count: what came of each input of a night, counted.
+#![tactic(auto)]
+
 ghost use Rattle.std.specs.Prelude.{◌≡◌, ◌+◌, ◌<◌};
 ghost use Rattle.count.specs.Count.{clipped, raised, counted, counted_end};
 
@@ -15,7 +17,7 @@ pub const TOTAL: usize = 259;
 const MOST: u64 = 18446744073709551615;
 
 // What came of one input: accepted, with so many symbology rows; refused by a number; or cut, where the bytes ended inside it.
-#[derive(Drop)]
+#[derive(Clone, Copy)]
 pub enum Outcome {
     Accepted { rows: u64 },
     Refused(u8),

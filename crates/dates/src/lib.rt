@@ -1,4 +1,6 @@
 // Dates, written year x 10000 + month x 100 + day, and the numbers of their days: 1 January of year 0 is 0.
+#![tactic(auto)]
+
 ghost use Rattle.std.specs.Prelude.{◌≡◌, ◌/◌, ◌≤◌, ◌<◌};
 ghost use Rattle.dates.specs.Date.{is_leap, days_in};
 ghost use Rattle.dates.specs.Day.{days_before, days_of_year, day_on, date_on, year_of, month_of, in_year};
@@ -11,7 +13,7 @@ const DAYS: u64 = 268435456;
 const MONTH: u64 = 8589934592;
 
 // What the calendar of the years 0 to 9999 says of a date or of a day's number: the other of the two, where it has such a day.
-#[derive(Drop)]
+#[derive(Clone, Copy)]
 pub enum Calendar {
     Has(u32),
     Lacks,

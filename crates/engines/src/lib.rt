@@ -1,5 +1,7 @@
 // The rules of a layout by either engine for 81 to 83: the search for the field at the cursor, and the plain one, which marks
 // each place of a record with its owner. Each pair makes the same promise, so its answers are equal.
+#![tactic(auto)]
+
 ghost use Rattle.std.specs.Prelude.{◌≡◌, false};
 ghost use Rattle.layout.specs.Answers.{verdict};
 ghost use Rattle.rows_check.specs.Answers.{sized_number};

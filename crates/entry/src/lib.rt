@@ -1,4 +1,6 @@
 // A field entry's first eleven bytes, which travel as one array: from the wire, or from a field row.
+#![tactic(auto)]
+
 ghost use Rattle.std.specs.Prelude.{◌≡◌, [], ◌∷◌, ◌+◌, ◌-◌, ◌/◌, ◌%◌, ◌≤◌, length, get_or};
 ghost use Rattle.entry.specs.Entry.{entry_bytes, cut_bytes, row_bytes};
 

@@ -12,6 +12,8 @@
 //   i  a layout that is asked whether it is tidy: the symbol width (two bytes), the layout
 //   w  rows for the writer: symbol width, layout version, bytes of output, how often the last row stands once more, length
 //      of the texts (two bytes each), the texts, the rows
+#![tactic(auto)]
+
 mod bytes;
 mod readers;
 mod rows;

@@ -1,4 +1,6 @@
 // Feeding: the start of a stream comes in pieces, is held in a store that the caller lends, and is read once its block is whole.
+#![tactic(auto)]
+
 ghost use Rattle.std.specs.Prelude.{◌≡◌};
 ghost use Rattle.feed.specs.Feeding.{stage_of, Judgement, Feeding};
 
@@ -11,14 +13,14 @@ use refusal::Refusal;
 const METADATA_PRELUDE_LEN: usize = 8;
 
 // How many bytes of the store are held. The caller hands it back with the store, both unaltered.
-#[derive(Drop)]
+#[derive(Clone, Copy)]
 pub struct State {
     pub held: usize,
 }
 
 // What the held bytes say: so many more are needed, or the block's fields, or a refusal, or the rows that the tables would need. The place
 // of 10 to 12 counts from the prelude, that of the others from the block.
-#[derive(Drop)]
+#[derive(Clone, Copy)]
 pub enum Answer {
     Needs(usize),
     Done(Fields),
@@ -27,7 +29,7 @@ pub enum Answer {
 }
 
 // How many bytes of the piece were taken, the state after them, and what the held bytes then say.
-#[derive(Drop)]
+#[derive(Clone, Copy)]
 pub struct Fed {
     pub taken: usize,
     pub state: State,

@@ -1,4 +1,6 @@
 // One field: the parts of its entry, what the type sheet says of it, and its rules, numbers 71 to 80.
+#![tactic(auto)]
+
 ghost use Rattle.std.specs.Prelude.{◌≡◌, not, ◌&&◌, ◌+◌, ◌*◌, ◌<◌, length};
 ghost use Rattle.fields.specs.Sheet.{id_of, off_of, size_of, type_of, def_of, end_of, is_padding, is_struct, is_symbol, is_decimal, names_label, is_extension, past_base, align_of, member_align};
 ghost use Rattle.fields.specs.Field.{differs, breaks71, breaks72, breaks73, breaks74, breaks76, breaks77, breaks79, breaks80, field_fault};
@@ -6,7 +8,7 @@ ghost use Rattle.fields.specs.Answers.{ExtentIs, ClassIs};
 
 // What the fields of one record or struct are held against: whether it is a record, its base size or its size, the
 // stream's symbol width and how many label defs there are.
-#[derive(Drop)]
+#[derive(Clone, Copy)]
 pub struct Frame {
     pub is_record: bool,
     pub base: usize,
@@ -15,7 +17,7 @@ pub struct Frame {
 }
 
 // Where an entry stands: whether it is of the other side of the base, its first byte, and one past its last.
-#[derive(Drop)]
+#[derive(Clone, Copy)]
 pub struct Extent {
     pub other: bool,
     pub off: usize,
@@ -23,7 +25,7 @@ pub struct Extent {
 }
 
 // What rules over many entries ask of one: its id, whether it is padding, and its alignment inside a struct.
-#[derive(Drop)]
+#[derive(Clone, Copy)]
 pub struct Class {
     pub id: u16,
     pub padding: bool,

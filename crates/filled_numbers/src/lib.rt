@@ -1,4 +1,6 @@
 // Numbers at a place of a slice, where a byte past the end counts as 0. Any slice and any place get an answer.
+#![tactic(auto)]
+
 ghost use Rattle.std.specs.Prelude.{◌≡◌, ◌+◌, ◌<◌, get_or, drop};
 ghost use Rattle.numbers.specs.Numbers.{le16, le32, le64};
 

@@ -1,5 +1,7 @@
 // Records on standard input, cut into two pieces at every place: the frames that come are written, a line for each cut, and every line is
 // the same but for the place. A frame is told by its length, its rtype and the sum of its bytes.
+#![tactic(auto)]
+
 ghost use Rattle.std.specs.Prelude.{◌≤◌, length};
 
 use frames::{Answer, State};

@@ -1,4 +1,6 @@
 // Frames: the records of versions 1 to 3 come in pieces, are held one at a time in a store that the caller lends, and are handed over whole.
+#![tactic(auto)]
+
 ghost use Rattle.std.specs.Prelude.{◌≡◌, length, take};
 ghost use Rattle.held.specs.Held.{held_of};
 ghost use Rattle.frames.specs.Frames.{frame, answer_of, Framing};
@@ -14,13 +16,13 @@ const RECORD_HEADER_LEN: usize = 16;
 const LENGTH_MULTIPLIER: usize = 4;
 
 // How many bytes of the store are held, 0 for a new frame. The caller hands it back with the store, both unaltered.
-#[derive(Drop)]
+#[derive(Clone, Copy)]
 pub struct State {
     pub held: usize,
 }
 
 // What the held bytes say: so many more are needed, or a whole frame of this length and rtype, or a refusal, which is about no byte.
-#[derive(Drop)]
+#[derive(Clone, Copy)]
 pub enum Answer {
     Needs(usize),
     Frame { len: usize, rtype: u8 },
@@ -28,7 +30,7 @@ pub enum Answer {
 }
 
 // How many bytes of the piece were taken, the state after them, and what the held bytes then say.
-#[derive(Drop)]
+#[derive(Clone, Copy)]
 pub struct Framed {
     pub taken: usize,
     pub state: State,

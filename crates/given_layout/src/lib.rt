@@ -1,4 +1,6 @@
 // A layout given by itself, with a symbol width: read, ruled on, and its rows in a lent table.
+#![tactic(auto)]
+
 ghost use Rattle.given_layout.specs.Ruled.{Ruled};
 
 // A layout given with a symbol width: 13, the layout, its rules, then 3. The rows are read without a second look at the names' texts. The table is written only where all is accepted and it

@@ -1,4 +1,6 @@
 // The header of a block, stored from the numbers of its fields and its dataset's text.
+#![tactic(auto)]
+
 ghost use Rattle.std.specs.Prelude.{◌≡◌, cond, ◌≤◌, ◌<◌, length, get_or};
 ghost use Rattle.put.specs.Output.{RoomFor, Wrote, Stored};
 ghost use Rattle.metadata_lengths.specs.Lengths.{lengths};

@@ -1,4 +1,6 @@
 // Held bytes: what comes in pieces is held in a store that the caller lends, until it is whole. Feeding and frames stand on this.
+#![tactic(auto)]
+
 ghost use Rattle.std.specs.Prelude.{◌≡◌, ◌-◌, ◌≤◌, min, length};
 ghost use Rattle.std.proofs.Math.Seq.{paste};
 ghost use Rattle.codec.specs.Codec.{refusal};
@@ -8,7 +10,7 @@ ghost use Rattle.held.specs.Held.{bounded, need_of, put_of};
 use refusal::Refusal;
 
 // What held bytes are: so many more are needed, or they are refused, or they are whole, so many bytes of the kind that their head tells.
-#[derive(Drop)]
+#[derive(Clone, Copy)]
 pub enum Holding {
     Needs(usize),
     Refused(Refusal),

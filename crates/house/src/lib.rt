@@ -1,4 +1,6 @@
 // The start of a stream, kept in a house file: stored once it is accepted, and loaded through the ordinary reader.
+#![tactic(auto)]
+
 ghost use Rattle.std.specs.Prelude.{◌≡◌};
 ghost use Rattle.codec.specs.Codec.{refusal};
 ghost use Rattle.house.specs.declared.Stored.TheVariants as Stored';
@@ -12,7 +14,7 @@ use prelude::Stage;
 use refusal::Refusal;
 
 // How long the file is that was written; or the refusal.
-#[derive(Drop)]
+#[derive(Clone, Copy)]
 pub enum Stored {
     Written(usize),
     Refused(Refusal),
@@ -20,7 +22,7 @@ pub enum Stored {
 
 // What refuses the file, or the store that is too short for what it holds; or how many bytes stand in the store, and the reader's answer on them,
 // of which bytes that are still needed are 134.
-#[derive(Drop)]
+#[derive(Clone, Copy)]
 pub enum Loaded {
     Refused(u32),
     Held { len: usize, answer: Answer },

@@ -1,5 +1,7 @@
 // The start of a stream on standard input is stored in a house file and loaded again. Then each byte of the file is set to each of the 255
 // other values in turn, and the files that are refused are counted. The type sheet is all zeros, which no block without a layout looks at.
+#![tactic(auto)]
+
 ghost use Rattle.std.specs.Prelude.{◌<◌, length};
 
 use feed::Answer;

@@ -1,4 +1,6 @@
 // The house file: bytes kept in blocks of 512. A block has its index, its count of used bytes, 504 bytes of payload and two check words.
+#![tactic(auto)]
+
 mod read;
 mod write;
 
@@ -6,14 +8,14 @@ ghost use Rattle.std.specs.Prelude.{◌≡◌, true, length};
 ghost use Rattle.house_file.specs.House.{is_length, Unpacking, Packing};
 
 // What a file holds: so many bytes; or the refusal.
-#[derive(Drop)]
+#[derive(Clone, Copy)]
 pub enum Unpacked {
     Payload(usize),
     Refused(u32),
 }
 
 // How long the file is that was written; or the refusal.
-#[derive(Drop)]
+#[derive(Clone, Copy)]
 pub enum Packed {
     Written(usize),
     Refused(u32),

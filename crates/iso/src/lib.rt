@@ -1,4 +1,6 @@
 // Days as people write them.
+#![tactic(auto)]
+
 ghost use Rattle.std.specs.Prelude.{◌≡◌, ◌<◌};
 ghost use Rattle.dates.specs.Day.{date_on};
 ghost use Rattle.iso.specs.DateText.{digit_of, date_text, day_text};

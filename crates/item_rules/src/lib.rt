@@ -1,4 +1,6 @@
 // The rules of records and structs, numbers 60 to 83, where they stand: in a layout's bytes or in rows.
+#![tactic(auto)]
+
 ghost use Rattle.std.specs.Prelude.{◌≡◌, true, ◌<◌};
 ghost use Rattle.item_rules.specs.Standing.{stands, table_fault, counted_fault, sections_fault, items_fault};
 
@@ -11,7 +13,7 @@ mod walk;
 
 // The entries of one record or struct: whether they lie in the rows or in the layout's bytes, how far apart, where the
 // first is and how many there are.
-#[derive(Drop)]
+#[derive(Clone, Copy)]
 pub struct Source {
     pub rows: bool,
     pub step: usize,
@@ -21,7 +23,7 @@ pub struct Source {
 
 // How far a walk over the entries has come: whether each of either side began where the one before it on that side ends; and where the
 // next of the base and the next past the base are to begin.
-#[derive(Drop)]
+#[derive(Clone, Copy)]
 pub struct Course {
     pub in_order: bool,
     pub cursor: usize,
@@ -30,7 +32,7 @@ pub struct Course {
 
 // What one walk over the entries tells: the first of numbers 71 to 80, or 0; whether each entry of either side begins where the one
 // before it on that side ends; and where the last of the base ends.
-#[derive(Drop)]
+#[derive(Clone, Copy)]
 pub struct Walked {
     pub fault: u32,
     pub in_order: bool,
@@ -38,14 +40,14 @@ pub struct Walked {
 }
 
 // What a search finds: the end of an entry, or 0, and the entries after it.
-#[derive(Drop)]
+#[derive(Clone, Copy)]
 pub struct Hit {
     pub end: usize,
     pub rest: Source,
 }
 
 // A search that may go back to the front: whether it gave up before it did, what it found, and how many looks it left over.
-#[derive(Drop)]
+#[derive(Clone, Copy)]
 pub struct Turn {
     pub quit: bool,
     pub hit: Hit,
@@ -53,7 +55,7 @@ pub struct Turn {
 }
 
 // How far a chase went: whether it gave up, the entries used, and where the last ends.
-#[derive(Drop)]
+#[derive(Clone, Copy)]
 pub struct Chased {
     pub quit: bool,
     pub used: usize,
@@ -61,14 +63,14 @@ pub struct Chased {
 }
 
 // What marking entries came to: whether two of them overlap, and where the furthest of those marked ends.
-#[derive(Drop)]
+#[derive(Clone, Copy)]
 pub struct Painted {
     pub clash: bool,
     pub top: usize,
 }
 
 // Records or structs yet to come, as many as are left: in the rows, from row `at` on, or in the layout's bytes, from place `at` on.
-#[derive(Drop)]
+#[derive(Clone, Copy)]
 pub struct Place {
     pub rows: bool,
     pub at: usize,
@@ -76,7 +78,7 @@ pub struct Place {
 }
 
 // A record, or a struct of rtype 0: its base size or its size, and its entries.
-#[derive(Drop)]
+#[derive(Clone, Copy)]
 pub struct Item {
     pub rtype: u16,
     pub base: usize,
@@ -85,7 +87,7 @@ pub struct Item {
 
 // How records and structs are ruled on, the same for all: the symbol width, how many label defs there are, and whether all of 81 to 83
 // are found by marks.
-#[derive(Drop)]
+#[derive(Clone, Copy)]
 pub struct How {
     pub width: usize,
     pub labels: usize,
@@ -93,7 +95,7 @@ pub struct How {
 }
 
 // What is ruled on: the structs, the records, and how.
-#[derive(Drop)]
+#[derive(Clone, Copy)]
 pub struct Task {
     pub structs: Place,
     pub records: Place,
@@ -101,14 +103,14 @@ pub struct Task {
 }
 
 // How far records or structs reach: whether each lies in its slice, and where the last of them ends.
-#[derive(Drop)]
+#[derive(Clone, Copy)]
 pub struct Reach {
     pub stands: bool,
     pub at: usize,
 }
 
 // The next record or struct, and what comes after it.
-#[derive(Drop)]
+#[derive(Clone, Copy)]
 pub enum Next {
     Found(Item, Place),
     End,

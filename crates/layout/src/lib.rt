@@ -1,4 +1,6 @@
 // The layout of a block: records, structs and label defs, read into rows of nine.
+#![tactic(auto)]
+
 mod labels;
 mod members;
 mod rows;
@@ -16,7 +18,7 @@ use refusal::Refusal;
 pub const D: usize = 16;
 
 // The verdict on a layout: its version and how many rows it has; or the refusal.
-#[derive(Drop)]
+#[derive(Clone, Copy)]
 pub enum Verdict {
     Accepted { version: usize, rows: usize },
     Refused(Refusal),
@@ -24,7 +26,7 @@ pub enum Verdict {
 
 // What reading into a table answers: the version and the rows written; the version and the rows needed where the table
 // is short; or the refusal.
-#[derive(Drop)]
+#[derive(Clone, Copy)]
 pub enum Answer {
     Read { version: usize, rows: usize },
     Short { version: usize, rows: usize },

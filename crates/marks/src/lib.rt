@@ -1,4 +1,6 @@
 // 65,536 marks, one for each number of 16 bits: 1,024 words of 64.
+#![tactic(auto)]
+
 ghost use Rattle.std.specs.Prelude.{◌≡◌};
 ghost use Rattle.marks.specs.Marks.{marked, with_mark, wiped};
 

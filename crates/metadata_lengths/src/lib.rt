@@ -1,9 +1,11 @@
 // The lengths that a version gives to the parts of a block's header.
+#![tactic(auto)]
+
 ghost use Rattle.std.specs.Prelude.{◌≡◌};
 ghost use Rattle.metadata_lengths.specs.Lengths.{lengths};
 
 // How many bytes a version gives to the parts that differ, and whether it has a layout.
-#[derive(Drop)]
+#[derive(Clone, Copy)]
 pub struct MetadataLengths {
     pub dataset_cstr_len: usize,
     pub record_count_len: usize,

@@ -1,6 +1,8 @@
 // Reads a night's blocks from standard input, preludes with their blocks end on end, in pieces of 4,096 bytes, and writes what came of them:
 // how many were accepted, refused by each number, and cut. The store is 65,536 bytes and each table holds 1,024 rows. `tell::help` says how
 // it is called.
+#![tactic(auto)]
+
 mod tell;
 
 use command_line::Asked;
@@ -11,7 +13,7 @@ use night::State;
 const MOST_PIECES: u64 = 18446744073709551615;
 
 // What came of a turn of reading: a read that failed, the night's end with so many bytes held, or more to come.
-#[derive(Drop)]
+#[derive(Clone, Copy)]
 enum Turn {
     Failed,
     Over(usize),

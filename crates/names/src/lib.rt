@@ -1,11 +1,13 @@
 // The text of a row, by its kind, start and length: a part of the bytes that the row was read from.
+#![tactic(auto)]
+
 ghost use Rattle.std.specs.Prelude.{◌≡◌, ◌<◌, length};
 ghost use Rattle.names.specs.Names.{no_text, symbol_text, item_text, text_span, symbology_span, layout_span, part_in};
 
 use refusal::Refusal;
 
 // A part of a slice by start and length; or the refusal, which is about no byte.
-#[derive(Drop)]
+#[derive(Clone, Copy)]
 pub enum Span {
     Part { start: usize, len: usize },
     Refused(Refusal),

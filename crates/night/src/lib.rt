@@ -1,5 +1,7 @@
 // A night: preludes with their blocks, end on end, come in pieces. One at a time is held in a store that the caller lends, and what comes
 // of it is counted.
+#![tactic(auto)]
+
 ghost use Rattle.std.specs.Prelude.{◌≡◌, false};
 ghost use Rattle.codec.specs.Codec.{among};
 ghost use Rattle.night.specs.Night.{end_numbers, standing, Passed};
@@ -10,14 +12,14 @@ use feed::Answer;
 
 // How many bytes of the store are held, and whether the reading is over. The caller hands it back with all that is lent, unaltered. A night
 // begins with nothing held and not over.
-#[derive(Drop)]
+#[derive(Clone, Copy)]
 pub struct State {
     pub held: usize,
     pub ended: bool,
 }
 
 // How many bytes of the piece a turn took, and the state after it.
-#[derive(Drop)]
+#[derive(Clone, Copy)]
 struct Turn {
     taken: usize,
     state: State,

@@ -1,11 +1,13 @@
 // Numbers and bytes at a place of a slice. Any slice and any place get an answer.
+#![tactic(auto)]
+
 ghost use Rattle.std.specs.Prelude.{◌≡◌, ◌+◌, ◌-◌, ◌*◌, ◌≤◌, ◌<◌, length};
 ghost use Rattle.numbers.specs.Numbers.{take_at, num_at, le16, Past};
 
 use refusal::Refusal;
 
 // What reading at a place gives: a number and the place after it, or a refusal.
-#[derive(Drop)]
+#[derive(Clone, Copy)]
 pub enum Got {
     Value { value: usize, next: usize },
     Refused(Refusal),

@@ -1,4 +1,6 @@
 // Texts of a fixed width that are filled up with NULs, as the dataset and the symbols are: after a NUL only NULs follow.
+#![tactic(auto)]
+
 ghost use Rattle.std.specs.Prelude.{◌≡◌, ◌&&◌, ◌+◌, ◌-◌, ◌/◌, ◌<◌, ◌≤◌, length, drop};
 ghost use Rattle.codec.specs.Codec.{among};
 ghost use Rattle.text.specs.Ascii.{ascii};
@@ -9,7 +11,7 @@ ghost use Rattle.padded.specs.PaddedAnswer.{told, padded_of};
 use text::{is_utf8, trimmed_len};
 
 // What is wrong with such a text, if anything: it is not UTF-8; or it is, and another byte follows a NUL.
-#[derive(Drop)]
+#[derive(Clone, Copy)]
 pub enum Padded {
     Fine,
     NotUtf8,

@@ -1,4 +1,6 @@
 // Texts of bytes from 1 to 127, as most names are: they hold no NUL and are UTF-8.
+#![tactic(auto)]
+
 ghost use Rattle.std.specs.Prelude.{◌≡◌, ◌+◌, ◌≤◌, length, take, drop};
 ghost use Rattle.plain_text.specs.Plain.{plain_byte, plain};
 

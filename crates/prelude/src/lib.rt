@@ -1,4 +1,6 @@
 // The prelude: the eight bytes that begin a stream, and the verdict on them.
+#![tactic(auto)]
+
 ghost use Rattle.std.specs.Prelude.{◌≡◌};
 ghost use Rattle.codec.specs.Codec.{refusal};
 ghost use Rattle.prelude.specs.Prelude.{prelude_of};
@@ -13,7 +15,7 @@ const METADATA_PRELUDE_LEN: usize = 8;
 const METADATA_FIXED_LEN: usize = 100;
 
 // How far bytes have come: so many more are needed, or they are refused, or there is a block of this version and length.
-#[derive(Drop)]
+#[derive(Clone, Copy)]
 pub enum Stage {
     Needs(usize),
     Refused(Refusal),

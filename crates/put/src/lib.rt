@@ -1,5 +1,7 @@
 // Bytes stored in an output from a place on. Each function answers the place after them; where they run past the end of the output it
 // stores nothing and answers the place it was given.
+#![tactic(auto)]
+
 ghost use Rattle.std.specs.Prelude.{◌≡◌, [], ◌∷◌, ◌+◌, ◌%◌, replicate, leb};
 ghost use Rattle.codec.specs.Codec.{little};
 ghost use Rattle.put.specs.Output.{RoomFor, Wrote, Stored};

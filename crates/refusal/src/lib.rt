@@ -1,10 +1,12 @@
 // A refusal, and the refusal numbers of documents 01 and 02, each with a name.
+#![tactic(auto)]
+
 ghost use Rattle.std.specs.Prelude.{◌≡◌};
 ghost use Rattle.refusal.specs.Places.{has_place};
 
 // A number of the table, and the place of what it is about, counted in the bytes that were given. 1 to 3, 13, 60 to 83 and 90 to
 // 112 are about no byte: their place is 0.
-#[derive(Drop)]
+#[derive(Clone, Copy)]
 pub struct Refusal {
     pub number: u32,
     pub place: usize,

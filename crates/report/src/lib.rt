@@ -1,4 +1,6 @@
 // The morning report: what a night came to, as lines of text.
+#![tactic(auto)]
+
 ghost use Rattle.std.specs.Prelude.{[], ◌∷◌, ◌+◌, ◌<◌, get_or};
 ghost use Rattle.put.specs.Output.{RoomFor, Wrote, Filled};
 ghost use Rattle.report.specs.Report.{decimal, line, unless_none, refused_line, refused_lines, report};

@@ -1,4 +1,6 @@
 // One row of the symbology, lent by column, stored as the bytes that it stands for.
+#![tactic(auto)]
+
 ghost use Rattle.std.specs.Prelude.{◌≡◌, ◌&&◌, ◌+◌, ◌≤◌, length, leb};
 ghost use Rattle.put.specs.Output.{RoomFor, Wrote, Stored};
 ghost use Rattle.dates.specs.Day.{date_of_day};

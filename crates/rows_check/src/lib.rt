@@ -1,4 +1,6 @@
 // What rows of nine make: whether each stands in its place (90), whether they make a layout (91 to 95), and how long it is.
+#![tactic(auto)]
+
 mod cells;
 mod fits;
 pub mod kinds;
@@ -15,7 +17,7 @@ ghost use Rattle.rows_check.specs.Answers.{row_good, sized_of};
 use refusal::Refusal;
 
 // The length of the layout, 0 where it was not asked for, and how many records, structs and label defs it has; or the refusal.
-#[derive(Drop)]
+#[derive(Clone, Copy)]
 pub enum Sized {
     Length {
         bytes: usize,

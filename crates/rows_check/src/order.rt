@@ -16,7 +16,7 @@ pub(crate) struct Order {
 }
 
 // The row after some sections, and how many they are.
-#[derive(Drop)]
+#[derive(Clone, Copy)]
 struct Reached {
     row: usize,
     count: usize,

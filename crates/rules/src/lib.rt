@@ -1,4 +1,6 @@
 // The rules of a layout, numbers 60 to 83, over a layout's bytes or over rows.
+#![tactic(auto)]
+
 ghost use Rattle.std.specs.Prelude.{◌≡◌, true};
 ghost use Rattle.layout.specs.Answers.{verdict};
 ghost use Rattle.layout.specs.LayoutOf.{layout_of};

@@ -1,6 +1,8 @@
 // Reads a stream start from a file or from standard input, in pieces of 4,096 bytes, and writes what it says as a person would want to
 // read it; or reads a whole layout, and writes whether it is tidy. The store is 1,048,576 bytes and each table holds 16,384 rows; what is
 // larger is told. `tell::help` says how it is called.
+#![tactic(auto)]
+
 mod fields;
 mod lines;
 mod options;
@@ -24,7 +26,7 @@ use options::Options;
 use refusal::Refusal;
 
 // What came of a turn of reading: a read that failed, so many bytes held, or an answer on so many.
-#[derive(Drop)]
+#[derive(Clone, Copy)]
 enum Turn {
     Failed,
     Held(usize),

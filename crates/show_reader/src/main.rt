@@ -1,5 +1,7 @@
 // Reads document 01's layouts P7 and P9 step by step and prints what each step gives: the layout's numbers, its section, and in
 // the section's own part the name and the label.
+#![tactic(auto)]
+
 ghost use Rattle.numbers.specs.Numbers.{Past};
 
 use libc::STDOUT_FILENO;

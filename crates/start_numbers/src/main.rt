@@ -1,6 +1,8 @@
 // One small start of a stream for each number by which `write_block` refuses, and those that it writes: a line for each, with a few words
 // and the number, or the length and the bytes. Each start is a good one with up to three changes.
 // The reader's numbers about lengths, counts and dates have no case but for 31: the writer makes these itself. 13, 91 and 94 need large tables and come last.
+#![tactic(auto)]
+
 mod good;
 mod large;
 mod rules;

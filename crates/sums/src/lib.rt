@@ -1,9 +1,11 @@
 // The two check words of a house file: over its bytes as little-endian words, the sum of the words and the sum of their running sums.
+#![tactic(auto)]
+
 ghost use Rattle.std.specs.Prelude.{◌≡◌, ◌+◌, ◌-◌, ◌≤◌, ◌<◌, min, length};
 ghost use Rattle.sums.specs.Sums.{words, sums_of, reduced, sums_from};
 
 // The check words, both modulo 65535.
-#[derive(Drop)]
+#[derive(Clone, Copy)]
 pub struct Sums {
     pub a: usize,
     pub b: usize,

@@ -1,4 +1,6 @@
 // The symbology of a block: three lists of symbols and the mappings, read into rows of six, by column.
+#![tactic(auto)]
+
 mod lists;
 mod mappings;
 
@@ -13,7 +15,7 @@ use numbers::Got;
 use refusal::Refusal;
 
 // The verdict on a symbology: how many rows it has and the place after it; or the refusal.
-#[derive(Drop)]
+#[derive(Clone, Copy)]
 enum Found {
     Accepted { rows: usize, next: usize },
     Refused(Refusal),
@@ -21,7 +23,7 @@ enum Found {
 
 // What reading a symbology answers: its rows, which were written, and the place after it; the same where none was written; or the
 // refusal.
-#[derive(Drop)]
+#[derive(Clone, Copy)]
 pub enum RowsAnswer {
     Read { rows: usize, next: usize },
     Counted { rows: usize, next: usize },

@@ -1,4 +1,6 @@
 // Rows of any width in a lent table, one after the other, and rows of six by column.
+#![tactic(auto)]
+
 ghost use Rattle.std.specs.Prelude.{◌+◌, ◌*◌, ◌<◌, [], ◌∷◌, length, ◌≡◌};
 ghost use Rattle.table.specs.Table.{Put, put_row, put_columns};
 ghost use Rattle.table.specs.Columns.{cell_of};

@@ -1,4 +1,6 @@
 // Whether a layout is in the plain form that the writer gives: read, ruled on, and then looked at for the first untidy thing.
+#![tactic(auto)]
+
 mod walk;
 
 ghost use Rattle.std.specs.Prelude.{◌≡◌};
@@ -8,14 +10,14 @@ use layout::Verdict;
 use refusal::Refusal;
 
 // Yes; or the reader's refusal; or the first untidy thing in wire order, and its place.
-#[derive(Drop)]
+#[derive(Clone, Copy)]
 pub enum Tidy {
     Yes,
     Refused(Refusal),
 }
 
 // What a walk over bytes meets: nothing untidy up to a place, or the first untidy thing.
-#[derive(Drop)]
+#[derive(Clone, Copy)]
 pub enum Met {
     Clear(usize),
     Untidy(Refusal),

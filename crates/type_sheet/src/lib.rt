@@ -1,11 +1,13 @@
 // The type sheet that layouts are judged with: a made one, or one's own from a file.
+#![tactic(auto)]
+
 ghost use Rattle.std.specs.Prelude.{◌≤◌};
 
 // A file of a type sheet: 520 numbers of two bytes.
 const SHEET_LEN: usize = 1040;
 
 // What came of a file: a sheet was read; it could not be opened, and errno says why; or what could be read from it is not 1,040 bytes.
-#[derive(Drop)]
+#[derive(Clone, Copy)]
 pub enum Loaded {
     Read,
     Unopened,

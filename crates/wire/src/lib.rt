@@ -1,4 +1,6 @@
 // Names and sections at a place of a slice. Any slice and any place get an answer.
+#![tactic(auto)]
+
 ghost use Rattle.std.specs.Prelude.{◌≡◌, ◌+◌, ◌<◌};
 ghost use Rattle.codec.specs.Codec.{among};
 ghost use Rattle.numbers.specs.Numbers.{Past};

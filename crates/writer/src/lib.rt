@@ -1,4 +1,6 @@
 // The layout writer: rows of nine, with their text, to the bytes of a layout.
+#![tactic(auto)]
+
 mod cells;
 mod parts;
 mod sections;
@@ -10,7 +12,7 @@ use refusal::Refusal;
 use rows_check::Sized;
 
 // How many bytes were written, or what refuses the rows or the output, which is about no byte.
-#[derive(Drop)]
+#[derive(Clone, Copy)]
 pub enum Written {
     Length(usize),
     Refused(Refusal),

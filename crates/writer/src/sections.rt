@@ -10,7 +10,7 @@ use super::{cells, parts};
 use rows_check::kinds;
 
 // The place after what was written, and the row after what was read.
-#[derive(Drop)]
+#[derive(Clone, Copy)]
 struct Placed {
     at: usize,
     row: usize,
