@@ -24,7 +24,7 @@ const IDLE_WIDTH: u64 = 6;
 
 // Beside what other programs take, which arguments name the symbol width and the file: 0 for none, and for standard input; `width` is the
 // width itself.
-#[derive(Drop)]
+#[derive(Clone, Copy)]
 pub(crate) struct Options {
     pub(crate) common: Asked,
     pub(crate) tidy: bool,

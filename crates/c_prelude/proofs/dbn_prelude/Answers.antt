@@ -1,0 +1,14 @@
+-- `dbn_prelude` gives the number and the values of the verdict, case by case.
+-- Assumes nothing.
+use mathlib.Core.Path.{sym, ◌∙◌}
+use borrow.Author.Rules.{rules}
+use Rattle.c_prelude.proofs.dbn_prelude.Goals as goal
+
+pub returns-in-Needs : goal.returns-in-Needs
+returns-in-Needs c = sym c.prelude.ensures ∙ c.n-1.given.1 in (simp e, simp e)
+
+pub returns-in-Refused : goal.returns-in-Refused
+returns-in-Refused c = sym c.prelude.ensures ∙ c.e-1.given.1 in (simp e, simp e)
+
+pub returns-in-Whole : goal.returns-in-Whole
+returns-in-Whole c = sym c.prelude.ensures ∙ c.version-1.given.1 in (simp e, simp e)

@@ -1,0 +1,17 @@
+-- What is not the names, and the names.
+-- Assumes nothing.
+use native.Mathlib.Omega.{arith}
+use mathlib.Core.Path.{◌∙◌}
+use Rattle.rows_check.proofs.SizeLaws.{body-length}
+use borrow.Author.Rules.{rules}
+use Rattle.rows_check.proofs.sizes.body_size.Goals as goal
+
+pub names_size-requires : goal.names_size-requires
+names_size-requires c =
+    let s = c.requires.1 in
+    rw (c.names_from-from.ensures.0, c.count_of-n.ensures.0) (omega arith, (s.inside, s.names))
+
+pub returns : goal.returns
+returns c =
+    let start = c in
+    c.names_size.ensures ∙ rw (c.add_to-head.ensures, c.nameless_size.ensures.0, c.cell_of.ensures.0, c.names_from-from.ensures.0, c.count_of-n.ensures.0, body-length start.args.kind start.args.rows.now start.args.text.now start.args.q start.requires.1) (omega arith)

@@ -1,0 +1,25 @@
+-- Three groups of sections, one after the other.
+-- Assumes nothing.
+use native.Mathlib.Omega.{arith}
+use mathlib.Core.Path.{◌∙◌}
+use Rattle.rows_check.proofs.SizeLaws.{size-le, total}
+use Rattle.rows_check.proofs.sizes.total_size.Goals as goal
+
+pub sections_size-a-requires : goal.sections_size-a-requires
+sections_size-a-requires c = (omega arith, rw c.requires.0.0 c.requires.1.0)
+
+pub sections_size-b-requires : goal.sections_size-b-requires
+sections_size-b-requires c = (rw c.sections_size-a.ensures.0 (size-le _ _), rw (c.sections_size-a.ensures.1, c.requires.0.0, c.requires.0.1.0) c.requires.1.1.0)
+
+pub sections_size-d-requires : goal.sections_size-d-requires
+sections_size-d-requires c =
+    let pre = c.requires in
+    (rw c.sections_size-b.ensures.0 (size-le _ _), rw (c.sections_size-b.ensures.1, c.sections_size-a.ensures.1, pre.0.0, pre.0.1.0, pre.0.1.1) pre.1.1.1)
+
+pub returns : goal.returns
+returns c =
+    let start = c in
+    let counts = start.requires.0 in
+    let first = c.sections_size-a.ensures in
+    let second = c.sections_size-b.ensures in
+    (c.sections_size-d.ensures.0 ∙ rw (second.1, second.0, first.1, first.0, counts.0, counts.1.0, counts.1.1) (total start.args.rows.now start.args.text.now), second.1 ∙ rw (first.1, counts.0, counts.1.0))

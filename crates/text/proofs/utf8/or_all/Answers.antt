@@ -1,0 +1,40 @@
+-- The loop keeps: the bits so far, or-ed with what is left, are those of all the bytes.
+-- Assumes nothing.
+use mathlib.Core.Path.{◌≡◌, ◌∙◌, sym}
+use Prim.Native.Nat.{ℕ, ◌≤◌, ◌+◌, ◌-◌}
+use native.Mathlib.Nat.{add-zero, sub-zero}
+use native.Mathlib.Omega.{arith}
+use lib.ListN.{take, drop}
+use Rattle.text.specs.Runs.{ored}
+use Rattle.text.proofs.Or.{ored-one}
+use borrow.Author.Rules.{rules}
+use Rattle.text.proofs.utf8.or_all.Goals as goal
+
+pub loop-j-init : goal.loop-j-init
+loop-j-init c = (search rules, simp (add-zero, sub-zero))
+
+pub overflow_add-all : goal.overflow_add-all
+overflow_add-all c = search rules
+
+pub bounds-s-a : goal.bounds-s-a
+bounds-s-a c = search rules
+
+pub overflow_step-j : goal.overflow_step-j
+overflow_step-j c = search rules
+
+pub loop-j-smaller : goal.loop-j-smaller
+loop-j-smaller c = search rules
+
+pub loop-j-preserved : goal.loop-j-preserved
+loop-j-preserved c =
+    let at-loop = c in
+    let args = at-loop.before.args in (
+      search rules,
+      at-loop.loop.invariant.1
+          ∙ ored-one args.s.now args.a args.n at-loop.loop.j at-loop.loop.all (search rules) (search rules),
+    )
+
+pub returns : goal.returns
+returns c =
+    let none : c.args.n - c.loop-j.j ≡ 0 = omega arith in
+    sym (rw none at c.loop-j.invariant.1)

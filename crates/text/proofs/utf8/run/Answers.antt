@@ -1,0 +1,44 @@
+-- The loop keeps: what is expected after the bytes passed decides the rest as it was decided before them.
+-- Assumes nothing.
+use mathlib.Core.Path.{◌≡◌, ◌∙◌, ap}
+use Prim.Native.Nat.{◌≤◌, ◌+◌, ◌-◌}
+use native.Mathlib.Omega.{arith}
+use borrow.Author.Rules.{rules}
+use lib.ListN.{length, drop}
+use Rattle.text.specs.Utf8.{Expect, goes}
+use Rattle.text.specs.States.{State, Rule, meaning}
+use Rattle.text.proofs.Goes.{goes_one}
+use Rattle.text.proofs.utf8.run.Goals as goal
+
+pub loop-i-init : goal.loop-i-init
+loop-i-init c = search rules
+
+pub bounds-s-i : goal.bounds-s-i
+bounds-s-i c = search rules
+
+pub next-st-requires : goal.next-st-requires
+next-st-requires c = search rules
+
+pub overflow_add-i : goal.overflow_add-i
+overflow_add-i c = search rules
+
+pub loop-i-smaller : goal.loop-i-smaller
+loop-i-smaller c = search rules
+
+pub loop-i-preserved : goal.loop-i-preserved
+loop-i-preserved c =
+    let at-loop = c in
+    let start = at-loop.before.before in (
+      search rules,
+      c.next-st.ensures.state,
+      at-loop.loop.invariant.2
+          ∙ goes_one (meaning at-loop.loop.st) start.args.s.now at-loop.loop.i (search rules)
+          ∙ ap (λ (e : Expect). goes e (drop (at-loop.loop.i + 1) start.args.s.now)) c.next-st.ensures.right,
+    )
+
+pub returns : goal.returns
+returns c =
+    let at-loop = c in
+    let args = at-loop.before.before.args in
+    let done : at-loop.loop.i ≡ args.e = omega arith in
+    (at-loop.loop.invariant.1, rw done at at-loop.loop.invariant.2)

@@ -1,0 +1,44 @@
+-- The loop keeps: all bytes passed are below 128, each run because its bits together are.
+-- Assumes nothing.
+use Prim.Native.Nat.{◌≤◌, ◌-◌}
+use native.Mathlib.Omega.{arith}
+use lib.ListN.{length}
+use Rattle.text.specs.Runs.{Below}
+use Rattle.text.proofs.Or.{run-below, below_join}
+use borrow.Author.Rules.{rules}
+use Rattle.text.proofs.utf8.skip.Goals as goal
+
+pub loop-i-init : goal.loop-i-init
+loop-i-init c = omega arith
+
+pub overflow_add-i : goal.overflow_add-i
+overflow_add-i c = search rules
+
+pub or_all-requires : goal.or_all-requires
+or_all-requires c = search rules
+
+pub returns-then-or_all-ge128 : goal.returns-then-or_all-ge128
+returns-then-or_all-ge128 c =
+    let inv = c.loop-i.invariant in
+    record { on = inv.0; within = inv.1; low = inv.2 }
+
+pub overflow_add-i-in-loop-i : goal.overflow_add-i-in-loop-i
+overflow_add-i-in-loop-i c = search rules
+
+pub loop-i-smaller : goal.loop-i-smaller
+loop-i-smaller c = search rules
+
+pub loop-i-preserved : goal.loop-i-preserved
+loop-i-preserved c =
+    let at-loop = c in
+    let s = at-loop.before.before.args.s.now in (
+      search rules,
+      search rules,
+      below_join 128 s _ at-loop.loop.i _ at-loop.loop.invariant.2
+          (run-below 7 s at-loop.loop.i _ (search rules) _ c.or_all.ensures c.if-or_all-ge128.false),
+    )
+
+pub returns : goal.returns
+returns c =
+    let inv = c.loop-i.invariant in
+    record { on = inv.0; within = inv.1; low = inv.2 }
