@@ -21,20 +21,16 @@ fields_of-requires c = c.requires.fixed
 
 pub returns-in-Read : goal.returns-in-Read
 returns-in-Read c =
-    let start = c in
-    body-read start.args.sheet.now start.args.v start.args.block.now _ start.args.symbology.now start.args.layout.now start.requires (lays-at c.layout_part.ensures c.version-1.given.1) c.symbology_part.ensures refl c.sixes-1.given.1 c.put_layout.ensures c.fields_of.ensures
+    body-read c.args.sheet.now c.args.v c.args.block.now _ c.args.symbology.now c.args.layout.now c.requires (lays-at c.layout_part.ensures c.version-1.given.1) c.symbology_part.ensures refl c.sixes-1.given.1 c.put_layout.ensures c.fields_of.ensures
 
 pub returns-in-Counted : goal.returns-in-Counted
 returns-in-Counted c =
-    let start = c in
-    body-short start.args.sheet.now start.args.v start.args.block.now _ start.args.symbology.now start.args.layout.now start.requires (lays-at c.layout_part.ensures c.version-1.given.1) c.symbology_part.ensures refl c.sixes-in-Counted-1.given.1
+    body-short c.args.sheet.now c.args.v c.args.block.now _ c.args.symbology.now c.args.layout.now c.requires (lays-at c.layout_part.ensures c.version-1.given.1) c.symbology_part.ensures refl c.sixes-in-Counted-1.given.1
 
 pub returns-in-Refused-symbology_part : goal.returns-in-Refused-symbology_part
 returns-in-Refused-symbology_part c =
-    let start = c in
-    body-bad start.args.sheet.now start.args.v start.args.block.now _ start.args.symbology.now start.args.layout.now start.requires (lays-at c.layout_part.ensures c.version-1.given.1) c.symbology_part.ensures c.why-1.given.1
+    body-bad c.args.sheet.now c.args.v c.args.block.now _ c.args.symbology.now c.args.layout.now c.requires (lays-at c.layout_part.ensures c.version-1.given.1) c.symbology_part.ensures c.why-1.given.1
 
 pub returns-in-Refused : goal.returns-in-Refused
 returns-in-Refused c =
-    let start = c in
-    body-no start.args.sheet.now start.args.v start.args.block.now _ start.args.symbology.now start.args.layout.now start.requires (lays-bad c.layout_part.ensures c.why-in-Refused-layout_part-1.given.1)
+    body-no c.args.sheet.now c.args.v c.args.block.now _ c.args.symbology.now c.args.layout.now c.requires (lays-bad c.layout_part.ensures c.why-in-Refused-layout_part-1.given.1)

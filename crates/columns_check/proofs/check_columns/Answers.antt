@@ -8,7 +8,7 @@ use borrow.Author.Rules.{rules}
 use Rattle.columns_check.proofs.check_columns.Goals as goal
 
 pub returns-then-table-count : goal.returns-then-table-count
-returns-then-table-count c = c.args in malformed args.width args.table.now args.count args.text.now (too_many args.table.now args.count args.text.now c.if-table-count.true)
+returns-then-table-count c = let args = c.args in malformed args.width args.table.now args.count args.text.now (too_many args.table.now args.count args.text.now c.if-table-count.true)
 
 pub returns-then-count-gt4294967295 : goal.returns-then-count-gt4294967295
 returns-then-count-gt4294967295 c =

@@ -7,4 +7,4 @@ use Rattle.dates.proofs.days_before_year.Goals as goal
 
 pub returns : goal.returns
 unfolding multiples
-returns c = year-before c.args.y in omega arith
+returns c = let e = year-before c.args.y in omega arith

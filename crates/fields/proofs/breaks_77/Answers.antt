@@ -5,4 +5,4 @@ use Rattle.fields.proofs.breaks_77.Goals as goal
 
 pub returns : goal.returns
 unfolding breaks77
-returns c = rw (c.both.ensures, c.type_size.ensures.0, c.is_symbol.ensures)
+returns c = rw (c.both.ensures, c.size_of.ensures.0, c.is_symbol.ensures)

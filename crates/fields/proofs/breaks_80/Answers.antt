@@ -5,4 +5,4 @@ use Rattle.fields.proofs.breaks_80.Goals as goal
 
 pub returns : goal.returns
 unfolding breaks80
-returns c = rw (c.both.ensures, c.end_of_lem.ensures.0, c.past_base.ensures)
+returns c = rw (c.both.ensures, c.end_of.ensures.0, c.past_base.ensures)

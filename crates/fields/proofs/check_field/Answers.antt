@@ -37,7 +37,7 @@ returns-then-size_of-eq0 c =
     (sym c.breaks_72.ensures ∙ c.if-breaks_72.false)
     (sym c.breaks_73.ensures ∙ c.if-breaks_73.false)
     (sym c.breaks_74.ensures ∙ c.if-breaks_74.false)
-    (sym c.type_size.ensures.0 ∙ c.if-size_of-eq0.true)
+    (sym c.size_of.ensures.0 ∙ c.if-size_of-eq0.true)
 
 pub returns-then-breaks_76 : goal.returns-then-breaks_76
 returns-then-breaks_76 c =
@@ -46,7 +46,7 @@ returns-then-breaks_76 c =
     (sym c.breaks_72.ensures ∙ c.if-breaks_72.false)
     (sym c.breaks_73.ensures ∙ c.if-breaks_73.false)
     (sym c.breaks_74.ensures ∙ c.if-breaks_74.false)
-    (λ q. c.if-size_of-eq0.false (c.type_size.ensures.0 ∙ q))
+    (λ q. c.if-size_of-eq0.false (c.size_of.ensures.0 ∙ q))
     (sym c.breaks_76.ensures ∙ c.if-breaks_76.true)
 
 pub returns-then-breaks_77 : goal.returns-then-breaks_77
@@ -56,7 +56,7 @@ returns-then-breaks_77 c =
     (sym c.breaks_72.ensures ∙ c.if-breaks_72.false)
     (sym c.breaks_73.ensures ∙ c.if-breaks_73.false)
     (sym c.breaks_74.ensures ∙ c.if-breaks_74.false)
-    (λ q. c.if-size_of-eq0.false (c.type_size.ensures.0 ∙ q))
+    (λ q. c.if-size_of-eq0.false (c.size_of.ensures.0 ∙ q))
     (sym c.breaks_76.ensures ∙ c.if-breaks_76.false)
     (sym c.breaks_77.ensures ∙ c.if-breaks_77.true)
 
@@ -67,10 +67,10 @@ returns-then-end_of-gt65535 c =
     (sym c.breaks_72.ensures ∙ c.if-breaks_72.false)
     (sym c.breaks_73.ensures ∙ c.if-breaks_73.false)
     (sym c.breaks_74.ensures ∙ c.if-breaks_74.false)
-    (λ q. c.if-size_of-eq0.false (c.type_size.ensures.0 ∙ q))
+    (λ q. c.if-size_of-eq0.false (c.size_of.ensures.0 ∙ q))
     (sym c.breaks_76.ensures ∙ c.if-breaks_76.false)
     (sym c.breaks_77.ensures ∙ c.if-breaks_77.false)
-    (rw c.end_of_lem.ensures.0 at c.if-end_of-gt65535.true)
+    (rw c.end_of.ensures.0 at c.if-end_of-gt65535.true)
 
 pub returns-then-breaks_79 : goal.returns-then-breaks_79
 returns-then-breaks_79 c =
@@ -79,10 +79,10 @@ returns-then-breaks_79 c =
     (sym c.breaks_72.ensures ∙ c.if-breaks_72.false)
     (sym c.breaks_73.ensures ∙ c.if-breaks_73.false)
     (sym c.breaks_74.ensures ∙ c.if-breaks_74.false)
-    (λ q. c.if-size_of-eq0.false (c.type_size.ensures.0 ∙ q))
+    (λ q. c.if-size_of-eq0.false (c.size_of.ensures.0 ∙ q))
     (sym c.breaks_76.ensures ∙ c.if-breaks_76.false)
     (sym c.breaks_77.ensures ∙ c.if-breaks_77.false)
-    (rw c.end_of_lem.ensures.0 at c.if-end_of-gt65535.false)
+    (rw c.end_of.ensures.0 at c.if-end_of-gt65535.false)
     (sym c.breaks_79.ensures ∙ c.if-breaks_79.true)
 
 pub returns-then-breaks_80 : goal.returns-then-breaks_80
@@ -92,10 +92,10 @@ returns-then-breaks_80 c =
     (sym c.breaks_72.ensures ∙ c.if-breaks_72.false)
     (sym c.breaks_73.ensures ∙ c.if-breaks_73.false)
     (sym c.breaks_74.ensures ∙ c.if-breaks_74.false)
-    (λ q. c.if-size_of-eq0.false (c.type_size.ensures.0 ∙ q))
+    (λ q. c.if-size_of-eq0.false (c.size_of.ensures.0 ∙ q))
     (sym c.breaks_76.ensures ∙ c.if-breaks_76.false)
     (sym c.breaks_77.ensures ∙ c.if-breaks_77.false)
-    (rw c.end_of_lem.ensures.0 at c.if-end_of-gt65535.false)
+    (rw c.end_of.ensures.0 at c.if-end_of-gt65535.false)
     (sym c.breaks_79.ensures ∙ c.if-breaks_79.false)
     (sym c.breaks_80.ensures ∙ c.if-breaks_80.true)
 
@@ -106,9 +106,9 @@ returns c =
     (sym c.breaks_72.ensures ∙ c.if-breaks_72.false)
     (sym c.breaks_73.ensures ∙ c.if-breaks_73.false)
     (sym c.breaks_74.ensures ∙ c.if-breaks_74.false)
-    (λ q. c.if-size_of-eq0.false (c.type_size.ensures.0 ∙ q))
+    (λ q. c.if-size_of-eq0.false (c.size_of.ensures.0 ∙ q))
     (sym c.breaks_76.ensures ∙ c.if-breaks_76.false)
     (sym c.breaks_77.ensures ∙ c.if-breaks_77.false)
-    (rw c.end_of_lem.ensures.0 at c.if-end_of-gt65535.false)
+    (rw c.end_of.ensures.0 at c.if-end_of-gt65535.false)
     (sym c.breaks_79.ensures ∙ c.if-breaks_79.false)
     (sym c.breaks_80.ensures ∙ c.if-breaks_80.false)

@@ -6,7 +6,7 @@ pub returns : goal.returns
 returns c = record {
   other = rw c.past_base.ensures at c.differ.ensures;
   off = c.off_of.ensures.0;
-  end = c.end_of_lem.ensures.0;
+  end = c.end_of.ensures.0;
   off-low = c.off_of.ensures.1;
-  end_low = c.end_of_lem.ensures.1;
+  end_low = c.end_of.ensures.1;
 }

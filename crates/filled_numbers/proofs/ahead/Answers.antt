@@ -8,4 +8,4 @@ use borrow.Author.Rules.{rules}
 use Rattle.filled_numbers.proofs.ahead.Goals as goal
 
 pub returns-else-n-left : goal.returns-else-n-left
-returns-else-n-left c = c.args.s.now in let past : length s ≤ c.args.at + c.args.n = omega arith in drop-length s ∙ sym (drop_of_length-le s past)
+returns-else-n-left c = let s = c.args.s.now in let past : length s ≤ c.args.at + c.args.n = omega arith in drop-length s ∙ sym (drop_of_length-le s past)

@@ -6,4 +6,4 @@ use borrow.Author.Rules.{rules}
 use Rattle.filled_numbers.proofs.u16_of.Goals as goal
 
 pub returns : goal.returns
-returns c = c.args in omega (arith, u8_on args.s.now c.ahead.result (args.at + 1) c.ahead.ensures)
+returns c = let args = c.args in omega (arith, u8_on args.s.now c.ahead.result (args.at + 1) c.ahead.ensures)

@@ -6,4 +6,4 @@ use borrow.Author.Rules.{rules}
 use Rattle.filled_numbers.proofs.u64_of.Goals as goal
 
 pub returns : goal.returns
-returns c = c.args in omega (arith, u32_on args.s.now c.ahead.result (args.at + 4) c.ahead.ensures)
+returns c = let args = c.args in omega (arith, u32_on args.s.now c.ahead.result (args.at + 4) c.ahead.ensures)

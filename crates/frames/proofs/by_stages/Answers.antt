@@ -18,10 +18,10 @@ pub slice_bounds-pour-start : goal.slice_bounds-pour-start
 slice_bounds-pour-start c = omega (arith, pour_fits frame frame-law c.args.held c.args.store.now c.args.piece.now c.stage_of.ensures c.pour-a.ensures.0)
 
 pub overflow_add-second : goal.overflow_add-second
-overflow_add-second c = two_pours frame frame-law c.args.held c.args.store.now c.args.piece.now c.stage_of.ensures c.pour-a.ensures c.stage_of-2.ensures c.pour-b.ensures in omega (arith, w.fits)
+overflow_add-second c = let w = two_pours frame frame-law c.args.held c.args.store.now c.args.piece.now c.stage_of.ensures c.pour-a.ensures c.stage_of-2.ensures c.pour-b.ensures in omega (arith, w.fits)
 
 pub overflow_add-result : goal.overflow_add-result
-overflow_add-result c = two_pours frame frame-law c.args.held c.args.store.now c.args.piece.now c.stage_of.ensures c.pour-a.ensures c.stage_of-2.ensures c.pour-b.ensures in omega (arith, w.fits)
+overflow_add-result c = let w = two_pours frame frame-law c.args.held c.args.store.now c.args.piece.now c.stage_of.ensures c.pour-a.ensures c.stage_of-2.ensures c.pour-b.ensures in omega (arith, w.fits)
 
 pub returns : goal.returns
 returns c =

@@ -11,10 +11,10 @@ use Rattle.held.proofs.pour.Goals as goal
 
 pub returns-then-room-held : goal.returns-then-room-held
 unfolding put_of
-returns-then-room-held c = c.args in (omega arith, paste-zero a.store.now a.held a.piece.now)
+returns-then-room-held c = let a = c.args in (omega arith, paste-zero a.store.now a.held a.piece.now)
 
 pub copy-requires : goal.copy-requires
-copy-requires c = c.args in (omega (arith, c.least-n.ensures, c.least.ensures), omega (arith, c.least-n.ensures, c.least.ensures))
+copy-requires c = let a = c.args in (omega (arith, c.least-n.ensures, c.least.ensures), omega (arith, c.least-n.ensures, c.least.ensures))
 
 pub returns : goal.returns
 unfolding put_of

@@ -19,4 +19,4 @@ pub returns-in-Refused-groups : goal.returns-in-Refused-groups
 returns-in-Refused-groups c = ver_bad _ _ c.if-layout-gt4294967295.false (sym c.u16_at.ensures.0 ∙ c.version-1.given.1) c.groups.ensures c.why-1.given.1
 
 pub returns-in-Refused : goal.returns-in-Refused
-returns-in-Refused c = c.args.light in ver_no light _ (layout-no light _ c.if-layout-gt4294967295.false (sym c.u16_at.ensures.0 ∙ c.why-in-Refused-u16_at-1.given.1))
+returns-in-Refused c = let light = c.args.light in ver_no light _ (layout-no light _ c.if-layout-gt4294967295.false (sym c.u16_at.ensures.0 ∙ c.why-in-Refused-u16_at-1.given.1))

@@ -6,7 +6,7 @@ use borrow.Author.Rules.{rules}
 use Rattle.layout.proofs.read_layout_rows.Goals as goal
 
 pub groups-requires : goal.groups-requires
-groups-requires c = accepts c.args.light _ (sym c.version-1.given.1 ∙ c.layout_verdict.ensures) in omega (arith, a.small, a.two)
+groups-requires c = let a = accepts c.args.light _ (sym c.version-1.given.1 ∙ c.layout_verdict.ensures) in omega (arith, a.small, a.two)
 
 pub returns-then-rows-table : goal.returns-then-rows-table
 returns-then-rows-table c = ans_read _ (accepts _ _ (sym c.version-1.given.1 ∙ c.layout_verdict.ensures)) c.if-rows-table.true c.groups.ensures

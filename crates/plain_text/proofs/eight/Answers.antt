@@ -15,10 +15,9 @@ loop-j-init c = (search rules, simp (add-zero, sub-zero))
 
 pub loop-j-preserved : goal.loop-j-preserved
 loop-j-preserved c =
-    let at-loop = c in
-    let args = at-loop.before.before.args in (
+    let args = c.args in (
       search rules,
-      rw c.plain_byte-all.ensures (at-loop.loop.invariant.1 ∙ eight_one args.s.now args.a at-loop.loop.j at-loop.loop.all (search rules) (search rules)),
+      rw c.plain_byte-all.ensures (c.loop-j.invariant.1 ∙ eight_one args.s.now args.a c.loop-j.j c.loop-j.all (search rules) (search rules)),
     )
 
 pub returns : goal.returns

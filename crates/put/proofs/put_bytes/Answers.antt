@@ -15,7 +15,7 @@ pub store_bytes-requires : goal.store_bytes-requires
 store_bytes-requires c = room-told (refl) (sym c.has_room.ensures ∙ c.if-has_room.true)
 
 pub returns-then-has_room : goal.returns-then-has_room
-returns-then-has_room c = wrote_stored c.store_Bytes.ensures
+returns-then-has_room c = wrote_stored c.store_bytes.ensures
 
 pub returns : goal.returns
 returns c = stored_short (refl) (sym c.has_room.ensures ∙ c.if-has_room.false)

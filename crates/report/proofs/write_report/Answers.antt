@@ -13,13 +13,13 @@ pub put_refused-at-requires : goal.put_refused-at-requires
 put_refused-at-requires c = part_room (part-wrote (part_stored (parts-start _ (report-parts c.args.counts.now) (report-room _ _ (omega arith))) c.put_bytes-at.ensures) c.put_line-at.ensures)
 
 pub put_some-at-requires : goal.put_some-at-requires
-put_some-at-requires c = part_room (part-wrote (part-wrote (part_stored (parts-start _ (report-parts c.args.counts.now) (report-room _ _ (omega arith))) c.put_bytes-at.ensures) c.put_line-at.ensures) c.Put-refused.ensures)
+put_some-at-requires c = part_room (part-wrote (part-wrote (part_stored (parts-start _ (report-parts c.args.counts.now) (report-room _ _ (omega arith))) c.put_bytes-at.ensures) c.put_line-at.ensures) c.put_refused-at.ensures)
 
 pub put_line-at-requires-2 : goal.put_line-at-requires-2
-put_line-at-requires-2 c = part_room (part-wrote (part-wrote (part-wrote (part_stored (parts-start _ (report-parts c.args.counts.now) (report-room _ _ (omega arith))) c.put_bytes-at.ensures) c.put_line-at.ensures) c.Put-refused.ensures) c.put_some_lem.ensures)
+put_line-at-requires-2 c = part_room (part-wrote (part-wrote (part-wrote (part_stored (parts-start _ (report-parts c.args.counts.now) (report-room _ _ (omega arith))) c.put_bytes-at.ensures) c.put_line-at.ensures) c.put_refused-at.ensures) c.put_some-at.ensures)
 
 pub put_line-requires : goal.put_line-requires
-put_line-requires c = part_room (part-wrote (part-wrote (part-wrote (part-wrote (part_stored (parts-start _ (report-parts c.args.counts.now) (report-room _ _ (omega arith))) c.put_bytes-at.ensures) c.put_line-at.ensures) c.Put-refused.ensures) c.put_some_lem.ensures) c.put_line-at-2.ensures)
+put_line-requires c = part_room (part-wrote (part-wrote (part-wrote (part-wrote (part_stored (parts-start _ (report-parts c.args.counts.now) (report-room _ _ (omega arith))) c.put_bytes-at.ensures) c.put_line-at.ensures) c.put_refused-at.ensures) c.put_some-at.ensures) c.put_line-at-2.ensures)
 
 pub returns : goal.returns
-returns c = wrote-filled (parts-done (part-wrote (part-wrote (part-wrote (part-wrote (part-wrote (part_stored (parts-start _ (report-parts c.args.counts.now) (report-room _ _ (omega arith))) c.put_bytes-at.ensures) c.put_line-at.ensures) c.Put-refused.ensures) c.put_some_lem.ensures) c.put_line-at-2.ensures) c.put_line.ensures))
+returns c = wrote-filled (parts-done (part-wrote (part-wrote (part-wrote (part-wrote (part-wrote (part_stored (parts-start _ (report-parts c.args.counts.now) (report-room _ _ (omega arith))) c.put_bytes-at.ensures) c.put_line-at.ensures) c.put_refused-at.ensures) c.put_some-at.ensures) c.put_line-at-2.ensures) c.put_line.ensures))

@@ -31,7 +31,7 @@ returns-then-not-all_pass-2 c =
     (sym c.all_pass-2.ensures ∙ not-true c.all_pass-2.result c.if-not-all_pass-2.true)
 
 pub total_size-counted-requires : goal.total_size-counted-requires
-total_size-counted-requires c = formed _ _ c.requires.1.1 in (c.requires.0, (record_sections _ _ w, (struct_sections _ _ w, label_def_sections _ _ w)))
+total_size-counted-requires c = let w = formed _ _ c.requires.1.1 in (c.requires.0, (record_sections _ _ w, (struct_sections _ _ w, label_def_sections _ _ w)))
 
 pub returns-then-bytes-ge-CAP : goal.returns-then-bytes-ge-CAP
 returns-then-bytes-ge-CAP c =

@@ -6,7 +6,7 @@ use borrow.Author.Rules.{rules}
 use Rattle.symbology_rows.proofs.read_rows.Goals as goal
 
 pub symbology-requires : goal.symbology-requires
-symbology-requires c = (finds _ _ _ (sym c.rows-1.given.1 ∙ c.symbology_verdict.ensures)) in (omega (arith, a.small), omega arith)
+symbology-requires c = let a = (finds _ _ _ (sym c.rows-1.given.1 ∙ c.symbology_verdict.ensures)) in (omega (arith, a.small), omega arith)
 
 pub returns-then-rows-table : goal.returns-then-rows-table
 returns-then-rows-table c = rows-read (finds _ _ _ (sym c.rows-1.given.1 ∙ c.symbology_verdict.ensures)) c.if-write.true c.if-least-next.true c.if-rows-table.true c.symbology.ensures

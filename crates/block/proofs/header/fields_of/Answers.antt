@@ -82,5 +82,4 @@ overflow_cast-result c = search rules
 
 pub returns : goal.returns
 returns c =
-    let start = c in
-    fields-are start.args.v start.args.block.now start.requires _ _ _ c.trimmed_len.ensures (c.present_unless.ensures ∙ ap schema_of c.half-schema.ensures.0) c.long.ensures (c.end_of_lem.ensures ∙ ap end_of c.long-2.ensures) (c.present_unless-2.ensures ∙ ap limit_of c.long-limit.ensures) (c.present_unless-3.ensures ∙ ap stype_in_of c.wide-stype_in.ensures.0) c.symbol_width.ensures
+    fields-are c.args.v c.args.block.now c.requires _ _ _ c.trimmed_len.ensures (c.present_unless.ensures ∙ ap schema_of c.half-schema.ensures.0) c.long.ensures (c.end_of.ensures ∙ ap end_of c.long-2.ensures) (c.present_unless-2.ensures ∙ ap limit_of c.long-limit.ensures) (c.present_unless-3.ensures ∙ ap stype_in_of c.wide-stype_in.ensures.0) c.symbol_width.ensures

@@ -25,5 +25,4 @@ overflow_cast-result c = search rules
 
 pub returns : goal.returns
 returns c =
-    let start = c in
-    let t = start.requires.two (omega (arith, c.if-v-eq0.false)) in of-header start.args.v start.args.block.now start.requires (λ h. c.half.result ≡ width_of start.args.v h) (rw t c.half.ensures.0)
+    let t = c.requires.two (omega (arith, c.if-v-eq0.false)) in of-header c.args.v c.args.block.now c.requires (λ h. c.half.result ≡ width_of c.args.v h) (rw t c.half.ensures.0)

@@ -20,9 +20,8 @@ overflow_add-end c = omega (arith, (within-at c.span_at.ensures.1 c.start-1.give
 
 pub returns-then-len-eq0 : goal.returns-then-len-eq0
 returns-then-len-eq0 c =
-    let start = c in
     let span-at = c.span_at.ensures in
-    lays_26 start.args.sheet.now _ start.args.block.now _ (sym span-at.0 ∙ c.start-1.given.1) (within-at span-at.1 c.start-1.given.1) start.requires.1 c.if-has_layout.true c.if-len-eq0.true
+    lays_26 c.args.sheet.now _ c.args.block.now _ (sym span-at.0 ∙ c.start-1.given.1) (within-at span-at.1 c.start-1.given.1) c.requires.1 c.if-has_layout.true c.if-len-eq0.true
 
 pub slice_bounds-part-count : goal.slice_bounds-part-count
 slice_bounds-part-count c = omega (arith, (within-at c.span_at.ensures.1 c.start-1.given.1))
@@ -50,19 +49,17 @@ in_block-requires c =
 
 pub returns-then-len-eq0-2 : goal.returns-then-len-eq0-2
 returns-then-len-eq0-2 c =
-    let start = c in
     let span-at = c.span_at.ensures in
-    lays-none start.args.sheet.now _ start.args.block.now _ (sym span-at.0 ∙ c.start-1.given.1) (within-at span-at.1 c.start-1.given.1) start.requires.1 c.if-has_layout.false c.if-len-eq0-2.true
+    lays-none c.args.sheet.now _ c.args.block.now _ (sym span-at.0 ∙ c.start-1.given.1) (within-at span-at.1 c.start-1.given.1) c.requires.1 c.if-has_layout.false c.if-len-eq0-2.true
 
 pub enum_known-why-in-Refused-span_at : goal.enum_known-why-in-Refused-span_at
 enum_known-why-in-Refused-span_at c = search rules
 
 pub returns-in-Accepted : goal.returns-in-Accepted
 returns-in-Accepted c =
-    let start = c in
     let span-at = c.span_at.ensures in
     let start2 = c.start-1.given in
-    lays-ok start.args.sheet.now _ start.args.block.now _ (sym span-at.0 ∙ start2.1) (within-at span-at.1 start2.1) start.requires.1 c.if-has_layout.true (omega (arith, c.if-len-eq0.false)) (sym c.version-1.given.1 ∙ c.check_layout.ensures)
+    lays-ok c.args.sheet.now _ c.args.block.now _ (sym span-at.0 ∙ start2.1) (within-at span-at.1 start2.1) c.requires.1 c.if-has_layout.true (omega (arith, c.if-len-eq0.false)) (sym c.version-1.given.1 ∙ c.check_layout.ensures)
 
 pub returns-in-Refused-check_layout : goal.returns-in-Refused-check_layout
 returns-in-Refused-check_layout c =
@@ -70,9 +67,8 @@ returns-in-Refused-check_layout c =
 
 pub returns-else-len-eq0-2 : goal.returns-else-len-eq0-2
 returns-else-len-eq0-2 c =
-    let start = c in
     let span-at = c.span_at.ensures in
-    lays_25 start.args.sheet.now _ start.args.block.now _ (sym span-at.0 ∙ c.start-1.given.1) (within-at span-at.1 c.start-1.given.1) start.requires.1 c.if-has_layout.false (omega (arith, c.if-len-eq0-2.false))
+    lays_25 c.args.sheet.now _ c.args.block.now _ (sym span-at.0 ∙ c.start-1.given.1) (within-at span-at.1 c.start-1.given.1) c.requires.1 c.if-has_layout.false (omega (arith, c.if-len-eq0-2.false))
 
 pub returns-in-Refused : goal.returns-in-Refused
 returns-in-Refused c =

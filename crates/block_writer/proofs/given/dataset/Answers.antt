@@ -7,10 +7,10 @@ use borrow.Author.Rules.{rules}
 use Rattle.block_writer.proofs.given.dataset.Goals as goal
 
 pub overflow_add-result : goal.overflow_add-result
-overflow_add-result c = dataset-span c.args.fields.now c.args.text.now c.requires in search rules
+overflow_add-result c = let h = dataset-span c.args.fields.now c.args.text.now c.requires in search rules
 
 pub slice_bounds-result-end : goal.slice_bounds-result-end
-slice_bounds-result-end c = dataset-span c.args.fields.now c.args.text.now c.requires in search rules
+slice_bounds-result-end c = let h = dataset-span c.args.fields.now c.args.text.now c.requires in search rules
 
 pub returns : goal.returns
 unfolding dataset_text

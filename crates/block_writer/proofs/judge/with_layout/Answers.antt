@@ -10,7 +10,7 @@ use borrow.Author.Rules.{rules}
 use Rattle.block_writer.proofs.judge.with_layout.Goals as goal
 
 pub overflow_cast-width : goal.overflow_cast-width
-overflow_cast-width c = ready_narrow16 c.requires.0 in let e = c.number-width.ensures.0 in search rules
+overflow_cast-width c = let h = ready_narrow16 c.requires.0 in let e = c.number-width.ensures.0 in search rules
 
 pub overflow_add-len : goal.overflow_add-len
 overflow_add-len c =

@@ -10,7 +10,7 @@ use borrow.Author.Rules.{rules}
 use Rattle.columns_check.proofs.rows.all_fit.Goals as goal
 
 pub loop-r-init : goal.loop-r-init
-loop-r-init c = c.args in ap (Every (row_fits args.table.now args.text.now) 0) (sub-zero args.n)
+loop-r-init c = let args = c.args in ap (Every (row_fits args.table.now args.text.now) 0) (sub-zero args.n)
 
 pub returns-then-not-row_fits : goal.returns-then-not-row_fits
 returns-then-not-row_fits c =

@@ -13,7 +13,7 @@ use Rattle.columns_check.proofs.texts.are_narrow.Goals as goal
 
 pub loop-r-init : goal.loop-r-init
 unfolding narrow
-loop-r-init c = c.args in ap (Every (λ j. leb (len_of args.table.now j) args.width) 0) (sub-zero args.n)
+loop-r-init c = let args = c.args in ap (Every (λ j. leb (len_of args.table.now j) args.width) 0) (sub-zero args.n)
 
 pub returns-then-width-number_at : goal.returns-then-width-number_at
 returns-then-width-number_at c =

@@ -12,13 +12,12 @@ use borrow.Author.Rules.{rules}
 use Rattle.columns_check.proofs.texts.first_fault.Goals as goal
 
 pub loop-r-init : goal.loop-r-init
-loop-r-init c = c.args in ap (rows_fault args.width args.table.now args.text.now 0) (sub-zero args.n)
+loop-r-init c = let args = c.args in ap (rows_fault args.width args.table.now args.text.now 0) (sub-zero args.n)
 
 pub row_fault-k-requires : goal.row_fault-k-requires
 row_fault-k-requires c =
-    let start = c in
     let r = c.loop-r.r in
-    row-span start.args.table.now start.args.text.now r (every-at (row_fits start.args.table.now start.args.text.now) 0 start.args.n start.requires r (omega arith) (omega (arith, c.loop-r-test.true)))
+    row-span c.args.table.now c.args.text.now r (every-at (row_fits c.args.table.now c.args.text.now) 0 c.args.n c.requires r (omega arith) (omega (arith, c.loop-r-test.true)))
 
 pub returns-then-k-ne0 : goal.returns-then-k-ne0
 returns-then-k-ne0 c =

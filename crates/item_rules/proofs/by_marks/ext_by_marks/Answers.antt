@@ -5,7 +5,7 @@ use Rattle.plain_tiling.specs.MarkingLaws.{ext_83, ext_0}
 use Rattle.item_rules.proofs.by_marks.ext_by_marks.Goals as goal
 
 pub side_end-end-requires : goal.side_end-end-requires
-side_end-end-requires c = c.requires in (pre.0, (pre.1.1.0.high, pre.1.1.1))
+side_end-end-requires c = let pre = c.requires in (pre.0, (pre.1.1.0.high, pre.1.1.1))
 
 pub shape_of-owners-then-end-eq-NOWHERE : goal.shape_of-owners-then-end-eq-NOWHERE
 shape_of-owners-then-end-eq-NOWHERE c = ap length c.side_end-end.ensures.1

@@ -20,9 +20,8 @@ overflow_sub-src c =
 
 pub ext_fault-requires : goal.ext_fault-requires
 ext_fault-requires c =
-    let start = c in
-    let args = start.args in
-    (start.requires.0, (high_proper start.requires.1, (omega (arith, start.requires.1.small), omega (arith, sides args.frame.is_record args.frame.base (entries_of args.layout.now args.rows.now args.src), entries-length args.layout.now args.rows.now args.src, c.count-k.ensures))))
+    let args = c.args in
+    (c.requires.0, (high_proper c.requires.1, (omega (arith, c.requires.1.small), omega (arith, sides args.frame.is_record args.frame.base (entries_of args.layout.now args.rows.now args.src), entries-length args.layout.now args.rows.now args.src, c.count-k.ensures))))
 
 pub returns : goal.returns
 returns c = tried_as (λ e. tiling_ext _ _ _ (tried_0 c.base_fault-b.ensures c.if-b-ne0.false) c.if-b-ne0.false e) c.ext_fault.ensures

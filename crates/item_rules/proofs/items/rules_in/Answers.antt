@@ -6,7 +6,7 @@ use Rattle.item_rules.proofs.Turns.{all-structs, all-records}
 use Rattle.item_rules.proofs.items.rules_in.Goals as goal
 
 pub fill_aligns-requires : goal.fill_aligns-requires
-fill_aligns-requires c = c.requires in (pre.0, pre.1.1.0)
+fill_aligns-requires c = let pre = c.requires in (pre.0, pre.1.1.0)
 
 pub structs_fault-v-requires : goal.structs_fault-v-requires
 structs_fault-v-requires c =

@@ -10,7 +10,7 @@ use Rattle.item_rules.proofs.Turns.{step-found, step_end, step_less, Structing, 
 use Rattle.item_rules.proofs.items.structs_fault.Goals as goal
 
 pub loop-item-init : goal.loop-item-init
-loop-item-init c = c.requires in (record { good = pre.0; marks = pre.1.0; same = refl }, refl)
+loop-item-init c = let pre = c.requires in (record { good = pre.0; marks = pre.1.0; same = refl }, refl)
 
 pub next_item-requires : goal.next_item-requires
 next_item-requires c = c.loop-item.invariant.0.good

@@ -10,7 +10,7 @@ pub returns-then-v-ne-GAVE_UP : goal.returns-then-v-ne-GAVE_UP
 returns-then-v-ne-GAVE_UP c = (answered (tried-is c.tiling_by_search-v.ensures c.if-v-ne-GAVE_UP.true), refl)
 
 pub too_few-requires : goal.too_few-requires
-too_few-requires c = c.requires in (pre.0, pre.1.0)
+too_few-requires c = let pre = c.requires in (pre.0, pre.1.0)
 
 pub returns-then-too_few : goal.returns-then-too_few
 returns-then-too_few c = (gave_up refl (c.too_few.ensures.1 c.if-too_few.true), refl)

@@ -7,7 +7,7 @@ pub cell-requires : goal.cell-requires
 cell-requires c = omega (arith, row_bounds c.requires)
 
 pub overflow_cast-result : goal.overflow_cast-result
-overflow_cast-result c = rw c.if-is_record.true at c.requires.rtype in omega (arith, c.cell.ensures.0)
+overflow_cast-result c = let small = rw c.if-is_record.true at c.requires.rtype in omega (arith, c.cell.ensures.0)
 
 pub returns-then-is_record : goal.returns-then-is_record
 returns-then-is_record c = rw c.if-is_record.true c.cell.ensures.0

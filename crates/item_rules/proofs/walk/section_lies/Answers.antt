@@ -28,13 +28,13 @@ pub returns-then-size-end : goal.returns-then-size-end
 returns-then-size-end c = section-short c.args.is-record c.args.layout.now c.args.at c.u16_of-size.ensures.0 (rw c.left.ensures at c.if-left-size.false) c.column.ensures c.if-size-column.false c.column-name.ensures c.wide.ensures.0 c.if-size-end.true
 
 pub overflow_add-at-2 : goal.overflow_add-at-2
-overflow_add-at-2 c = rw c.left.ensures at c.if-left-size.false in omega (arith, c.if-size-end.false)
+overflow_add-at-2 c = let h = rw c.left.ensures at c.if-left-size.false in omega (arith, c.if-size-end.false)
 
 pub overflow_sub-at : goal.overflow_sub-at
 overflow_sub-at c = omega arith
 
 pub half-requires : goal.half-requires
-half-requires c = rw c.left.ensures at c.if-left-size.false in omega (arith, c.if-size-end.false)
+half-requires c = let h = rw c.left.ensures at c.if-left-size.false in omega (arith, c.if-size-end.false)
 
 pub overflow_mul-result : goal.overflow_mul-result
 overflow_mul-result c = omega (arith, c.half.ensures.1)

@@ -13,11 +13,10 @@ loop-j-init c = (search rules, search rules, refl)
 
 pub loop-j-preserved : goal.loop-j-preserved
 loop-j-preserved c =
-    let at-loop = c in
-    let args = at-loop.before.before.args in (
+    let args = c.args in (
       search rules,
       search rules,
-      rw (c.cell_of.ensures.0, c.limit_of.ensures) (sym (fit_next (number_fits args.rows.now args.q args.kind) at-loop.loop.j at-loop.loop.fit (search rules)) ∙ at-loop.loop.invariant.2),
+      rw (c.cell_of.ensures.0, c.limit_of.ensures) (sym (fit_next (number_fits args.rows.now args.q args.kind) c.loop-j.j c.loop-j.fit (search rules)) ∙ c.loop-j.invariant.2),
     )
 
 pub returns : goal.returns

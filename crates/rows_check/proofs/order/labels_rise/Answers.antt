@@ -13,10 +13,9 @@ use Rattle.rows_check.proofs.order.labels_rise.Goals as goal
 
 pub loop-todo-init : goal.loop-todo-init
 loop-todo-init c =
-    let start = c in
-    let rows = start.args.rows.now in
-    let left : c.one_less-todo.result ≡ row_count rows - 1 - start.args.from = c.one_less-todo.ensures ∙ omega arith in
-    (start.requires.0, left, rw left (sym (rw (zero-add _) at (every-past (rises_at rows) 0 start.args.from (row_count rows - 1) start.requires.1))))
+    let rows = c.args.rows.now in
+    let left : c.one_less-todo.result ≡ row_count rows - 1 - c.args.from = c.one_less-todo.ensures ∙ omega arith in
+    (c.requires.0, left, rw left (sym (rw (zero-add _) at (every-past (rises_at rows) 0 c.args.from (row_count rows - 1) c.requires.1))))
 
 pub rises_at-requires : goal.rises_at-requires
 rises_at-requires c = omega arith

@@ -20,7 +20,7 @@ pub returns-then-not-section_in_place : goal.returns-then-not-section_in_place
 returns-then-not-section_in_place c = going_fails _ _ _ _ _ _ c.loop-p.invariant c.loop-p-test.true (sym c.cell_of.ensures.0 ∙ c.if-cell_of-kind.false) (sym c.section_in_place.ensures ∙ not-true c.section_in_place.result c.if-not-section_in_place.true)
 
 pub overflow_add-n : goal.overflow_add-n
-overflow_add-n c = c.loop-p.invariant.few in search rules
+overflow_add-n c = let few = c.loop-p.invariant.few in search rules
 
 pub loop-p-smaller : goal.loop-p-smaller
 loop-p-smaller c =

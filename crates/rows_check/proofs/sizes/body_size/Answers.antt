@@ -13,5 +13,4 @@ names_size-requires c =
 
 pub returns : goal.returns
 returns c =
-    let start = c in
-    c.names_size.ensures ∙ rw (c.add_to-head.ensures, c.nameless_size.ensures.0, c.cell_of.ensures.0, c.names_from-from.ensures.0, c.count_of-n.ensures.0, body-length start.args.kind start.args.rows.now start.args.text.now start.args.q start.requires.1) (omega arith)
+    c.names_size.ensures ∙ rw (c.add_to-head.ensures, c.nameless_size.ensures.0, c.cell_of.ensures.0, c.names_from-from.ensures.0, c.count_of-n.ensures.0, body-length c.args.kind c.args.rows.now c.args.text.now c.args.q c.requires.1) (omega arith)

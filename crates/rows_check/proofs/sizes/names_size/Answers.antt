@@ -17,8 +17,7 @@ loop-todo-init c = (search rules, refl, c.requires.0, refl)
 
 pub loop-todo-preserved : goal.loop-todo-preserved
 loop-todo-preserved c =
-    let start = c in
-    let h = name-length start.args.rows.now start.args.text.now c.loop-todo.p (start.requires.1.1 c.loop-todo.p (omega arith) (omega arith)) in
+    let h = name-length c.args.rows.now c.args.text.now c.loop-todo.p (c.requires.1.1 c.loop-todo.p (omega arith) (omega arith)) in
     (search rules, search rules, omega arith, rw c.add_to-s.ensures (sizes-next _ _ _ _ _ _ c.loop-todo-test.true (omega (arith, h))) ∙ c.loop-todo.invariant.3)
 
 pub returns : goal.returns

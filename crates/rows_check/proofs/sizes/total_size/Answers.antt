@@ -18,8 +18,7 @@ sections_size-d-requires c =
 
 pub returns : goal.returns
 returns c =
-    let start = c in
-    let counts = start.requires.0 in
+    let counts = c.requires.0 in
     let first = c.sections_size-a.ensures in
     let second = c.sections_size-b.ensures in
-    (c.sections_size-d.ensures.0 ∙ rw (second.1, second.0, first.1, first.0, counts.0, counts.1.0, counts.1.1) (total start.args.rows.now start.args.text.now), second.1 ∙ rw (first.1, counts.0, counts.1.0))
+    (c.sections_size-d.ensures.0 ∙ rw (second.1, second.0, first.1, first.0, counts.0, counts.1.0, counts.1.1) (total c.args.rows.now c.args.text.now), second.1 ∙ rw (first.1, counts.0, counts.1.0))

@@ -9,8 +9,7 @@ use Rattle.symbology_rows.proofs.lists.put_symbol.Goals as goal
 
 pub overflow_cast-len : goal.overflow_cast-len
 overflow_cast-len c =
-    let start = c in
-    omega (arith, c.trimmed_len-len.ensures, trimmed-le start.args.symbol.now, start.requires)
+    omega (arith, c.trimmed_len-len.ensures, trimmed-le c.args.symbol.now, c.requires)
 
 pub returns-then-n-table : goal.returns-then-n-table
 returns-then-n-table c =

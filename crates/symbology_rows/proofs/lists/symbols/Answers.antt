@@ -30,12 +30,11 @@ overflow_add-base c = omega (arith, past-at c.symbol_at.ensures.1 c.next-1.given
 
 pub put_symbol-requires : goal.put_symbol-requires
 put_symbol-requires c =
-    let start = c in
     let loop = c.loop-todo in
     let symbol-at = c.symbol_at.ensures in (
-      omega (arith, past-at symbol-at.1 c.next-1.given.1, start.requires, loop.invariant.0),
-      omega (arith, symbol-wide _ start.args.width 31 32 41 start.args.s.now loop.p (sym symbol-at.0 ∙ c.next-1.given.1) (past-at symbol-at.1 c.next-1.given.1).1, start.requires.1),
-      omega (arith, start.requires.0, loop.invariant.0),
+      omega (arith, past-at symbol-at.1 c.next-1.given.1, c.requires, loop.invariant.0),
+      omega (arith, symbol-wide _ c.args.width 31 32 41 c.args.s.now loop.p (sym symbol-at.0 ∙ c.next-1.given.1) (past-at symbol-at.1 c.next-1.given.1).1, c.requires.1),
+      omega (arith, c.requires.0, loop.invariant.0),
     )
 
 pub overflow_add-k : goal.overflow_add-k

@@ -49,13 +49,12 @@ overflow_cast-b c = omega (arith, past-at c.date_at-in-Value.ensures.1 c.b-1.giv
 
 pub put_interval-requires : goal.put_interval-requires
 put_interval-requires c =
-    let start = c in
     let symbol-at = c.interval_name.ensures in
     let e = c.e-1.given in (
       (
-        omega (arith, past-at symbol-at.1 e.1, start.requires.0),
-        omega (arith, symbol-wide _ start.args.width 37 40 43 start.args.s.now _ (sym symbol-at.0 ∙ e.1) (past-at symbol-at.1 e.1).1, start.requires.1),
-        omega (arith, start.requires.0, c.loop-todo.invariant.0),
+        omega (arith, past-at symbol-at.1 e.1, c.requires.0),
+        omega (arith, symbol-wide _ c.args.width 37 40 43 c.args.s.now _ (sym symbol-at.0 ∙ e.1) (past-at symbol-at.1 e.1).1, c.requires.1),
+        omega (arith, c.requires.0, c.loop-todo.invariant.0),
       ),
       c.date_at-in-Value.ensures.2,
     )

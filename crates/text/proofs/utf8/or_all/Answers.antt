@@ -27,11 +27,10 @@ loop-j-smaller c = search rules
 
 pub loop-j-preserved : goal.loop-j-preserved
 loop-j-preserved c =
-    let at-loop = c in
-    let args = at-loop.before.args in (
+    let args = c.args in (
       search rules,
-      at-loop.loop.invariant.1
-          ∙ ored-one args.s.now args.a args.n at-loop.loop.j at-loop.loop.all (search rules) (search rules),
+      c.loop-j.invariant.1
+          ∙ ored-one args.s.now args.a args.n c.loop-j.j c.loop-j.all (search rules) (search rules),
     )
 
 pub returns : goal.returns

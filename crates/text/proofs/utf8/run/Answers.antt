@@ -26,19 +26,16 @@ pub loop-i-smaller : goal.loop-i-smaller
 loop-i-smaller c = search rules
 
 pub loop-i-preserved : goal.loop-i-preserved
-loop-i-preserved c =
-    let at-loop = c in
-    let start = at-loop.before.before in (
-      search rules,
-      c.next-st.ensures.state,
-      at-loop.loop.invariant.2
-          ∙ goes_one (meaning at-loop.loop.st) start.args.s.now at-loop.loop.i (search rules)
-          ∙ ap (λ (e : Expect). goes e (drop (at-loop.loop.i + 1) start.args.s.now)) c.next-st.ensures.right,
-    )
+loop-i-preserved c = (
+  search rules,
+  c.next-st.ensures.state,
+  c.loop-i.invariant.2
+      ∙ goes_one (meaning c.loop-i.st) c.args.s.now c.loop-i.i (search rules)
+      ∙ ap (λ (e : Expect). goes e (drop (c.loop-i.i + 1) c.args.s.now)) c.next-st.ensures.right,
+)
 
 pub returns : goal.returns
 returns c =
-    let at-loop = c in
-    let args = at-loop.before.before.args in
-    let done : at-loop.loop.i ≡ args.e = omega arith in
-    (at-loop.loop.invariant.1, rw done at at-loop.loop.invariant.2)
+    let args = c.args in
+    let done : c.loop-i.i ≡ args.e = omega arith in
+    (c.loop-i.invariant.1, rw done at c.loop-i.invariant.2)

@@ -30,12 +30,11 @@ loop-i-smaller c = search rules
 
 pub loop-i-preserved : goal.loop-i-preserved
 loop-i-preserved c =
-    let at-loop = c in
-    let s = at-loop.before.before.args.s.now in (
+    let s = c.args.s.now in (
       search rules,
       search rules,
-      below_join 128 s _ at-loop.loop.i _ at-loop.loop.invariant.2
-          (run-below 7 s at-loop.loop.i _ (search rules) _ c.or_all.ensures c.if-or_all-ge128.false),
+      below_join 128 s _ c.loop-i.i _ c.loop-i.invariant.2
+          (run-below 7 s c.loop-i.i _ (search rules) _ c.or_all.ensures c.if-or_all-ge128.false),
     )
 
 pub returns : goal.returns

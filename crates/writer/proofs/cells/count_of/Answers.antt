@@ -8,15 +8,12 @@ use Rattle.writer.proofs.cells.count_of.Goals as goal
 
 pub returns-then-kind-eq-RECORD : goal.returns-then-kind-eq-RECORD
 returns-then-kind-eq-RECORD c =
-    let start = c in
-    (rw c.if-kind-eq-RECORD.true (c.cell_of.ensures.0 ∙ sym (count-is 10 start.args.rows.now start.args.q)), c.cell_of.ensures.1)
+    (rw c.if-kind-eq-RECORD.true (c.cell_of.ensures.0 ∙ sym (count-is 10 c.args.rows.now c.args.q)), c.cell_of.ensures.1)
 
 pub returns-then-kind-eq-STRUCT : goal.returns-then-kind-eq-STRUCT
 returns-then-kind-eq-STRUCT c =
-    let start = c in
-    (rw c.if-kind-eq-STRUCT.true (c.cell_of-then-kind-eq-STRUCT.ensures.0 ∙ sym (count-is 13 start.args.rows.now start.args.q)), c.cell_of-then-kind-eq-STRUCT.ensures.1)
+    (rw c.if-kind-eq-STRUCT.true (c.cell_of-then-kind-eq-STRUCT.ensures.0 ∙ sym (count-is 13 c.args.rows.now c.args.q)), c.cell_of-then-kind-eq-STRUCT.ensures.1)
 
 pub returns : goal.returns
 returns c =
-    let start = c in
-    (c.cell_of-2.ensures.0 ∙ sym (count-is start.args.kind start.args.rows.now start.args.q ∙ simp (ne_eqb start.args.kind 10 c.if-kind-eq-RECORD.false, ne_eqb start.args.kind 13 c.if-kind-eq-STRUCT.false)), c.cell_of-2.ensures.1)
+    (c.cell_of-2.ensures.0 ∙ sym (count-is c.args.kind c.args.rows.now c.args.q ∙ simp (ne_eqb c.args.kind 10 c.if-kind-eq-RECORD.false, ne_eqb c.args.kind 13 c.if-kind-eq-STRUCT.false)), c.cell_of-2.ensures.1)

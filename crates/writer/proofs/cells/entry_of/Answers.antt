@@ -9,7 +9,6 @@ use Rattle.writer.proofs.cells.entry_of.Goals as goal
 
 pub returns : goal.returns
 returns c =
-    let start = c in
-    let a = 9 * start.args.q in
+    let a = 9 * c.args.q in
     let n : a + 9 - a ≡ 9 = omega arith in
-    c.row_bytes.ensures ∙ rw n (row-bytes-alone start.args.rows.now a)
+    c.row_bytes.ensures ∙ rw n (row-bytes-alone c.args.rows.now a)

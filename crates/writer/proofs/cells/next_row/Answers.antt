@@ -7,10 +7,8 @@ use Rattle.writer.proofs.cells.next_row.Goals as goal
 
 pub returns-then-has_fields : goal.returns-then-has_fields
 returns-then-has_fields c =
-    let start = c in
-    rw (names-after start.args.kind start.args.rows.now start.args.q (sym c.has_fields.ensures ∙ c.if-has_fields.true), c.count_of-n.ensures.0)
+    rw (names-after c.args.kind c.args.rows.now c.args.q (sym c.has_fields.ensures ∙ c.if-has_fields.true), c.count_of-n.ensures.0)
 
 pub returns : goal.returns
 returns c =
-    let start = c in
-    rw (names-first start.args.kind start.args.rows.now start.args.q (sym c.has_fields.ensures ∙ c.if-has_fields.false), c.count_of-n.ensures.0)
+    rw (names-first c.args.kind c.args.rows.now c.args.q (sym c.has_fields.ensures ∙ c.if-has_fields.false), c.count_of-n.ensures.0)

@@ -10,20 +10,16 @@ use Rattle.writer.proofs.sections.put_body.Goals as goal
 
 pub put_numbers-a-requires : goal.put_numbers-a-requires
 put_numbers-a-requires c =
-    let start = c in
-    (start.requires.0, record { fits = omega (arith, start.requires.1.1, simp length-append at (ap length (body_is start.args.kind start.args.rows.now start.args.text.now start.args.q))) })
+    (c.requires.0, record { fits = omega (arith, c.requires.1.1, simp length-append at (ap length (body_is c.args.kind c.args.rows.now c.args.text.now c.args.q))) })
 
 pub put_name-b-requires : goal.put_name-b-requires
 put_name-b-requires c =
-    let start = c in
-    (start.requires.0, (start.requires.1.0.own, record { fits = omega (arith, start.requires.1.1, simp length-append at (ap length (body_is start.args.kind start.args.rows.now start.args.text.now start.args.q))) }))
+    (c.requires.0, (c.requires.1.0.own, record { fits = omega (arith, c.requires.1.1, simp length-append at (ap length (body_is c.args.kind c.args.rows.now c.args.text.now c.args.q))) }))
 
 pub put_contents-requires : goal.put_contents-requires
 put_contents-requires c =
-    let start = c in
-    (start.requires.0, (start.requires.1.0, record { fits = omega (arith, start.requires.1.1, simp length-append at (ap length (body_is start.args.kind start.args.rows.now start.args.text.now start.args.q))) }))
+    (c.requires.0, (c.requires.1.0, record { fits = omega (arith, c.requires.1.1, simp length-append at (ap length (body_is c.args.kind c.args.rows.now c.args.text.now c.args.q))) }))
 
 pub returns : goal.returns
 returns c =
-    let start = c in
-    wrote-filled (wrote-is (wrote_then c.put_numbers-a.ensures (wrote_then c.put_name-b.ensures c.put_contents.ensures)) (sym (body_is start.args.kind start.args.rows.now start.args.text.now start.args.q)))
+    wrote-filled (wrote-is (wrote_then c.put_numbers-a.ensures (wrote_then c.put_name-b.ensures c.put_contents.ensures)) (sym (body_is c.args.kind c.args.rows.now c.args.text.now c.args.q)))
