@@ -35,11 +35,5 @@ read_body-requires c = record {
   passed = sym c.if-fault-ne0.false ∙ refusal-number ((header c.lengths_of-v.result).codec.parse 0 c.args.block.now 0) c.check_header-fault.ensures;
 }
 
-pub shape_of-symbology : goal.shape_of-symbology
-shape_of-symbology c = search rules
-
-pub shape_of-layout : goal.shape_of-layout
-shape_of-layout c = search rules
-
 pub returns : goal.returns
 returns c = block-done c.args.version c.args.block.now c.args.sheet.now c.args.symbology.now c.args.layout.now c.if-version-lt1.false c.if-version-gt4.false c.if-block-lt100.false c.if-block-gt4294967295.false c.lengths_of-v.ensures c.read_body.ensures

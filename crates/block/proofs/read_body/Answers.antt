@@ -8,7 +8,7 @@ pub layout_part-requires : goal.layout_part-requires
 layout_part-requires c = (c.requires.fixed.long, c.requires.fixed.small)
 
 pub symbology_part-requires : goal.symbology_part-requires
-symbology_part-requires c = ((lays-at c.layout_part.ensures c.version-1.given.1).to, c.requires.fixed.small)
+symbology_part-requires c = ((lays-at c.layout_part.ensures c.in-Accepted.is).to, c.requires.fixed.small)
 
 pub put_layout-requires : goal.put_layout-requires
 put_layout-requires c =
@@ -21,16 +21,16 @@ fields_of-requires c = c.requires.fixed
 
 pub returns-in-Read : goal.returns-in-Read
 returns-in-Read c =
-    body-read c.args.sheet.now c.args.v c.args.block.now _ c.args.symbology.now c.args.layout.now c.requires (lays-at c.layout_part.ensures c.version-1.given.1) c.symbology_part.ensures refl c.sixes-1.given.1 c.put_layout.ensures c.fields_of.ensures
+    body-read c.args.sheet.now c.args.v c.args.block.now _ c.args.symbology.now c.args.layout.now c.requires (lays-at c.layout_part.ensures c.in-Accepted.is) c.symbology_part.ensures refl c.in-Read.is c.put_layout.ensures c.fields_of.ensures
 
 pub returns-in-Counted : goal.returns-in-Counted
 returns-in-Counted c =
-    body-short c.args.sheet.now c.args.v c.args.block.now _ c.args.symbology.now c.args.layout.now c.requires (lays-at c.layout_part.ensures c.version-1.given.1) c.symbology_part.ensures refl c.sixes-in-Counted-1.given.1
+    body-short c.args.sheet.now c.args.v c.args.block.now _ c.args.symbology.now c.args.layout.now c.requires (lays-at c.layout_part.ensures c.in-Accepted.is) c.symbology_part.ensures refl c.in-Counted.is
 
 pub returns-in-Refused-symbology_part : goal.returns-in-Refused-symbology_part
 returns-in-Refused-symbology_part c =
-    body-bad c.args.sheet.now c.args.v c.args.block.now _ c.args.symbology.now c.args.layout.now c.requires (lays-at c.layout_part.ensures c.version-1.given.1) c.symbology_part.ensures c.why-1.given.1
+    body-bad c.args.sheet.now c.args.v c.args.block.now _ c.args.symbology.now c.args.layout.now c.requires (lays-at c.layout_part.ensures c.in-Accepted.is) c.symbology_part.ensures c.in-Refused-symbology_part.is
 
 pub returns-in-Refused : goal.returns-in-Refused
 returns-in-Refused c =
-    body-no c.args.sheet.now c.args.v c.args.block.now _ c.args.symbology.now c.args.layout.now c.requires (lays-bad c.layout_part.ensures c.why-in-Refused-layout_part-1.given.1)
+    body-no c.args.sheet.now c.args.v c.args.block.now _ c.args.symbology.now c.args.layout.now c.requires (lays-bad c.layout_part.ensures c.in-Refused.is)

@@ -18,7 +18,7 @@ returns-then-out-whole c = rw c.refused-then-out-whole.ensures (too_short c.args
 pub put_start-requires : goal.put_start-requires
 put_start-requires c =
     let none = c.if-p-ne0.false in
-    (c.judge-p.ensures.sizes none, roomy c.args.sheet.now c.args.version c.args.fields.now c.args.table.now c.args.count c.args.rows.now c.args.text.now c.judge-p.ensures c.args.out.now none c.if-out-whole.false)
+    record { sizes = c.judge-p.ensures.sizes none; room_for = roomy c.args.sheet.now c.args.version c.args.fields.now c.args.table.now c.args.count c.args.rows.now c.args.text.now c.judge-p.ensures c.args.out.now none c.if-out-whole.false }
 
 pub shape_of-out : goal.shape_of-out
 shape_of-out c = wrote-length c.put_start.ensures

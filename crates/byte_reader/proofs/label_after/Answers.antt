@@ -8,9 +8,9 @@ use Rattle.byte_reader.proofs.label_after.Goals as goal
 
 pub returns-in-Value : goal.returns-in-Value
 returns-in-Value c =
-    let e = c.code-1.given.1 in
+    let e = c.in-Value.is in
     let s = c.args.s.now in
     record { code = sym e; name = rw e c.name_at-name.ensures.0; past = λ v p h. subst (λ (g : Got). Past 256 2 s (after g 0) c.name_at-name.result) (sym e ∙ h) c.name_at-name.ensures.1 }
 
 pub returns-in-Refused : goal.returns-in-Refused
-returns-in-Refused c = let e = c.code-in-Refused-1.given.1 in record { code = sym e; name = rw e; past = λ v p h. refused }
+returns-in-Refused c = let e = c.in-Refused.is in record { code = sym e; name = rw e; past = λ v p h. refused }

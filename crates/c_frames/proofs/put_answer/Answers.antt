@@ -4,10 +4,10 @@ use borrow.Author.Rules.{rules}
 use Rattle.c_frames.proofs.put_answer.Goals as goal
 
 pub returns-in-Needs : goal.returns-in-Needs
-returns-in-Needs c = let e = c.a-1.given.1 in (simp e, simp e)
+returns-in-Needs c = let e = c.in-Needs.is in (simp e, simp e)
 
 pub returns-in-Frame : goal.returns-in-Frame
-returns-in-Frame c = let e = c.a-in-Frame-1.given.1 in (simp e, simp e)
+returns-in-Frame c = let e = c.in-Frame.is in (simp e, simp e)
 
 pub returns-in-Refused : goal.returns-in-Refused
-returns-in-Refused c = let e = c.a-in-Refused-1.given.1 in (simp e, simp e)
+returns-in-Refused c = let e = c.in-Refused.is in (simp e, simp e)

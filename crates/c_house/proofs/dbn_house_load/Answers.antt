@@ -6,7 +6,7 @@ use borrow.Author.Rules.{rules}
 use Rattle.c_house.proofs.dbn_house_load.Goals as goal
 
 pub returns-in-Refused : goal.returns-in-Refused
-returns-in-Refused c = loaded_c c.load_start.ensures c.n-1.given.1 refl refl
+returns-in-Refused c = loaded_c c.load_start.ensures c.in-Refused.is refl refl
 
 pub returns-in-Held : goal.returns-in-Held
-returns-in-Held c = loaded_c c.load_start.ensures c.len-1.given.1 c.put_held.ensures.0 c.put_held.ensures.1
+returns-in-Held c = loaded_c c.load_start.ensures c.in-Held.is c.put_held.ensures.0 c.put_held.ensures.1

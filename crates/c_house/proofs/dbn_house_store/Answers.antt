@@ -6,7 +6,7 @@ use borrow.Author.Rules.{rules}
 use Rattle.c_house.proofs.dbn_house_store.Goals as goal
 
 pub returns-in-Written : goal.returns-in-Written
-returns-in-Written c = stored_c c.store_start.ensures c.n-1.given.1 refl refl
+returns-in-Written c = stored_c c.store_start.ensures c.in-Written.is refl refl
 
 pub returns-in-Refused : goal.returns-in-Refused
-returns-in-Refused c = stored_c c.store_start.ensures c.e-1.given.1 refl c.put_place.ensures
+returns-in-Refused c = stored_c c.store_start.ensures c.in-Refused.is refl c.put_place.ensures

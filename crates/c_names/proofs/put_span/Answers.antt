@@ -4,4 +4,4 @@ use borrow.Author.Rules.{rules}
 use Rattle.c_names.proofs.put_span.Goals as goal
 
 pub returns-in-Part : goal.returns-in-Part
-returns-in-Part c = let e = c.span-1.given.1 in (simp e, simp e)
+returns-in-Part c = let e = c.in-Part.is in (simp e, simp e)

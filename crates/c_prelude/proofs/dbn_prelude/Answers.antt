@@ -5,10 +5,10 @@ use borrow.Author.Rules.{rules}
 use Rattle.c_prelude.proofs.dbn_prelude.Goals as goal
 
 pub returns-in-Needs : goal.returns-in-Needs
-returns-in-Needs c = let e = sym c.prelude.ensures ∙ c.n-1.given.1 in (simp e, simp e)
+returns-in-Needs c = let e = sym c.prelude.ensures ∙ c.in-Needs.is in (simp e, simp e)
 
 pub returns-in-Refused : goal.returns-in-Refused
-returns-in-Refused c = let e = sym c.prelude.ensures ∙ c.e-1.given.1 in (simp e, simp e)
+returns-in-Refused c = let e = sym c.prelude.ensures ∙ c.in-Refused.is in (simp e, simp e)
 
 pub returns-in-Whole : goal.returns-in-Whole
-returns-in-Whole c = let e = sym c.prelude.ensures ∙ c.version-1.given.1 in (simp e, simp e)
+returns-in-Whole c = let e = sym c.prelude.ensures ∙ c.in-Whole.is in (simp e, simp e)

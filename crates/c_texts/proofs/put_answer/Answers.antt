@@ -4,4 +4,4 @@ use borrow.Author.Rules.{rules}
 use Rattle.c_texts.proofs.put_answer.Goals as goal
 
 pub returns-in-Has : goal.returns-in-Has
-returns-in-Has c = let e = c.answer-1.given.1 in (simp e, simp e)
+returns-in-Has c = let e = c.in-Has.is in (simp e, simp e)

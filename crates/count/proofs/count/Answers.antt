@@ -7,12 +7,12 @@ use Rattle.count.proofs.count.Goals as goal
 
 pub returns-in-Accepted : goal.returns-in-Accepted
 unfolding counted
-returns-in-Accepted c = rw c.outcome-1.given.1 (c.raise-in-Accepted-2.ensures ∙ ap (raised _ _) (c.raise-in-Accepted.ensures ∙ ap (raised _ _) c.raise.ensures))
+returns-in-Accepted c = rw c.in-Accepted.is (c.raise-in-Accepted-2.ensures ∙ ap (raised _ _) (c.raise-in-Accepted.ensures ∙ ap (raised _ _) c.raise.ensures))
 
 pub returns-in-Refused : goal.returns-in-Refused
 unfolding counted
-returns-in-Refused c = rw c.outcome-in-Refused-1.given.1 (c.raise-in-Refused.ensures ∙ ap (raised _ _) c.raise.ensures)
+returns-in-Refused c = rw c.in-Refused.is (c.raise-in-Refused.ensures ∙ ap (raised _ _) c.raise.ensures)
 
 pub returns-in-Cut : goal.returns-in-Cut
 unfolding counted
-returns-in-Cut c = rw c.enum_told-1.given.1 (c.raise-in-Cut.ensures ∙ ap (raised _ _) c.raise.ensures)
+returns-in-Cut c = rw c.in-Cut.is (c.raise-in-Cut.ensures ∙ ap (raised _ _) c.raise.ensures)

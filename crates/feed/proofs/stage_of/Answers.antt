@@ -24,27 +24,27 @@ pub returns-then-room-len : goal.returns-then-room-len
 returns-then-room-len c =
     let k = c.args.held in
     let st = c.args.store.now in
-    let p = sym c.prelude.ensures ∙ c.version-1.given.1 in
-    let len = c.version-1.given.0.1.0 in
+    let p = sym c.prelude.ensures ∙ c.in-Whole.is in
+    let len = c.in-Whole.len in
     c.refused-then-room-len.ensures ∙ sym (stage_in start k st (omega arith) (omega arith) ∙ ap (λ x. within 2 (length st) k (announced x)) p ∙ bounded-short 2 (length st) k (8 + len) _ (omega arith))
 
 pub returns-in-Needs : goal.returns-in-Needs
 returns-in-Needs c =
     let k = c.args.held in
     let st = c.args.store.now in
-    let p = sym c.prelude.ensures ∙ c.k-1.given.1 in
+    let p = sym c.prelude.ensures ∙ c.in-Needs.is in
     sym (stage_in start k st (omega arith) (omega arith) ∙ ap (λ x. within 2 (length st) k (announced x)) p)
 
 pub returns-in-Refused : goal.returns-in-Refused
 returns-in-Refused c =
     let k = c.args.held in
     let st = c.args.store.now in
-    let p = sym c.prelude.ensures ∙ c.e-1.given.1 in
+    let p = sym c.prelude.ensures ∙ c.in-Refused.is in
     sym (stage_in start k st (omega arith) (omega arith) ∙ ap (λ x. within 2 (length st) k (announced x)) p)
 
 pub returns-else-room-len : goal.returns-else-room-len
 returns-else-room-len c =
     let k = c.args.held in
     let st = c.args.store.now in
-    let p = sym c.prelude.ensures ∙ c.version-1.given.1 in
+    let p = sym c.prelude.ensures ∙ c.in-Whole.is in
     c.bounded.ensures ∙ sym (stage_in start k st (omega arith) (omega arith) ∙ ap (λ x. within 2 (length st) k (announced x)) p)

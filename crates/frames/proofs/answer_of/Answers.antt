@@ -6,10 +6,10 @@ use Rattle.frames.specs.Frames.{answer_of}
 use Rattle.frames.proofs.answer_of.Goals as goal
 
 pub returns-in-Needs : goal.returns-in-Needs
-returns-in-Needs c = sym (ap answer_of c.stage-1.given.1)
+returns-in-Needs c = sym (ap answer_of c.in-Needs.is)
 
 pub returns-in-Refused : goal.returns-in-Refused
-returns-in-Refused c = sym (ap answer_of c.stage-in-Refused-1.given.1)
+returns-in-Refused c = sym (ap answer_of c.in-Refused.is)
 
 pub returns-in-Whole : goal.returns-in-Whole
-returns-in-Whole c = sym (ap answer_of c.stage-in-Whole-1.given.1)
+returns-in-Whole c = sym (ap answer_of c.in-Whole.is)

@@ -25,7 +25,7 @@ returns-then-out-at c =
 pub store_header-requires : goal.store_header-requires
 store_header-requires c =
     let h : length c.args.dataset.now ≤ (lengths c.args.version).dataset_cstr_len = omega (arith, rw c.lengths_of.ensures at c.if-lengths_of-dataset.false) in
-    (h, header-room c.args.version c.args.fields.now c.args.dataset.now h (omega (arith, c.if-out-lt100.false, c.if-out-at.false)))
+    record { dataset_len_bound = h; room_for = header-room c.args.version c.args.fields.now c.args.dataset.now h (omega (arith, c.if-out-lt100.false, c.if-out-at.false)) }
 
 pub shape_of-out : goal.shape_of-out
 shape_of-out c = wrote-length c.store_header.ensures

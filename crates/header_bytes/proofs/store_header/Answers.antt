@@ -7,7 +7,7 @@ use borrow.Author.Rules.{rules}
 use Rattle.header_bytes.proofs.store_header.Goals as goal
 
 pub overflow_sub-v : goal.overflow_sub-v
-overflow_sub-v c = rw c.lengths_of-v.ensures c.requires.0
+overflow_sub-v c = rw c.lengths_of-v.ensures c.requires.dataset_len_bound
 
 pub shape_of-out : goal.shape_of-out
 shape_of-out c = wrote-length (returns c)
@@ -16,7 +16,7 @@ pub returns : goal.returns
 returns c =
     let args = c.args in
     let s = header-bytes args.version args.fields.now args.dataset.now c.lengths_of-v.ensures c.stored.ensures c.stored-2.ensures c.stored-3.ensures in
-    let z = left_stored (left-start c.requires.1) _ s c.put_bytes-z.ensures in
+    let z = left_stored (left-start c.requires.room_for) _ s c.put_bytes-z.ensures in
     let a = left_stored z _ refl c.put_zeros-a.ensures in
     let b = left_stored a _ refl c.put_little-b.ensures in
     let d = left_stored b _ refl c.put_little-c.ensures in

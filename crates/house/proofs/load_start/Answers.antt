@@ -9,7 +9,7 @@ pub shape_of-store-in-Refused : goal.shape_of-store-in-Refused
 shape_of-store-in-Refused c = unpack_length c.unpack.ensures
 
 pub returns-in-Refused : goal.returns-in-Refused
-returns-in-Refused c = load_refused c.unpack.ensures c.number-1.given.1
+returns-in-Refused c = load_refused c.unpack.ensures c.in-Refused.is
 
 pub returns-in-Payload : goal.returns-in-Payload
-returns-in-Payload c = load_held c.unpack.ensures c.len-1.given.1 (omega arith) c.feed-fed.ensures
+returns-in-Payload c = load_held c.unpack.ensures c.in-Payload.is (omega arith) c.feed-fed.ensures

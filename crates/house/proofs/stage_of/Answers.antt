@@ -6,22 +6,22 @@ use borrow.Author.Rules.{rules}
 use Rattle.house.proofs.stage_of.Goals as goal
 
 pub overflow_sub-rest : goal.overflow_sub-rest
-overflow_sub-rest c = omega (arith, said-long c.args.stream.now _ _ (sym c.prelude.ensures ∙ c.version-1.given.1))
+overflow_sub-rest c = omega (arith, said-long c.args.stream.now _ _ (sym c.prelude.ensures ∙ c.in-Whole.is))
 
 pub overflow_sub-result : goal.overflow_sub-result
 overflow_sub-result c = omega (arith, c.if-rest-len.true)
 
 pub returns-then-rest-len : goal.returns-then-rest-len
-returns-then-rest-len c = sym (stage-rest c.args.stream.now _ _ (sym c.prelude.ensures ∙ c.version-1.given.1) c.if-rest-len.true)
+returns-then-rest-len c = sym (stage-rest c.args.stream.now _ _ (sym c.prelude.ensures ∙ c.in-Whole.is) c.if-rest-len.true)
 
 pub returns-then-len-rest : goal.returns-then-len-rest
-returns-then-len-rest c = c.refused.ensures ∙ sym (stage_beyond c.args.stream.now _ _ (sym c.prelude.ensures ∙ c.version-1.given.1) c.if-len-rest.true)
+returns-then-len-rest c = c.refused.ensures ∙ sym (stage_beyond c.args.stream.now _ _ (sym c.prelude.ensures ∙ c.in-Whole.is) c.if-len-rest.true)
 
 pub returns-in-Needs : goal.returns-in-Needs
-returns-in-Needs c = sym (stage-said c.args.stream.now (sym c.prelude.ensures ∙ c.n-1.given.1))
+returns-in-Needs c = sym (stage-said c.args.stream.now (sym c.prelude.ensures ∙ c.in-Needs.is))
 
 pub returns-in-Refused : goal.returns-in-Refused
-returns-in-Refused c = sym (stage-said c.args.stream.now (sym c.prelude.ensures ∙ c.e-1.given.1))
+returns-in-Refused c = sym (stage-said c.args.stream.now (sym c.prelude.ensures ∙ c.in-Refused.is))
 
 pub returns-else-len-rest : goal.returns-else-len-rest
-returns-else-len-rest c = sym (stage-all c.args.stream.now _ _ (sym c.prelude.ensures ∙ c.version-1.given.1) (omega (arith, c.if-len-rest.false)) (omega (arith, c.if-rest-len.false)))
+returns-else-len-rest c = sym (stage-all c.args.stream.now _ _ (sym c.prelude.ensures ∙ c.in-Whole.is) (omega (arith, c.if-len-rest.false)) (omega (arith, c.if-rest-len.false)))

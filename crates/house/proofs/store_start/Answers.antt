@@ -11,10 +11,10 @@ pub shape_of-output-in-Written : goal.shape_of-output-in-Written
 shape_of-output-in-Written c = pack_length c.pack.ensures
 
 pub returns-in-Written : goal.returns-in-Written
-returns-in-Written c = store_packed c.args.stream.now c.args.sheet.now c.fault_of-fault.ensures c.if-fault-ne0.false c.pack.ensures c.n-1.given.1
+returns-in-Written c = store_packed c.args.stream.now c.args.sheet.now c.fault_of-fault.ensures c.if-fault-ne0.false c.pack.ensures c.in-Written.is
 
 pub shape_of-output-in-Refused : goal.shape_of-output-in-Refused
 shape_of-output-in-Refused c = pack_length c.pack.ensures
 
 pub returns-in-Refused : goal.returns-in-Refused
-returns-in-Refused c = store_packed c.args.stream.now c.args.sheet.now c.fault_of-fault.ensures c.if-fault-ne0.false c.pack.ensures c.number-1.given.1
+returns-in-Refused c = store_packed c.args.stream.now c.args.sheet.now c.fault_of-fault.ensures c.if-fault-ne0.false c.pack.ensures c.in-Refused.is

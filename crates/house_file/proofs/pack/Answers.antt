@@ -15,7 +15,7 @@ pub returns-then-output-n : goal.returns-then-output-n
 returns-then-output-n c = pack_short c.args.s.now (omega (arith, c.if-len-lt1.false)) (omega (arith, c.if-len-gt33030144.false)) c.if-output-n.true
 
 pub put_blocks-requires : goal.put_blocks-requires
-put_blocks-requires c = ((omega (arith, c.if-len-lt1.false), omega arith, omega (arith, c.if-len-gt33030144.false)), omega (arith, c.if-output-n.false))
+put_blocks-requires c = record { blocks = (omega (arith, c.if-len-lt1.false), omega arith, omega (arith, c.if-len-gt33030144.false)); room = omega (arith, c.if-output-n.false) }
 
 pub shape_of-output : goal.shape_of-output
 shape_of-output c = wrote-length c.put_blocks.ensures

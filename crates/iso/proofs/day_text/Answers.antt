@@ -6,7 +6,7 @@ use borrow.Author.Rules.{rules}
 use Rattle.iso.proofs.day_text.Goals as goal
 
 pub returns-in-Has : goal.returns-in-Has
-returns-in-Has c = c.date_text.ensures ∙ sym (ap day_text (sym c.date_of_day.ensures ∙ c.yyyymmdd-1.given.1))
+returns-in-Has c = c.date_text.ensures ∙ sym (ap day_text (sym c.date_of_day.ensures ∙ c.in-Has.is))
 
 pub returns-in-Lacks : goal.returns-in-Lacks
-returns-in-Lacks c = sym (ap day_text (sym c.date_of_day.ensures ∙ c.enum_told-1.given.1))
+returns-in-Lacks c = sym (ap day_text (sym c.date_of_day.ensures ∙ c.in-Lacks.is))

@@ -8,7 +8,7 @@ pub overflow_add-structs : goal.overflow_add-structs
 overflow_add-structs c = omega (arith, c.left.ensures, c.if-left-ge2.true)
 
 pub counted_rules-requires : goal.counted_rules-requires
-counted_rules-requires c = (is-there c.reach-p.ensures c.if-p.true, c.u16_of-then-left-ge2.ensures.1)
+counted_rules-requires c = record { records_stand = is-there c.reach-p.ensures c.if-p.true; left_bound = c.u16_of-then-left-ge2.ensures.1 }
 
 pub returns-then-left-ge2 : goal.returns-then-left-ge2
 returns-then-left-ge2 c = sections-done _ _ _ _ c.u16_of.ensures.0 c.reach-p.ensures c.if-p.true (rw c.left.ensures at c.if-left-ge2.true) c.u16_of-then-left-ge2.ensures.0 c.counted_rules.ensures

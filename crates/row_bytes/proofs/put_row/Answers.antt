@@ -21,10 +21,7 @@ returns-then-not-has_room c =
 pub store_row-requires : goal.store_row-requires
 store_row-requires c =
     let args = c.args in
-    let e = sym c.stands.ensures ∙ not-false c.stands.result c.if-not-stands.false in (
-      standing args.width args.table.now args.text.now args.r e,
-      row_room args.width args.table.now args.text.now args.r e (rw (c.more_of-more.ensures, c.number_at.ensures) at (sym c.has_room.ensures ∙ not-false c.has_room.result c.if-not-has_room.false)),
-    )
+    let e = sym c.stands.ensures ∙ not-false c.stands.result c.if-not-stands.false in record { standing = standing args.width args.table.now args.text.now args.r e; room_for = row_room args.width args.table.now args.text.now args.r e (rw (c.more_of-more.ensures, c.number_at.ensures) at (sym c.has_room.ensures ∙ not-false c.has_room.result c.if-not-has_room.false)) }
 
 pub shape_of-out : goal.shape_of-out
 shape_of-out c = wrote-length c.store_row.ensures

@@ -6,4 +6,4 @@ use borrow.Author.Rules.{rules}
 use Rattle.row_bytes.proofs.put_text.Goals as goal
 
 pub returns : goal.returns
-returns c = left-last (left_stored (left-start c.requires.1) _ (filled_is c.args.width c.args.part.now) c.put_bytes-a.ensures) c.put_zeros.ensures
+returns c = left-last (left_stored (left-start c.requires.room_for) _ (filled_is c.args.width c.args.part.now) c.put_bytes-a.ensures) c.put_zeros.ensures

@@ -6,10 +6,10 @@ use Rattle.layout.specs.AnswerLaws.{read-verdict, short-verdict, refused-verdict
 use Rattle.rules.proofs.layout_verdict.Goals as goal
 
 pub returns-in-Read : goal.returns-in-Read
-returns-in-Read c = read-verdict _ (layout_of _) c.read_layout_rows.ensures.is c.version-1.given.1
+returns-in-Read c = read-verdict _ (layout_of _) c.read_layout_rows.ensures.is c.in-Read.is
 
 pub returns-in-Short : goal.returns-in-Short
-returns-in-Short c = short-verdict _ (layout_of _) c.read_layout_rows.ensures.is c.version-in-Short-1.given.1
+returns-in-Short c = short-verdict _ (layout_of _) c.read_layout_rows.ensures.is c.in-Short.is
 
 pub returns-in-Refused : goal.returns-in-Refused
-returns-in-Refused c = refused-verdict _ (layout_of _) c.read_layout_rows.ensures.is c.why-1.given.1
+returns-in-Refused c = refused-verdict _ (layout_of _) c.read_layout_rows.ensures.is c.in-Refused.is

@@ -4,13 +4,13 @@ use borrow.Author.Rules.{rules}
 use Rattle.symbology.proofs.read_section_rows.Goals as goal
 
 pub returns-then-next-least : goal.returns-then-next-least
-returns-then-next-least c = said_28 _ _ _ _ c.least_end-least.ensures c.read_rows.ensures c.rows-in-Counted-1.given.1 c.if-next-least.true
+returns-then-next-least c = said_28 _ _ _ _ c.least_end-least.ensures c.read_rows.ensures c.in-Counted.is c.if-next-least.true
 
 pub returns-in-Read : goal.returns-in-Read
-returns-in-Read c = said_read _ _ _ _ c.least_end-least.ensures c.read_rows.ensures c.rows-1.given.1
+returns-in-Read c = said_read _ _ _ _ c.least_end-least.ensures c.read_rows.ensures c.in-Read.is
 
 pub returns-else-next-least : goal.returns-else-next-least
-returns-else-next-least c = said-counted _ _ _ _ c.least_end-least.ensures c.read_rows.ensures c.rows-in-Counted-1.given.1 c.if-next-least.false
+returns-else-next-least c = said-counted _ _ _ _ c.least_end-least.ensures c.read_rows.ensures c.in-Counted.is c.if-next-least.false
 
 pub returns-in-Refused : goal.returns-in-Refused
-returns-in-Refused c = said-refused _ _ _ _ c.least_end-least.ensures c.read_rows.ensures c.why-1.given.1
+returns-in-Refused c = said-refused _ _ _ _ c.least_end-least.ensures c.read_rows.ensures c.in-Refused.is

@@ -8,10 +8,10 @@ use borrow.Author.Rules.{rules}
 use Rattle.wire.proofs.section_at.Goals as goal
 
 pub returns-then-value-lt2 : goal.returns-then-value-lt2
-returns-then-value-lt2 c = (section_51 _ _ (sym c.u16_at.ensures.0 ∙ c.value-1.given.1) (omega arith), outside)
+returns-then-value-lt2 c = (section_51 _ _ (sym c.u16_at.ensures.0 ∙ c.in-Value.is) (omega arith), outside)
 
 pub returns-then-left-n : goal.returns-then-left-n
-returns-then-left-n c = (section_50 _ _ (sym c.u16_at.ensures.0 ∙ c.value-1.given.1) (omega arith) (omega arith), outside)
+returns-then-left-n c = (section_50 _ _ (sym c.u16_at.ensures.0 ∙ c.in-Value.is) (omega arith) (omega arith), outside)
 
 pub returns-else-left-n : goal.returns-else-left-n
 returns-else-left-n c =
@@ -20,4 +20,4 @@ returns-else-left-n c =
     (section-read _ _ (sym u16-at.0 ∙ value.1) (omega arith) (omega arith), lies-mk (past-at u16-at.1 value.1).0 (omega arith) (omega (arith, (past-at u16-at.1 value.1).1)))
 
 pub returns-in-Refused : goal.returns-in-Refused
-returns-in-Refused c = (section-short _ _ (sym c.u16_at.ensures.0 ∙ c.why-1.given.1), outside)
+returns-in-Refused c = (section-short _ _ (sym c.u16_at.ensures.0 ∙ c.in-Refused.is), outside)

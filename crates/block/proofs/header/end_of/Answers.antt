@@ -6,8 +6,5 @@ use Rattle.block.proofs.header.end_of.Goals as goal
 pub returns-then-n-eq0 : goal.returns-then-n-eq0
 returns-then-n-eq0 c = rw (eq-eqb _ 0 c.if-n-eq0.true)
 
-pub present_unless-requires : goal.present_unless-requires
-present_unless-requires c = search rules
-
 pub returns : goal.returns
 returns c = rw (ne_eqb _ 0 c.if-n-eq0.false) c.present_unless.ensures

@@ -2,8 +2,5 @@
 use borrow.Author.Rules.{rules}
 use Rattle.block.proofs.header.present_unless.Goals as goal
 
-pub returns-then-absent : goal.returns-then-absent
-returns-then-absent c = search rules
-
 pub returns : goal.returns
 returns c = rw c.if-absent.false

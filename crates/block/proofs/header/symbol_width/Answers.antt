@@ -9,19 +9,10 @@ use Rattle.block.proofs.header.symbol_width.Goals as goal
 pub returns-then-v-eq0 : goal.returns-then-v-eq0
 returns-then-v-eq0 c = λ h j q. rw c.if-v-eq0.true
 
-pub overflow_add-at : goal.overflow_add-at
-overflow_add-at c = search rules
-
-pub overflow_add-at-2 : goal.overflow_add-at-2
-overflow_add-at-2 c = search rules
-
 pub half-requires : goal.half-requires
 half-requires c =
     let pre = c.requires in
     let t = pre.two (omega (arith, c.if-v-eq0.false)) in omega (arith, t, pre.total, pre.long)
-
-pub overflow_cast-result : goal.overflow_cast-result
-overflow_cast-result c = search rules
 
 pub returns : goal.returns
 returns c =

@@ -5,14 +5,8 @@ use Rattle.block.proofs.PartLaws.{within-mk, within-back}
 use borrow.Author.Rules.{rules}
 use Rattle.block.proofs.parts.section_at.Goals as goal
 
-pub span_at-requires : goal.span_at-requires
-span_at-requires c = search rules
-
 pub returns-then-has_layout : goal.returns-then-has_layout
 returns-then-has_layout c = (rw c.if-has_layout.true c.span_at.ensures.0, within-back c.span_at.ensures.1)
-
-pub overflow_sub-result : goal.overflow_sub-result
-overflow_sub-result c = search rules
 
 pub returns : goal.returns
 returns c = (rw c.if-has_layout.false, within-mk (le_refl _) (omega arith))

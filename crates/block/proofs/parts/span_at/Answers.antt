@@ -7,20 +7,8 @@ use Rattle.block.proofs.PartLaws.{within-mk, outside-mk, span_none, span-past, s
 use borrow.Author.Rules.{rules}
 use Rattle.block.proofs.parts.span_at.Goals as goal
 
-pub overflow_sub-block : goal.overflow_sub-block
-overflow_sub-block c = search rules
-
 pub returns-then-block-at-lt4 : goal.returns-then-block-at-lt4
 returns-then-block-at-lt4 c = (span_none _ _ _ _ (omega arith), outside-mk)
-
-pub overflow_add-start : goal.overflow_add-start
-overflow_add-start c = search rules
-
-pub u32_of-len-requires : goal.u32_of-len-requires
-u32_of-len-requires c = search rules
-
-pub overflow_sub-block-2 : goal.overflow_sub-block-2
-overflow_sub-block-2 c = search rules
 
 pub returns-then-block-start : goal.returns-then-block-start
 returns-then-block-start c =

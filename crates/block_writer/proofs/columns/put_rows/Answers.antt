@@ -10,7 +10,7 @@ use borrow.Author.Rules.{rules}
 use Rattle.block_writer.proofs.columns.put_rows.Goals as goal
 
 pub loop-todo-init : goal.loop-todo-init
-loop-todo-init c = (c.requires.0, left-start c.requires.1)
+loop-todo-init c = (c.requires.rows_ready, left-start c.requires.room_for)
 
 pub overflow_add-r : goal.overflow_add-r
 overflow_add-r c = omega (arith, c.loop-todo.invariant.0.few)

@@ -13,34 +13,34 @@ dataset-requires c = dataset-found c.args.version c.args.fields.now c.args.text.
 
 pub returns-in-NotUtf8 : goal.returns-in-NotUtf8
 returns-in-NotUtf8 c =
-    let u = told-not-utf8 _ (sym c.enum_told-in-NotUtf8-1.given.1 ∙ c.check_padded.ensures) in
+    let u = told-not-utf8 _ (sym c.in-NotUtf8.is ∙ c.check_padded.ensures) in
     rw (header-fault-is c.args.version c.args.fields.now c.args.text.now c.requires, ← c.dataset.ensures, u)
 
 pub returns-in-AfterNul : goal.returns-in-AfterNul
 returns-in-AfterNul c =
-    let (u, p) = told-after_nul _ (sym c.enum_told-in-AfterNul-1.given.1 ∙ c.check_padded.ensures) in
+    let (u, p) = told-after_nul _ (sym c.in-AfterNul.is ∙ c.check_padded.ensures) in
     rw (header-fault-is c.args.version c.args.fields.now c.args.text.now c.requires, ← c.dataset.ensures, u, p)
 
 pub returns-then-fields-gt19 : goal.returns-then-fields-gt19
 returns-then-fields-gt19 c =
-    let (u, p) = told-fine _ (sym c.enum_told-1.given.1 ∙ c.check_padded.ensures) in
+    let (u, p) = told-fine _ (sym c.in-Fine.is ∙ c.check_padded.ensures) in
     rw (header-fault-is c.args.version c.args.fields.now c.args.text.now c.requires, ← c.dataset.ensures, u, p)
     (simp (lt-leb _ _ c.if-fields-gt19.true))
 
 pub returns-then-fields-gt12 : goal.returns-then-fields-gt12
 returns-then-fields-gt12 c =
-    let (u, p) = told-fine _ (sym c.enum_told-1.given.1 ∙ c.check_padded.ensures) in
+    let (u, p) = told-fine _ (sym c.in-Fine.is ∙ c.check_padded.ensures) in
     rw (header-fault-is c.args.version c.args.fields.now c.args.text.now c.requires, ← c.dataset.ensures, u, p)
     (simp (le-leb _ _ c.if-fields-gt19.false, lt-leb _ _ c.if-fields-gt12.true))
 
 pub returns-then-fields-gt12-2 : goal.returns-then-fields-gt12-2
 returns-then-fields-gt12-2 c =
-    let (u, p) = told-fine _ (sym c.enum_told-1.given.1 ∙ c.check_padded.ensures) in
+    let (u, p) = told-fine _ (sym c.in-Fine.is ∙ c.check_padded.ensures) in
     rw (header-fault-is c.args.version c.args.fields.now c.args.text.now c.requires, ← c.dataset.ensures, u, p)
     (simp (le-leb _ _ c.if-fields-gt19.false, le-leb _ _ c.if-fields-gt12.false, lt-leb _ _ c.if-fields-gt12-2.true))
 
 pub returns : goal.returns
 returns c =
-    let (u, p) = told-fine _ (sym c.enum_told-1.given.1 ∙ c.check_padded.ensures) in
+    let (u, p) = told-fine _ (sym c.in-Fine.is ∙ c.check_padded.ensures) in
     rw (header-fault-is c.args.version c.args.fields.now c.args.text.now c.requires, ← c.dataset.ensures, u, p)
     (simp (le-leb _ _ c.if-fields-gt19.false, le-leb _ _ c.if-fields-gt12.false, le-leb _ _ c.if-fields-gt12-2.false))

@@ -8,10 +8,10 @@ use borrow.Author.Rules.{rules}
 use Rattle.block_writer.proofs.judge.layout_fault.Goals as goal
 
 pub returns-in-Length : goal.returns-in-Length
-returns-in-Length c = rw c.if-has.true (ap sized_number (sym c.enum_told-1.given.1 ∙ c.check_rows.ensures) ∙ rules_number c.args.sheet.now c.args.width c.args.rows.now c.args.text.now c.requires)
+returns-in-Length c = rw c.if-has.true (ap sized_number (sym c.in-Length.is ∙ c.check_rows.ensures) ∙ rules_number c.args.sheet.now c.args.width c.args.rows.now c.args.text.now c.requires)
 
 pub returns-in-Refused : goal.returns-in-Refused
-returns-in-Refused c = rw c.if-has.true (ap sized_number (sym c.why-1.given.1 ∙ c.check_rows.ensures) ∙ rules_number c.args.sheet.now c.args.width c.args.rows.now c.args.text.now c.requires)
+returns-in-Refused c = rw c.if-has.true (ap sized_number (sym c.in-Refused.is ∙ c.check_rows.ensures) ∙ rules_number c.args.sheet.now c.args.width c.args.rows.now c.args.text.now c.requires)
 
 pub returns-then-rows-eq0 : goal.returns-then-rows-eq0
 returns-then-rows-eq0 c = rw (c.if-has.false, nil_is c.args.rows.now, eq-eqb _ _ c.if-rows-eq0.true)

@@ -11,7 +11,7 @@ use Rattle.house_file.proofs.Laws.{part-few, blocks_next, blocks_last}
 use Rattle.house_file.proofs.write.put_blocks.Goals as goal
 
 pub loop-todo-init : goal.loop-todo-init
-loop-todo-init c = (left-start (record { fits = omega (arith, from-length c.args.n 0 c.args.s.now, c.requires.1) }), (omega arith, (omega arith, (omega (arith, c.requires.0), omega (arith, c.requires.0)))))
+loop-todo-init c = (left-start (record { fits = omega (arith, from-length c.args.n 0 c.args.s.now, c.requires.room) }), (omega arith, (omega arith, (omega (arith, c.requires.blocks), omega (arith, c.requires.blocks)))))
 
 pub part_end-requires : goal.part_end-requires
 part_end-requires c = omega (arith, c.loop-todo.invariant.1.1.0, c.loop-todo.invariant.1.1.1.0, c.loop-todo-test.true)

@@ -6,7 +6,7 @@ use Rattle.item_rules.proofs.Loops.{base_gap, base_short, base-fine}
 use Rattle.item_rules.proofs.by_search.base_fault.Goals as goal
 
 pub chase-c-requires : goal.chase-c-requires
-chase-c-requires c = (c.requires.0, (c.requires.1.0, (lib.Dec.lit< tt, λ _. c.requires.1.1.0)))
+chase-c-requires c = (c.requires.in_slice, (c.requires.proper.0, (lib.Dec.lit< tt, λ _. c.requires.proper.1.0)))
 
 pub returns-then-c : goal.returns-then-c
 returns-then-c c = gave_up refl (λ h. let y : ⊥ = omega arith in y)

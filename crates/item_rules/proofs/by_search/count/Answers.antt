@@ -8,7 +8,7 @@ pub loop-left-init : goal.loop-left-init
 loop-left-init c = counting _ _ _ _ _ _ c.requires
 
 pub entry_at-e-requires : goal.entry_at-e-requires
-entry_at-e-requires c = (c.loop-left.invariant.room, c.loop-left-test.true)
+entry_at-e-requires c = record { in_slice = c.loop-left.invariant.room; count_nonzero = c.loop-left-test.true }
 
 pub rest-left-requires : goal.rest-left-requires
 rest-left-requires c = (c.loop-left-test.true, c.loop-left.invariant.room.small)

@@ -6,10 +6,10 @@ use Rattle.item_rules.proofs.Loops.{ext_none, ext_gap, ext_fine}
 use Rattle.item_rules.proofs.by_search.ext_fault.Goals as goal
 
 pub returns-then-k-eq0 : goal.returns-then-k-eq0
-returns-then-k-eq0 c = answered (ext_none _ _ _ c.requires.1.0 c.requires.1.1.1 c.if-k-eq0.true)
+returns-then-k-eq0 c = answered (ext_none _ _ _ c.requires.proper.0 c.requires.proper.1.1 c.if-k-eq0.true)
 
 pub chase-c-requires : goal.chase-c-requires
-chase-c-requires c = (c.requires.0, (c.requires.1.0, (omega (arith, c.requires.1.1.0), λ h. absurd (let y : ⊥ = omega arith in y))))
+chase-c-requires c = (c.requires.in_slice, (c.requires.proper.0, (omega (arith, c.requires.proper.1.0), λ h. absurd (let y : ⊥ = omega arith in y))))
 
 pub returns-then-c : goal.returns-then-c
 returns-then-c c = gave_up refl (λ h. let y : ⊥ = omega arith in y)

@@ -9,7 +9,7 @@ pub loop-left-init : goal.loop-left-init
 loop-left-init c = seeking _ _ _ _ _ _ _ c.requires
 
 pub entry_at-e-requires : goal.entry_at-e-requires
-entry_at-e-requires c = (seek_room _ _ _ _ _ c.loop-left.invariant, c.loop-left-test.true)
+entry_at-e-requires c = record { in_slice = seek_room _ _ _ _ _ c.loop-left.invariant; count_nonzero = c.loop-left-test.true }
 
 pub rest-requires : goal.rest-requires
 rest-requires c = (c.loop-left-test.true, (seek_room _ _ _ _ _ c.loop-left.invariant).small)

@@ -9,22 +9,22 @@ use borrow.Author.Rules.{rules}
 use Rattle.item_rules.proofs.items.fill_aligns.Goals as goal
 
 pub loop-k-init : goal.loop-k-init
-loop-k-init c = filling _ _ _ _ _ c.requires.0 c.requires.1
+loop-k-init c = filling _ _ _ _ _ c.requires.good c.requires.aligns_len
 
 pub next_item-requires : goal.next_item-requires
 next_item-requires c = c.loop-k.invariant.good
 
 pub struct_align-a-requires : goal.struct_align-a-requires
-struct_align-a-requires c = (step-found c.next_item.ensures c.item-1.given.1).room
+struct_align-a-requires c = (step-found c.next_item.ensures c.in-Found.is).room
 
 pub loop-k-smaller : goal.loop-k-smaller
 loop-k-smaller c = simp length-set (omega arith)
 
 pub loop-k-preserved : goal.loop-k-preserved
-loop-k-preserved c = fill_on _ _ _ c.loop-k.invariant c.loop-k-test.true (step-found c.next_item.ensures c.item-1.given.1) c.struct_align-a.ensures.0 refl
+loop-k-preserved c = fill_on _ _ _ c.loop-k.invariant c.loop-k-test.true (step-found c.next_item.ensures c.in-Found.is) c.struct_align-a.ensures.0 refl
 
 pub returns-in-End : goal.returns-in-End
-returns-in-End c = fill_end _ _ _ c.loop-k.invariant (step_end c.next_item.ensures c.enum_told-1.given.1)
+returns-in-End c = fill_end _ _ _ c.loop-k.invariant (step_end c.next_item.ensures c.in-End.is)
 
 pub returns : goal.returns
 returns c = fill_done _ _ _ c.loop-k.invariant c.loop-k-test.false

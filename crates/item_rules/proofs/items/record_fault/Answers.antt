@@ -24,7 +24,7 @@ pub seq_fault-requires : goal.seq_fault-requires
 seq_fault-requires c = c.requires
 
 pub shape_of-owners : goal.shape_of-owners
-shape_of-owners c = ap length c.seq_fault.ensures.1.1
+shape_of-owners c = ap length c.seq_fault.ensures.clean.1
 
 pub returns : goal.returns
-returns c = (tried_as (λ e. record_is _ _ _ _ _ _ c.args.item c.if-twice.false c.if-item-eq78.false (rw c.wide.ensures at c.if-item-wide.false) c.if-item-ne0.false e) c.seq_fault.ensures.0, c.seq_fault.ensures.1)
+returns c = (tried_as (λ e. record_is _ _ _ _ _ _ c.args.item c.if-twice.false c.if-item-eq78.false (rw c.wide.ensures at c.if-item-wide.false) c.if-item-ne0.false e) c.seq_fault.ensures.tried, c.seq_fault.ensures.clean)

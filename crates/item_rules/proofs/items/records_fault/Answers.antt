@@ -22,28 +22,28 @@ next_item-requires c = c.loop-item.invariant.0.good
 pub record_fault-v-requires : goal.record_fault-v-requires
 record_fault-v-requires c =
     let inv = c.loop-item.invariant in
-    let s = step-found c.next_item.ensures c.item-1.given.1 in
-    (s.room, (inv.0.marks, (s.base, rw inv.1 c.requires.1.1)))
+    let s = step-found c.next_item.ensures c.in-Found.is in
+    (s.room, (inv.0.marks, (s.base, rw inv.1 c.requires.marks.1)))
 
 pub shape_of-owners-then-v-ne0 : goal.shape_of-owners-then-v-ne0
-shape_of-owners-then-v-ne0 c = ap length (c.record_fault-v.ensures.1.1 ∙ c.loop-item.invariant.1)
+shape_of-owners-then-v-ne0 c = ap length (c.record_fault-v.ensures.clean.1 ∙ c.loop-item.invariant.1)
 
 pub returns-then-v-ne0 : goal.returns-then-v-ne0
 returns-then-v-ne0 c =
     let inv = c.loop-item.invariant in
-    tried_as (λ e. records-stop _ _ _ _ _ _ inv.0 (step-found c.next_item.ensures c.item-1.given.1) (search rules) c.is_marked-seen.ensures e c.if-v-ne0.true) (tried-by inv.1 c.record_fault-v.ensures.0)
+    tried_as (λ e. records-stop _ _ _ _ _ _ inv.0 (step-found c.next_item.ensures c.in-Found.is) (search rules) c.is_marked-seen.ensures e c.if-v-ne0.true) (tried-by inv.1 c.record_fault-v.ensures.tried)
 
 pub loop-item-smaller : goal.loop-item-smaller
-loop-item-smaller c = step_less (step-found c.next_item.ensures c.item-1.given.1)
+loop-item-smaller c = step_less (step-found c.next_item.ensures c.in-Found.is)
 
 pub loop-item-preserved : goal.loop-item-preserved
 loop-item-preserved c =
     let inv = c.loop-item.invariant in
     let record_fault_lem = c.record_fault-v.ensures in
-    (records-on _ _ _ _ _ _ inv.0 (step-found c.next_item.ensures c.item-1.given.1) (search rules) c.is_marked-seen.ensures (tried_0 record_fault_lem.0 c.if-v-ne0.false) c.if-v-ne0.false record_fault_lem.1.0 c.mark.ensures, record_fault_lem.1.1 ∙ inv.1)
+    (records-on _ _ _ _ _ _ inv.0 (step-found c.next_item.ensures c.in-Found.is) (search rules) c.is_marked-seen.ensures (tried_0 record_fault_lem.0 c.if-v-ne0.false) c.if-v-ne0.false record_fault_lem.1.0 c.mark.ensures, record_fault_lem.1.1 ∙ inv.1)
 
 pub shape_of-owners-in-End : goal.shape_of-owners-in-End
 shape_of-owners-in-End c = ap length c.loop-item.invariant.1
 
 pub returns-in-End : goal.returns-in-End
-returns-in-End c = answered (records-end _ _ _ _ _ _ c.loop-item.invariant.0 (step_end c.next_item.ensures c.enum_told-1.given.1))
+returns-in-End c = answered (records-end _ _ _ _ _ _ c.loop-item.invariant.0 (step_end c.next_item.ensures c.in-End.is))

@@ -7,7 +7,7 @@ use borrow.Author.Rules.{rules}
 use Rattle.item_rules.proofs.items.rules_by.Goals as goal
 
 pub slice_bounds-rules_in-end-2 : goal.slice_bounds-rules_in-end-2
-slice_bounds-rules_in-end-2 c = sym (length-take-le c.smaller-n.result c.args.table.now (rw (← c.smaller-n.ensures) at c.requires.1.0))
+slice_bounds-rules_in-end-2 c = sym (length-take-le c.smaller-n.result c.args.table.now (rw (← c.smaller-n.ensures) at c.requires.left_in_bounds.0))
 
 pub rules_in-requires : goal.rules_in-requires
 rules_in-requires c =

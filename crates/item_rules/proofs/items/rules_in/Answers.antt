@@ -6,7 +6,7 @@ use Rattle.item_rules.proofs.Turns.{all-structs, all-records}
 use Rattle.item_rules.proofs.items.rules_in.Goals as goal
 
 pub fill_aligns-requires : goal.fill_aligns-requires
-fill_aligns-requires c = let pre = c.requires in (pre.0, pre.1.1.0)
+fill_aligns-requires c = let pre = c.requires in record { good = pre.0; aligns_len = pre.1.1.0 }
 
 pub structs_fault-v-requires : goal.structs_fault-v-requires
 structs_fault-v-requires c =
@@ -14,7 +14,7 @@ structs_fault-v-requires c =
     (pre.0, (marks-none, pre.1.1.1))
 
 pub returns-then-v-ne0 : goal.returns-then-v-ne0
-returns-then-v-ne0 c = tried_as (λ e. all-structs _ _ _ _ _ c.fill_aligns.ensures e c.if-v-ne0.true) c.structs_fault-v.ensures.0
+returns-then-v-ne0 c = tried_as (λ e. all-structs _ _ _ _ _ c.fill_aligns.ensures e c.if-v-ne0.true) c.structs_fault-v.ensures.tried
 
 pub records_fault-requires : goal.records_fault-requires
 records_fault-requires c =

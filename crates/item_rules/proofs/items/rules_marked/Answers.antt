@@ -21,7 +21,7 @@ pub slice_bounds-rules_65536-end : goal.slice_bounds-rules_65536-end
 slice_bounds-rules_65536-end c = sym (length-replicate {A = ℕ} 65536 0)
 
 pub rules_65536-requires : goal.rules_65536-requires
-rules_65536-requires c = (c.requires, unowned 65536 (lit≤ tt))
+rules_65536-requires c = record { ready = c.requires; unowned = unowned 65536 (lit≤ tt) }
 
 pub returns : goal.returns
 returns c = tried-all c.rules_65536.ensures (length-replicate {A = ℕ} 65536 0)

@@ -18,27 +18,27 @@ next_item-requires c = c.loop-item.invariant.0.good
 pub struct_fault-v-requires : goal.struct_fault-v-requires
 struct_fault-v-requires c =
     let inv = c.loop-item.invariant in
-    let s = step-found c.next_item.ensures c.item-1.given.1 in
-    (s.room, (inv.0.marks, (s.base, rw inv.1 c.requires.1.1)))
+    let s = step-found c.next_item.ensures c.in-Found.is in
+    (s.room, (inv.0.marks, (s.base, rw inv.1 c.requires.marks.1)))
 
 pub shape_of-owners-then-v-ne0 : goal.shape_of-owners-then-v-ne0
-shape_of-owners-then-v-ne0 c = ap length (c.struct_fault-v.ensures.1.1 ∙ c.loop-item.invariant.1)
+shape_of-owners-then-v-ne0 c = ap length (c.struct_fault-v.ensures.clean.1 ∙ c.loop-item.invariant.1)
 
 pub returns-then-v-ne0 : goal.returns-then-v-ne0
 returns-then-v-ne0 c =
     let inv = c.loop-item.invariant in
-    (tried_as (λ e. structs-stop _ _ _ _ _ _ inv.0 (step-found c.next_item.ensures c.item-1.given.1) e c.if-v-ne0.true) (tried-by inv.1 c.struct_fault-v.ensures.0), (λ z. absurd (c.if-v-ne0.true z), c.struct_fault-v.ensures.1.1 ∙ inv.1))
+    (tried_as (λ e. structs-stop _ _ _ _ _ _ inv.0 (step-found c.next_item.ensures c.in-Found.is) e c.if-v-ne0.true) (tried-by inv.1 c.struct_fault-v.ensures.tried), (λ z. absurd (c.if-v-ne0.true z), c.struct_fault-v.ensures.clean.1 ∙ inv.1))
 
 pub loop-item-smaller : goal.loop-item-smaller
-loop-item-smaller c = step_less (step-found c.next_item.ensures c.item-1.given.1)
+loop-item-smaller c = step_less (step-found c.next_item.ensures c.in-Found.is)
 
 pub loop-item-preserved : goal.loop-item-preserved
 loop-item-preserved c =
     let inv = c.loop-item.invariant in
-    (structs-on _ _ _ _ _ _ inv.0 (step-found c.next_item.ensures c.item-1.given.1) (tried_0 c.struct_fault-v.ensures.0 c.if-v-ne0.false) c.if-v-ne0.false c.struct_fault-v.ensures.1.0, c.struct_fault-v.ensures.1.1 ∙ inv.1)
+    (structs-on _ _ _ _ _ _ inv.0 (step-found c.next_item.ensures c.in-Found.is) (tried_0 c.struct_fault-v.ensures.tried c.if-v-ne0.false) c.if-v-ne0.false c.struct_fault-v.ensures.clean.0, c.struct_fault-v.ensures.clean.1 ∙ inv.1)
 
 pub shape_of-owners-in-End : goal.shape_of-owners-in-End
 shape_of-owners-in-End c = ap length c.loop-item.invariant.1
 
 pub returns-in-End : goal.returns-in-End
-returns-in-End c = (answered (structs_end _ _ _ _ _ _ c.loop-item.invariant.0 (step_end c.next_item.ensures c.enum_told-1.given.1)), (λ _. c.loop-item.invariant.0.marks, c.loop-item.invariant.1))
+returns-in-End c = (answered (structs_end _ _ _ _ _ _ c.loop-item.invariant.0 (step_end c.next_item.ensures c.in-End.is)), (λ _. c.loop-item.invariant.0.marks, c.loop-item.invariant.1))

@@ -9,10 +9,10 @@ use borrow.Author.Rules.{rules}
 use Rattle.item_rules.proofs.sequence.fields_fault.Goals as goal
 
 pub loop-left-init : goal.loop-left-init
-loop-left-init c = (fielding _ _ _ _ _ _ _ _ _ c.requires.0 c.requires.1, following _ _ _ _ _)
+loop-left-init c = (fielding _ _ _ _ _ _ _ _ _ c.requires.in_slice c.requires.marks, following _ _ _ _ _)
 
 pub entry_at-e-requires : goal.entry_at-e-requires
-entry_at-e-requires c = (c.loop-left.invariant.0.room, c.loop-left-test.true)
+entry_at-e-requires c = record { in_slice = c.loop-left.invariant.0.room; count_nonzero = c.loop-left-test.true }
 
 pub returns-then-v-ne0 : goal.returns-then-v-ne0
 returns-then-v-ne0 c =

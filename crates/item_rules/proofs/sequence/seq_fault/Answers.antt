@@ -10,10 +10,10 @@ use borrow.Author.Rules.{rules}
 use Rattle.item_rules.proofs.sequence.seq_fault.Goals as goal
 
 pub returns-then-a-ne0 : goal.returns-then-a-ne0
-returns-then-a-ne0 c = (answered (seq-fields _ _ _ _ _ _ _ _ _ c.fields_fault-a.ensures.0 c.if-a-ne0.true), (λ z. absurd (c.if-a-ne0.true z), refl))
+returns-then-a-ne0 c = (answered (seq-fields _ _ _ _ _ _ _ _ _ c.fields_fault-a.ensures.fault c.if-a-ne0.true), (λ z. absurd (c.if-a-ne0.true z), refl))
 
 pub wipe_ids-requires : goal.wipe_ids-requires
-wipe_ids-requires c = (c.requires.0, c.fields_fault-a.ensures.1.0 c.if-a-ne0.false)
+wipe_ids-requires c = record { in_slice = c.requires.in_slice; only = c.fields_fault-a.ensures.only_ids.0 c.if-a-ne0.false }
 
 pub returns-then-a : goal.returns-then-a
 returns-then-a c =
@@ -25,10 +25,10 @@ returns-then-a c =
 pub tiling-requires : goal.tiling-requires
 tiling-requires c =
     let pre = c.requires in
-    (pre.0, (passed _ _ _ _ _ _ _ _ pre.1.1.0 (sym c.fields_fault-a.ensures.0 ∙ c.if-a-ne0.false), pre.1.1.1))
+    (pre.0, (passed _ _ _ _ _ _ _ _ pre.1.1.0 (sym c.fields_fault-a.ensures.fault ∙ c.if-a-ne0.false), pre.1.1.1))
 
 pub shape_of-owners : goal.shape_of-owners
-shape_of-owners c = ap length c.tiling.ensures.1
+shape_of-owners c = ap length c.tiling.ensures.owners_unchanged
 
 pub returns : goal.returns
-returns c = (tried_as (λ e. seq_tiling _ _ _ _ _ _ _ _ _ c.fields_fault-a.ensures.0 c.if-a-ne0.false e) c.tiling.ensures.0, (λ _. c.wipe_ids.ensures, c.tiling.ensures.1))
+returns c = (tried_as (λ e. seq_tiling _ _ _ _ _ _ _ _ _ c.fields_fault-a.ensures.fault c.if-a-ne0.false e) c.tiling.ensures.tried, (λ _. c.wipe_ids.ensures, c.tiling.ensures.owners_unchanged))

@@ -5,10 +5,10 @@ use borrow.Author.Rules.{rules}
 use Rattle.item_rules.proofs.sequence.wipe_ids.Goals as goal
 
 pub loop-left-init : goal.loop-left-init
-loop-left-init c = record { room = c.requires.0; only = c.requires.1 }
+loop-left-init c = record { room = c.requires.in_slice; only = c.requires.only }
 
 pub entry_at-e-requires : goal.entry_at-e-requires
-entry_at-e-requires c = (c.loop-left.invariant.room, c.loop-left-test.true)
+entry_at-e-requires c = record { in_slice = c.loop-left.invariant.room; count_nonzero = c.loop-left-test.true }
 
 pub rest-left-requires : goal.rest-left-requires
 rest-left-requires c = (c.loop-left-test.true, c.loop-left.invariant.room.small)

@@ -14,7 +14,7 @@ pub loop-todo-init : goal.loop-todo-init
 loop-todo-init c = record { seen = []; going = going _ c.requires.0; marks = c.requires.1; trail = trail _ _ _ }
 
 pub overflow_cast-x : goal.overflow_cast-x
-overflow_cast-x c = omega (arith, past-at c.u16_at.ensures.1 c.x-1.given.1)
+overflow_cast-x c = omega (arith, past-at c.u16_at.ensures.1 c.in-Value.is)
 
 pub shape_of-table-then-is_marked : goal.shape_of-table-then-is_marked
 shape_of-table-then-is_marked c = c.loop-todo.invariant.going.wide
@@ -24,22 +24,22 @@ returns-then-is_marked c =
     let inv = c.loop-todo.invariant in
     let u16-at = c.u16_at.ensures in
     let x = c.x-1.given in
-    (going-no inv.going (labels_55 _ _ _ _ _ _ c.loop-todo-test.true (sym u16-at.0 ∙ x.1) (sym c.name_in.ensures.0 ∙ c.l-1.given.1) (sym (inv.marks.right _ (past-at u16-at.1 x.1).2) ∙ sym c.is_marked.ensures ∙ c.if-is_marked.true)), tt)
+    record { ran = going-no inv.going (labels_55 _ _ _ _ _ _ c.loop-todo-test.true (sym u16-at.0 ∙ x.1) (sym c.name_in.ensures.0 ∙ c.in-Value-name_in.is) (sym (inv.marks.right _ (past-at u16-at.1 x.1).2) ∙ sym c.is_marked.ensures ∙ c.if-is_marked.true)); cleared = tt }
 
 pub overflow_cast-x-in-Value-name_in : goal.overflow_cast-x-in-Value-name_in
-overflow_cast-x-in-Value-name_in c = omega (arith, past-at c.u16_at.ensures.1 c.x-1.given.1)
+overflow_cast-x-in-Value-name_in c = omega (arith, past-at c.u16_at.ensures.1 c.in-Value.is)
 
 pub overflow_add-q : goal.overflow_add-q
-overflow_add-q c = omega (arith, past-at c.name_in.ensures.1 c.l-1.given.1)
+overflow_add-q c = omega (arith, past-at c.name_in.ensures.1 c.in-Value-name_in.is)
 
 pub overflow_add-base : goal.overflow_add-base
-overflow_add-base c = omega (arith, past-at c.name_in.ensures.1 c.l-1.given.1)
+overflow_add-base c = omega (arith, past-at c.name_in.ensures.1 c.in-Value-name_in.is)
 
 pub label_row-row-requires : goal.label_row-row-requires
-label_row-row-requires c = omega (arith, past-at c.name_in.ensures.1 c.l-1.given.1, past-at c.u16_at.ensures.1 c.x-1.given.1)
+label_row-row-requires c = omega (arith, past-at c.name_in.ensures.1 c.in-Value-name_in.is, past-at c.u16_at.ensures.1 c.in-Value.is)
 
 pub overflow_add-k : goal.overflow_add-k
-overflow_add-k c = omega (arith, past-at c.name_in.ensures.1 c.l-1.given.1, c.loop-todo.invariant.going, c.requires.0)
+overflow_add-k c = omega (arith, past-at c.name_in.ensures.1 c.in-Value-name_in.is, c.loop-todo.invariant.going, c.requires.0)
 
 pub overflow_sub-todo : goal.overflow_sub-todo
 overflow_sub-todo c = omega arith
@@ -69,13 +69,13 @@ pub shape_of-table-in-Refused-name_in : goal.shape_of-table-in-Refused-name_in
 shape_of-table-in-Refused-name_in c = c.loop-todo.invariant.going.wide
 
 pub returns-in-Refused-name_in : goal.returns-in-Refused-name_in
-returns-in-Refused-name_in c = (going-no c.loop-todo.invariant.going (labels_no2 _ _ _ _ _ _ c.loop-todo-test.true (sym c.u16_at.ensures.0 ∙ c.x-1.given.1) (sym c.name_in.ensures.0 ∙ c.why-1.given.1)), tt)
+returns-in-Refused-name_in c = record { ran = going-no c.loop-todo.invariant.going (labels_no2 _ _ _ _ _ _ c.loop-todo-test.true (sym c.u16_at.ensures.0 ∙ c.in-Value.is) (sym c.name_in.ensures.0 ∙ c.in-Refused-name_in.is)); cleared = tt }
 
 pub shape_of-table-in-Refused : goal.shape_of-table-in-Refused
 shape_of-table-in-Refused c = c.loop-todo.invariant.going.wide
 
 pub returns-in-Refused : goal.returns-in-Refused
-returns-in-Refused c = (going-no c.loop-todo.invariant.going (labels-no _ _ _ _ _ _ c.loop-todo-test.true (sym c.u16_at.ensures.0 ∙ c.why-in-Refused-u16_at-1.given.1)), tt)
+returns-in-Refused c = record { ran = going-no c.loop-todo.invariant.going (labels-no _ _ _ _ _ _ c.loop-todo-test.true (sym c.u16_at.ensures.0 ∙ c.in-Refused.is)); cleared = tt }
 
 pub unmark-requires : goal.unmark-requires
 unmark-requires c = trail-end c.loop-todo.invariant.trail c.loop-todo-test.false c.loop-todo.invariant.marks
@@ -84,4 +84,4 @@ pub shape_of-table : goal.shape_of-table
 shape_of-table c = c.loop-todo.invariant.going.wide
 
 pub returns : goal.returns
-returns c = (going_end c.loop-todo.invariant.going (labels-end _ _ _ _ _ _ c.loop-todo-test.false), c.unmark.ensures)
+returns c = record { ran = going_end c.loop-todo.invariant.going (labels-end _ _ _ _ _ _ c.loop-todo-test.false); cleared = c.unmark.ensures }

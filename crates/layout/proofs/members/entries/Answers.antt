@@ -17,7 +17,7 @@ pub loop-todo-init : goal.loop-todo-init
 loop-todo-init c = going _ c.requires
 
 pub overflow_add-k : goal.overflow_add-k
-overflow_add-k c = omega (arith, past-at c.take.ensures.1 c.next-1.given.1)
+overflow_add-k c = omega (arith, past-at c.take.ensures.1 c.in-Value.is)
 
 pub loop-todo-preserved : goal.loop-todo-preserved
 loop-todo-preserved c =
@@ -31,7 +31,7 @@ shape_of-table-in-Refused c = c.loop-todo.invariant.wide
 
 pub returns-in-Refused : goal.returns-in-Refused
 returns-in-Refused c =
-    going-no c.loop-todo.invariant (entries-no _ _ _ _ _ (sym D-is) c.loop-todo-test.true (sym c.take.ensures.0 ∙ c.why-1.given.1))
+    going-no c.loop-todo.invariant (entries-no _ _ _ _ _ (sym D-is) c.loop-todo-test.true (sym c.take.ensures.0 ∙ c.in-Refused.is))
 
 pub shape_of-table : goal.shape_of-table
 shape_of-table c = c.loop-todo.invariant.wide

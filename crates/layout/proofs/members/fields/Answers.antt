@@ -10,22 +10,22 @@ use Rattle.layout.proofs.members.fields.Goals as goal
 pub entries-requires : goal.entries-requires
 entries-requires c =
     let u16-at = c.u16_at.ensures in
-    record { small = c.requires.small; few = omega (arith, past-at u16-at.1 c.value-1.given.1); inside = (past-at u16-at.1 c.value-1.given.1).1 }
+    record { small = c.requires.small; few = omega (arith, past-at u16-at.1 c.in-Value.is); inside = (past-at u16-at.1 c.in-Value.is).1 }
 
 pub names-requires : goal.names-requires
 names-requires c =
     let entries = c.entries.ensures in
-    record { small = c.requires.small; few = (ran_at entries c.m-1.given.1).0; inside = (ran_at entries c.m-1.given.1).1 }
+    record { small = c.requires.small; few = (ran_at entries c.in-Value-entries.is).0; inside = (ran_at entries c.in-Value-entries.is).1 }
 
 pub returns-in-Value-entries : goal.returns-in-Value-entries
 returns-in-Value-entries c =
-    ran_is (fields-ok _ _ _ _ (sym c.u16_at.ensures.0 ∙ c.value-1.given.1))
-    (ran_seq c.entries.ensures _ c.m-1.given.1 c.names.ensures)
+    ran_is (fields-ok _ _ _ _ (sym c.u16_at.ensures.0 ∙ c.in-Value.is))
+    (ran_seq c.entries.ensures _ c.in-Value-entries.is c.names.ensures)
 
 pub returns-in-Refused-entries : goal.returns-in-Refused-entries
 returns-in-Refused-entries c =
-    ran_is (fields-ok _ _ _ _ (sym c.u16_at.ensures.0 ∙ c.value-1.given.1))
-    (ran_stop c.entries.ensures _ c.why-1.given.1)
+    ran_is (fields-ok _ _ _ _ (sym c.u16_at.ensures.0 ∙ c.in-Value.is))
+    (ran_stop c.entries.ensures _ c.in-Refused-entries.is)
 
 pub returns-in-Refused : goal.returns-in-Refused
-returns-in-Refused c = ran_no (fields-no _ _ _ _ (sym c.u16_at.ensures.0 ∙ c.why-in-Refused-u16_at-1.given.1))
+returns-in-Refused c = ran_no (fields-no _ _ _ _ (sym c.u16_at.ensures.0 ∙ c.in-Refused.is))

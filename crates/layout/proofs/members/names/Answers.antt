@@ -13,16 +13,16 @@ pub loop-todo-init : goal.loop-todo-init
 loop-todo-init c = going _ c.requires
 
 pub overflow_add-p : goal.overflow_add-p
-overflow_add-p c = omega (arith, past-at c.name_in.ensures.1 c.value-1.given.1)
+overflow_add-p c = omega (arith, past-at c.name_in.ensures.1 c.in-Value.is)
 
 pub overflow_add-base : goal.overflow_add-base
-overflow_add-base c = omega (arith, past-at c.name_in.ensures.1 c.value-1.given.1)
+overflow_add-base c = omega (arith, past-at c.name_in.ensures.1 c.in-Value.is)
 
 pub name_row-row-requires : goal.name_row-row-requires
-name_row-row-requires c = omega (arith, past-at c.name_in.ensures.1 c.value-1.given.1)
+name_row-row-requires c = omega (arith, past-at c.name_in.ensures.1 c.in-Value.is)
 
 pub overflow_add-k : goal.overflow_add-k
-overflow_add-k c = omega (arith, past-at c.name_in.ensures.1 c.value-1.given.1)
+overflow_add-k c = omega (arith, past-at c.name_in.ensures.1 c.in-Value.is)
 
 pub loop-todo-preserved : goal.loop-todo-preserved
 loop-todo-preserved c =
@@ -36,7 +36,7 @@ shape_of-table-in-Refused c = c.loop-todo.invariant.wide
 
 pub returns-in-Refused : goal.returns-in-Refused
 returns-in-Refused c =
-    going-no c.loop-todo.invariant (names-no _ _ _ _ _ c.loop-todo-test.true (sym c.name_in.ensures.0 ∙ c.why-1.given.1))
+    going-no c.loop-todo.invariant (names-no _ _ _ _ _ c.loop-todo-test.true (sym c.name_in.ensures.0 ∙ c.in-Refused.is))
 
 pub shape_of-table : goal.shape_of-table
 shape_of-table c = c.loop-todo.invariant.wide

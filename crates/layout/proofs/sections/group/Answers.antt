@@ -10,12 +10,12 @@ use Rattle.layout.proofs.sections.group.Goals as goal
 pub sections-requires : goal.sections-requires
 sections-requires c =
     let pre = c.requires in
-    (omega (arith, past-at c.u16_at.ensures.1 c.value-1.given.1, pre.0), pre.1)
+    (omega (arith, past-at c.u16_at.ensures.1 c.in-Value.is, pre.0), pre.1)
 
 pub returns-in-Value : goal.returns-in-Value
 unfolding group_at
-returns-in-Value c = (ran_on _ (sym c.u16_at.ensures.0 ∙ c.value-1.given.1) c.sections.ensures.0, c.sections.ensures.1)
+returns-in-Value c = record { ran = ran_on _ (sym c.u16_at.ensures.0 ∙ c.in-Value.is) c.sections.ensures.ran; cleared = c.sections.ensures.cleared }
 
 pub returns-in-Refused : goal.returns-in-Refused
 unfolding group_at
-returns-in-Refused c = (ran_on-no _ (sym c.u16_at.ensures.0 ∙ c.why-1.given.1), tt)
+returns-in-Refused c = record { ran = ran_on-no _ (sym c.u16_at.ensures.0 ∙ c.in-Refused.is); cleared = tt }

@@ -8,22 +8,22 @@ use borrow.Author.Rules.{rules}
 use Rattle.layout.proofs.sections.label_body.Goals as goal
 
 pub label_def_row-row-requires : goal.label_def_row-row-requires
-label_def_row-row-requires c = omega (arith, past-at c.u16_at.ensures.1 c.count-1.given.1, past-at c.name_in.ensures.1 c.len-1.given.1)
+label_def_row-row-requires c = omega (arith, past-at c.u16_at.ensures.1 c.in-Value-u16_at.is, past-at c.name_in.ensures.1 c.in-Value.is)
 
 pub labels-requires : goal.labels-requires
 labels-requires c =
     let pre = c.requires in
-    (omega (arith, past-at c.u16_at.ensures.1 c.count-1.given.1, past-at c.name_in.ensures.1 c.len-1.given.1, pre.0), pre.1)
+    (omega (arith, past-at c.u16_at.ensures.1 c.in-Value-u16_at.is, past-at c.name_in.ensures.1 c.in-Value.is, pre.0), pre.1)
 
 pub returns-in-Value-u16_at : goal.returns-in-Value-u16_at
-returns-in-Value-u16_at c = (
-  ran_is (label_is _ _ _) (ran_on _ (sym c.name_in.ensures.0 ∙ c.len-1.given.1) (ran_on _ (sym c.u16_at.ensures.0 ∙ c.count-1.given.1)
-      (ran_row (put-row_as c.label_def_row-row.ensures c.put_row.ensures) c.labels.ensures.0))),
-  c.labels.ensures.1,
-)
+returns-in-Value-u16_at c = record {
+  ran = ran_is (label_is _ _ _) (ran_on _ (sym c.name_in.ensures.0 ∙ c.in-Value.is) (ran_on _ (sym c.u16_at.ensures.0 ∙ c.in-Value-u16_at.is)
+      (ran_row (put-row_as c.label_def_row-row.ensures c.put_row.ensures) c.labels.ensures.ran)));
+  cleared = c.labels.ensures.cleared;
+}
 
 pub returns-in-Refused-u16_at : goal.returns-in-Refused-u16_at
-returns-in-Refused-u16_at c = (ran_is (label_is _ _ _) (ran_on _ (sym c.name_in.ensures.0 ∙ c.len-1.given.1) (ran_on-no _ (sym c.u16_at.ensures.0 ∙ c.why-1.given.1))), tt)
+returns-in-Refused-u16_at c = record { ran = ran_is (label_is _ _ _) (ran_on _ (sym c.name_in.ensures.0 ∙ c.in-Value.is) (ran_on-no _ (sym c.u16_at.ensures.0 ∙ c.in-Refused-u16_at.is))); cleared = tt }
 
 pub returns-in-Refused : goal.returns-in-Refused
-returns-in-Refused c = (ran_is (label_is _ _ _) (ran_on-no _ (sym c.name_in.ensures.0 ∙ c.why-in-Refused-name_in-1.given.1)), tt)
+returns-in-Refused c = record { ran = ran_is (label_is _ _ _) (ran_on-no _ (sym c.name_in.ensures.0 ∙ c.in-Refused.is)); cleared = tt }

@@ -8,29 +8,29 @@ use Rattle.layout.proofs.Laws.{record_is}
 use Rattle.layout.proofs.sections.record_body.Goals as goal
 
 pub overflow_add-p : goal.overflow_add-p
-overflow_add-p c = omega (arith, past-at c.name_in.ensures.1 c.len-1.given.1)
+overflow_add-p c = omega (arith, past-at c.name_in.ensures.1 c.in-Value-name_in.is)
 
 pub overflow_add-base : goal.overflow_add-base
-overflow_add-base c = omega (arith, past-at c.name_in.ensures.1 c.len-1.given.1)
+overflow_add-base c = omega (arith, past-at c.name_in.ensures.1 c.in-Value-name_in.is)
 
 pub record_row-row-requires : goal.record_row-row-requires
-record_row-row-requires c = omega (arith, past-at c.u16_at.ensures.1 c.count-1.given.1, past-at c.name_in.ensures.1 c.len-1.given.1, past-at c.record_head.ensures.1 c.p-1.given.1)
+record_row-row-requires c = omega (arith, past-at c.u16_at.ensures.1 c.in-Value-u16_at.is, past-at c.name_in.ensures.1 c.in-Value-name_in.is, past-at c.record_head.ensures.1 c.in-Value.is)
 
 pub fields-requires : goal.fields-requires
-fields-requires c = omega (arith, past-at c.name_in.ensures.1 c.len-1.given.1, c.requires)
+fields-requires c = omega (arith, past-at c.name_in.ensures.1 c.in-Value-name_in.is, c.requires)
 
 pub returns-in-Value-u16_at : goal.returns-in-Value-u16_at
 returns-in-Value-u16_at c =
-    ran_is (record_is _ _ _) (ran_on _ (sym c.record_head.ensures.0 ∙ c.p-1.given.1)
-    (ran_on _ (sym c.name_in.ensures.0 ∙ c.len-1.given.1)
-    (ran_on _ (sym c.u16_at.ensures.0 ∙ c.count-1.given.1)
+    ran_is (record_is _ _ _) (ran_on _ (sym c.record_head.ensures.0 ∙ c.in-Value.is)
+    (ran_on _ (sym c.name_in.ensures.0 ∙ c.in-Value-name_in.is)
+    (ran_on _ (sym c.u16_at.ensures.0 ∙ c.in-Value-u16_at.is)
     (ran_row (put-row_as c.record_row-row.ensures c.put_row.ensures) c.fields.ensures))))
 
 pub returns-in-Refused-u16_at : goal.returns-in-Refused-u16_at
-returns-in-Refused-u16_at c = ran_is (record_is _ _ _) (ran_on _ (sym c.record_head.ensures.0 ∙ c.p-1.given.1) (ran_on _ (sym c.name_in.ensures.0 ∙ c.len-1.given.1) (ran_on-no _ (sym c.u16_at.ensures.0 ∙ c.why-1.given.1))))
+returns-in-Refused-u16_at c = ran_is (record_is _ _ _) (ran_on _ (sym c.record_head.ensures.0 ∙ c.in-Value.is) (ran_on _ (sym c.name_in.ensures.0 ∙ c.in-Value-name_in.is) (ran_on-no _ (sym c.u16_at.ensures.0 ∙ c.in-Refused-u16_at.is))))
 
 pub returns-in-Refused-name_in : goal.returns-in-Refused-name_in
-returns-in-Refused-name_in c = ran_is (record_is _ _ _) (ran_on _ (sym c.record_head.ensures.0 ∙ c.p-1.given.1) (ran_on-no _ (sym c.name_in.ensures.0 ∙ c.why-in-Refused-name_in-1.given.1)))
+returns-in-Refused-name_in c = ran_is (record_is _ _ _) (ran_on _ (sym c.record_head.ensures.0 ∙ c.in-Value.is) (ran_on-no _ (sym c.name_in.ensures.0 ∙ c.in-Refused-name_in.is)))
 
 pub returns-in-Refused : goal.returns-in-Refused
-returns-in-Refused c = ran_is (record_is _ _ _) (ran_on-no _ (sym c.record_head.ensures.0 ∙ c.why-in-Refused-record_head-1.given.1))
+returns-in-Refused c = ran_is (record_is _ _ _) (ran_on-no _ (sym c.record_head.ensures.0 ∙ c.in-Refused.is))

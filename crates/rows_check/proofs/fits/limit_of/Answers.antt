@@ -7,4 +7,4 @@ use Rattle.rows_check.proofs.fits.limit_of.Goals as goal
 
 pub returns : goal.returns
 unfolding limit_of
-returns c = c.wide.ensures.0 ∙ rw c.requires.0
+returns c = c.wide.ensures.0 ∙ rw c.requires.limits_of

@@ -13,5 +13,5 @@ returns-then-not-all_pass c = rw (sym c.all_pass.ensures ∙ not-true c.all_pass
 pub returns : goal.returns
 unfolding counts_fit both
 returns c =
-    let counts = c.requires.0 in
+    let counts = c.requires.counts in
     c.groups_fit.ensures ∙ rw (counts.0, counts.1.0, counts.1.1, sym c.all_pass.ensures ∙ not-false c.all_pass.result c.if-not-all_pass.false)

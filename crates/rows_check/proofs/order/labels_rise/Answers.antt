@@ -15,7 +15,7 @@ pub loop-todo-init : goal.loop-todo-init
 loop-todo-init c =
     let rows = c.args.rows.now in
     let left : c.one_less-todo.result ≡ row_count rows - 1 - c.args.from = c.one_less-todo.ensures ∙ omega arith in
-    (c.requires.0, left, rw left (sym (rw (zero-add _) at (every-past (rises_at rows) 0 c.args.from (row_count rows - 1) c.requires.1))))
+    (c.requires.from_bound, left, rw left (sym (rw (zero-add _) at (every-past (rises_at rows) 0 c.args.from (row_count rows - 1) c.requires.risen))))
 
 pub rises_at-requires : goal.rises_at-requires
 rises_at-requires c = omega arith

@@ -13,11 +13,11 @@ use borrow.Author.Rules.{rules}
 use Rattle.rows_check.proofs.sizes.names_size.Goals as goal
 
 pub loop-todo-init : goal.loop-todo-init
-loop-todo-init c = (search rules, refl, c.requires.0, refl)
+loop-todo-init c = (search rules, refl, c.requires.sum_bound, refl)
 
 pub loop-todo-preserved : goal.loop-todo-preserved
 loop-todo-preserved c =
-    let h = name-length c.args.rows.now c.args.text.now c.loop-todo.p (c.requires.1.1 c.loop-todo.p (omega arith) (omega arith)) in
+    let h = name-length c.args.rows.now c.args.text.now c.loop-todo.p (c.requires.n_in_bounds.1 c.loop-todo.p (omega arith) (omega arith)) in
     (search rules, search rules, omega arith, rw c.add_to-s.ensures (sizes-next _ _ _ _ _ _ c.loop-todo-test.true (omega (arith, h))) ∙ c.loop-todo.invariant.3)
 
 pub returns : goal.returns

@@ -15,13 +15,13 @@ use borrow.Author.Rules.{rules}
 use Rattle.rows_check.proofs.sizes.sections_size.Goals as goal
 
 pub loop-todo-init : goal.loop-todo-init
-loop-todo-init c = (c.requires.1, refl, c.requires.0, refl)
+loop-todo-init c = (c.requires.sections, refl, c.requires.sum_bound, refl)
 
 pub body_size-requires : goal.body_size-requires
 body_size-requires c =
     let args = c.args in
     let s = sections-next args.kind args.rows.now args.text.now c.loop-todo.p c.loop-todo.todo c.loop-todo-test.true c.loop-todo.invariant.0 in
-    (own-row-inside _ _ _ _ s.0, s.0)
+    record { q_in_bounds = own-row-inside _ _ _ _ s.0; section_rows = s.0 }
 
 pub add_section-s-requires : goal.add_section-s-requires
 add_section-s-requires c = omega arith

@@ -22,10 +22,10 @@ pub returns-then-is_padded_ascii : goal.returns-then-is_padded_ascii
 returns-then-is_padded_ascii c = (sym_ok _ _ _ _ _ _ _ c.requires (omega arith) c.if-light.false (padded-ascii _ (sym c.if-is_padded_ascii.true ∙ c.is_padded_ascii.ensures)), past-mk (omega arith) (omega arith) (omega arith))
 
 pub returns-in-Fine : goal.returns-in-Fine
-returns-in-Fine c = (sym_ok _ _ _ _ _ _ _ c.requires (omega arith) c.if-light.false (told-fine _ (sym c.enum_told-1.given.1 ∙ c.check_padded.ensures)), past-mk (omega arith) (omega arith) (omega arith))
+returns-in-Fine c = (sym_ok _ _ _ _ _ _ _ c.requires (omega arith) c.if-light.false (told-fine _ (sym c.in-Fine.is ∙ c.check_padded.ensures)), past-mk (omega arith) (omega arith) (omega arith))
 
 pub returns-in-NotUtf8 : goal.returns-in-NotUtf8
-returns-in-NotUtf8 c = (sym_not _ _ _ _ _ _ _ c.requires (omega arith) c.if-light.false (told-not-utf8 _ (sym c.enum_told-in-NotUtf8-1.given.1 ∙ c.check_padded.ensures)), refused)
+returns-in-NotUtf8 c = (sym_not _ _ _ _ _ _ _ c.requires (omega arith) c.if-light.false (told-not-utf8 _ (sym c.in-NotUtf8.is ∙ c.check_padded.ensures)), refused)
 
 pub returns-in-AfterNul : goal.returns-in-AfterNul
-returns-in-AfterNul c = (sym_after _ _ _ _ _ _ _ c.requires (omega arith) c.if-light.false (told-after_nul _ (sym c.enum_told-in-AfterNul-1.given.1 ∙ c.check_padded.ensures)), refused)
+returns-in-AfterNul c = (sym_after _ _ _ _ _ _ _ c.requires (omega arith) c.if-light.false (told-after_nul _ (sym c.in-AfterNul.is ∙ c.check_padded.ensures)), refused)

@@ -7,23 +7,11 @@ use Rattle.text.proofs.States.{state-zero}
 use borrow.Author.Rules.{rules}
 use Rattle.text.proofs.utf8.block.Goals as goal
 
-pub or_all-requires : goal.or_all-requires
-or_all-requires c = search rules
-
 pub returns-then-or_all-lt128 : goal.returns-then-or_all-lt128
 returns-then-or_all-lt128 c =
-    let args = c.args in (
-      state-zero,
-      rw c.if-before-eq0.true
+    let args = c.args in record {
+      still_state = state-zero;
+      same = rw c.if-before-eq0.true
           (goes_upto args.s.now args.a (args.a + 8) (search rules) (search rules)
-          (run-below 7 args.s.now args.a 8 (search rules) _ c.or_all.ensures c.if-or_all-lt128.true)),
-    )
-
-pub overflow_add-a : goal.overflow_add-a
-overflow_add-a c = search rules
-
-pub run-requires : goal.run-requires
-run-requires c = search rules
-
-pub returns : goal.returns
-returns c = search rules
+          (run-below 7 args.s.now args.a 8 (search rules) _ c.or_all.ensures c.if-or_all-lt128.true));
+    }

@@ -6,7 +6,4 @@ use borrow.Author.Rules.{rules}
 use Rattle.text.proofs.utf8.by_table.Goals as goal
 
 pub walk-requires : goal.walk-requires
-walk-requires c = (rule _ _ refl tt, search rules)
-
-pub returns : goal.returns
-returns c = search rules
+walk-requires c = record { rule = rule _ _ refl tt; from_in_bounds = search rules }

@@ -25,7 +25,7 @@ returns-then-is_low-2 c =
     let third = c.skip-d.ensures in
     let s = c.args.s.now in
     goes_end s _ third.within (c.is_low-2.ensures c.if-is_low-2.true)
-    ∙ sym (passed-more s c.skip-a.ensures c.skip-b.ensures c.pairs.ensures.1 third)
+    ∙ sym (passed-more s c.skip-a.ensures c.skip-b.ensures c.pairs.ensures.same third)
 
 pub returns-then-e-s : goal.returns-then-e-s
 unfolding utf8
@@ -33,11 +33,11 @@ returns-then-e-s c =
     let s = c.args.s.now in
     let letters = c.letters-e.ensures in
     goes_end s _ letters.0 (λ k lo hi. absurd (omega (arith, c.if-e-s.true)))
-    ∙ sym (passed-more s c.skip-a.ensures c.skip-b.ensures c.pairs.ensures.1 c.skip-d.ensures ∙ letters.1)
+    ∙ sym (passed-more s c.skip-a.ensures c.skip-b.ensures c.pairs.ensures.same c.skip-d.ensures ∙ letters.1)
 
 pub returns : goal.returns
 unfolding utf8
 returns c =
     let s = c.args.s.now in
     c.by_table.ensures
-    ∙ sym (passed-more s c.skip-a.ensures c.skip-b.ensures c.pairs.ensures.1 c.skip-d.ensures ∙ c.letters-e.ensures.1)
+    ∙ sym (passed-more s c.skip-a.ensures c.skip-b.ensures c.pairs.ensures.same c.skip-d.ensures ∙ c.letters-e.ensures.same)

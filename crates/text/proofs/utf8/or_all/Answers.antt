@@ -13,18 +13,6 @@ use Rattle.text.proofs.utf8.or_all.Goals as goal
 pub loop-j-init : goal.loop-j-init
 loop-j-init c = (search rules, simp (add-zero, sub-zero))
 
-pub overflow_add-all : goal.overflow_add-all
-overflow_add-all c = search rules
-
-pub bounds-s-a : goal.bounds-s-a
-bounds-s-a c = search rules
-
-pub overflow_step-j : goal.overflow_step-j
-overflow_step-j c = search rules
-
-pub loop-j-smaller : goal.loop-j-smaller
-loop-j-smaller c = search rules
-
 pub loop-j-preserved : goal.loop-j-preserved
 loop-j-preserved c =
     let args = c.args in (

@@ -10,21 +10,6 @@ use Rattle.text.specs.States.{State, Rule, meaning}
 use Rattle.text.proofs.Goes.{goes_one}
 use Rattle.text.proofs.utf8.run.Goals as goal
 
-pub loop-i-init : goal.loop-i-init
-loop-i-init c = search rules
-
-pub bounds-s-i : goal.bounds-s-i
-bounds-s-i c = search rules
-
-pub next-st-requires : goal.next-st-requires
-next-st-requires c = search rules
-
-pub overflow_add-i : goal.overflow_add-i
-overflow_add-i c = search rules
-
-pub loop-i-smaller : goal.loop-i-smaller
-loop-i-smaller c = search rules
-
 pub loop-i-preserved : goal.loop-i-preserved
 loop-i-preserved c = (
   search rules,
@@ -38,4 +23,4 @@ pub returns : goal.returns
 returns c =
     let args = c.args in
     let done : c.loop-i.i ≡ args.e = omega arith in
-    (c.loop-i.invariant.1, rw done at c.loop-i.invariant.2)
+    record { still_state = c.loop-i.invariant.1; same = rw done at c.loop-i.invariant.2 }

@@ -11,22 +11,10 @@ use Rattle.text.proofs.utf8.skip.Goals as goal
 pub loop-i-init : goal.loop-i-init
 loop-i-init c = omega arith
 
-pub overflow_add-i : goal.overflow_add-i
-overflow_add-i c = search rules
-
-pub or_all-requires : goal.or_all-requires
-or_all-requires c = search rules
-
 pub returns-then-or_all-ge128 : goal.returns-then-or_all-ge128
 returns-then-or_all-ge128 c =
     let inv = c.loop-i.invariant in
     record { on = inv.0; within = inv.1; low = inv.2 }
-
-pub overflow_add-i-in-loop-i : goal.overflow_add-i-in-loop-i
-overflow_add-i-in-loop-i c = search rules
-
-pub loop-i-smaller : goal.loop-i-smaller
-loop-i-smaller c = search rules
 
 pub loop-i-preserved : goal.loop-i-preserved
 loop-i-preserved c =

@@ -16,29 +16,14 @@ use Rattle.text.proofs.utf8.walk.Goals as goal
 pub loop-i-init : goal.loop-i-init
 loop-i-init c = (search rules, state-zero, refl)
 
-pub overflow_add-i : goal.overflow_add-i
-overflow_add-i c = search rules
-
-pub block-st-requires : goal.block-st-requires
-block-st-requires c = search rules
-
-pub overflow_add-i-in-loop-i : goal.overflow_add-i-in-loop-i
-overflow_add-i-in-loop-i c = search rules
-
-pub loop-i-smaller : goal.loop-i-smaller
-loop-i-smaller c = search rules
-
 pub loop-i-preserved : goal.loop-i-preserved
-loop-i-preserved c = (search rules, c.block-st.ensures.0, c.loop-i.invariant.2 ∙ c.block-st.ensures.1)
-
-pub run-requires : goal.run-requires
-run-requires c = search rules
+loop-i-preserved c = (search rules, c.block-st.ensures.still_state, c.loop-i.invariant.2 ∙ c.block-st.ensures.same)
 
 pub returns : goal.returns
 returns c =
     let r = c.run.result in
     sym
     (c.loop-i.invariant.2
-    ∙ c.run.ensures.1
+    ∙ c.run.ensures.same
     ∙ ap (goes (meaning r)) (drop-length c.args.s.now)
-    ∙ ended_at r c.run.ensures.0)
+    ∙ ended_at r c.run.ensures.still_state)

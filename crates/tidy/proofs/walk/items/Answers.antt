@@ -16,10 +16,10 @@ pub entries-requires : goal.entries-requires
 entries-requires c = (omega (arith, c.requires), c.requires.1)
 
 pub names_end-requires : goal.names_end-requires
-names_end-requires c = (omega (arith, c.requires, near_clear c.entries.ensures.1 c.p-1.given.1), c.requires.1)
+names_end-requires c = (omega (arith, c.requires, near_clear c.entries.ensures.1 c.in-Clear.is), c.requires.1)
 
 pub returns-in-Clear : goal.returns-in-Clear
-returns-in-Clear c = ap Clear c.names_end.ensures ∙ sym (items_fields _ _ _ _ c.if-kind-eq2.false (sym c.entries.ensures.0 ∙ c.p-1.given.1))
+returns-in-Clear c = ap Clear c.names_end.ensures ∙ sym (items_fields _ _ _ _ c.if-kind-eq2.false (sym c.entries.ensures.0 ∙ c.in-Clear.is))
 
 pub returns-in-Untidy : goal.returns-in-Untidy
-returns-in-Untidy c = sym (items_fields _ _ _ _ c.if-kind-eq2.false (sym c.entries.ensures.0 ∙ c.what-1.given.1))
+returns-in-Untidy c = sym (items_fields _ _ _ _ c.if-kind-eq2.false (sym c.entries.ensures.0 ∙ c.in-Untidy.is))

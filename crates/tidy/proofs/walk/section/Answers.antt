@@ -26,9 +26,9 @@ overflow_add-at c = omega (arith, c.requires, c.u16_of-len.ensures.1)
 
 pub returns-in-Clear : goal.returns-in-Clear
 returns-in-Clear c = (
-  c.closing.ensures ∙ rw c.u16_of-len.ensures.0 (sym (section-is _ _ _ c.own_bytes.ensures.0 c.u8_of.ensures.0 c.u16_of-count.ensures.0 (sym c.items.ensures ∙ c.p-1.given.1))),
+  c.closing.ensures ∙ rw c.u16_of-len.ensures.0 (sym (section-is _ _ _ c.own_bytes.ensures.0 c.u8_of.ensures.0 c.u16_of-count.ensures.0 (sym c.items.ensures ∙ c.in-Clear.is))),
   closing-near _ _ _ c.closing.ensures (omega (arith, c.u16_of-len.ensures.1)),
 )
 
 pub returns-in-Untidy : goal.returns-in-Untidy
-returns-in-Untidy c = (sym (section-is _ _ _ c.own_bytes.ensures.0 c.u8_of.ensures.0 c.u16_of-count.ensures.0 (sym c.items.ensures ∙ c.what-1.given.1)), nowhere)
+returns-in-Untidy c = (sym (section-is _ _ _ c.own_bytes.ensures.0 c.u8_of.ensures.0 c.u16_of-count.ensures.0 (sym c.items.ensures ∙ c.in-Untidy.is)), nowhere)

@@ -20,10 +20,10 @@ pub loop-todo-smaller : goal.loop-todo-smaller
 loop-todo-smaller c = omega arith
 
 pub loop-todo-preserved : goal.loop-todo-preserved
-loop-todo-preserved c = (c.loop-todo.invariant.0 ∙ sections-on _ _ _ _ c.loop-todo-test.true (sym c.section.ensures.0 ∙ c.next-1.given.1), omega (arith, c.loop-todo.invariant.1, c.loop-todo-test.true, near_clear c.section.ensures.1 c.next-1.given.1))
+loop-todo-preserved c = (c.loop-todo.invariant.0 ∙ sections-on _ _ _ _ c.loop-todo-test.true (sym c.section.ensures.0 ∙ c.in-Clear.is), omega (arith, c.loop-todo.invariant.1, c.loop-todo-test.true, near_clear c.section.ensures.1 c.in-Clear.is))
 
 pub returns-in-Untidy : goal.returns-in-Untidy
-returns-in-Untidy c = (sym (c.loop-todo.invariant.0 ∙ sections-on _ _ _ _ c.loop-todo-test.true (sym c.section.ensures.0 ∙ c.what-1.given.1)), nowhere)
+returns-in-Untidy c = (sym (c.loop-todo.invariant.0 ∙ sections-on _ _ _ _ c.loop-todo-test.true (sym c.section.ensures.0 ∙ c.in-Untidy.is)), nowhere)
 
 pub returns : goal.returns
 returns c = (sym (c.loop-todo.invariant.0 ∙ sections-end _ _ _ _ c.loop-todo-test.false), near-at (omega (arith, c.loop-todo.invariant.1)))

@@ -11,7 +11,7 @@ use borrow.Author.Rules.{rules}
 use Rattle.writer.proofs.sections.put_sections.Goals as goal
 
 pub loop-todo-init : goal.loop-todo-init
-loop-todo-init c = (c.requires.0, refl, left-start c.requires.1)
+loop-todo-init c = (c.requires.sections, refl, left-start c.requires.room_for)
 
 pub put_section-a-requires : goal.put_section-a-requires
 put_section-a-requires c =
