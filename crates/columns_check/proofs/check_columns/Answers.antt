@@ -19,24 +19,24 @@ pub returns-then-not-all_fit : goal.returns-then-not-all_fit
 returns-then-not-all_fit c =
     let args = c.args in
     malformed args.width args.table.now args.count args.text.now
-    (unfit args.table.now args.count args.text.now c.if-table-count.false c.if-count-gt4294967295.false (sym c.all_fit.ensures ∙ not-true c.all_fit.result c.if-not-all_fit.true))
+    (unfit args.table.now args.count args.text.now c.if-table-count.false c.if-count-gt4294967295.false (sym c.all_fit.ensures ∙ c.if-not-all_fit.true))
 
 pub returns-then-not-are_mapped : goal.returns-then-not-are_mapped
 returns-then-not-are_mapped c =
     let args = c.args in
     let at = ends args.table.now args.count _ _ _ c.run_end-one.ensures c.run_end-two.ensures c.run_end-lists.ensures in
     malformed args.width args.table.now args.count args.text.now
-    (formed args.table.now args.count args.text.now c.if-table-count.false c.if-count-gt4294967295.false (sym c.all_fit.ensures ∙ not-false c.all_fit.result c.if-not-all_fit.false) at
-    ∙ sym c.are_mapped.ensures ∙ not-true c.are_mapped.result c.if-not-are_mapped.true)
+    (formed args.table.now args.count args.text.now c.if-table-count.false c.if-count-gt4294967295.false (sym c.all_fit.ensures ∙ c.if-not-all_fit.false) at
+    ∙ sym c.are_mapped.ensures ∙ c.if-not-are_mapped.true)
 
 pub returns-then-not-are_narrow : goal.returns-then-not-are_narrow
 returns-then-not-are_narrow c =
     let args = c.args in
     let at = ends args.table.now args.count _ _ _ c.run_end-one.ensures c.run_end-two.ensures c.run_end-lists.ensures in
     wide args.width args.table.now args.count args.text.now
-    (formed args.table.now args.count args.text.now c.if-table-count.false c.if-count-gt4294967295.false (sym c.all_fit.ensures ∙ not-false c.all_fit.result c.if-not-all_fit.false) at
-    ∙ sym c.are_mapped.ensures ∙ not-false c.are_mapped.result c.if-not-are_mapped.false)
-    (sym c.are_narrow.ensures ∙ not-true c.are_narrow.result c.if-not-are_narrow.true)
+    (formed args.table.now args.count args.text.now c.if-table-count.false c.if-count-gt4294967295.false (sym c.all_fit.ensures ∙ c.if-not-all_fit.false) at
+    ∙ sym c.are_mapped.ensures ∙ c.if-not-are_mapped.false)
+    (sym c.are_narrow.ensures ∙ c.if-not-are_narrow.true)
 
 pub overflow_sub-result : goal.overflow_sub-result
 overflow_sub-result c = omega (arith, c.run_end-two.ensures)
@@ -45,14 +45,14 @@ pub overflow_sub-result-2 : goal.overflow_sub-result-2
 overflow_sub-result-2 c = omega (arith, c.run_end-lists.ensures)
 
 pub first_fault-requires : goal.first_fault-requires
-first_fault-requires c = sym c.all_fit.ensures ∙ not-false c.all_fit.result c.if-not-all_fit.false
+first_fault-requires c = sym c.all_fit.ensures ∙ c.if-not-all_fit.false
 
 pub returns : goal.returns
 returns c =
     let args = c.args in
     let at = ends args.table.now args.count _ _ _ c.run_end-one.ensures c.run_end-two.ensures c.run_end-lists.ensures in
     rows args.width args.table.now args.count args.text.now
-    (formed args.table.now args.count args.text.now c.if-table-count.false c.if-count-gt4294967295.false (sym c.all_fit.ensures ∙ not-false c.all_fit.result c.if-not-all_fit.false) at
-    ∙ sym c.are_mapped.ensures ∙ not-false c.are_mapped.result c.if-not-are_mapped.false)
-    (sym c.are_narrow.ensures ∙ not-false c.are_narrow.result c.if-not-are_narrow.false)
+    (formed args.table.now args.count args.text.now c.if-table-count.false c.if-count-gt4294967295.false (sym c.all_fit.ensures ∙ c.if-not-all_fit.false) at
+    ∙ sym c.are_mapped.ensures ∙ c.if-not-are_mapped.false)
+    (sym c.are_narrow.ensures ∙ c.if-not-are_narrow.false)
     at c.heads.ensures c.first_fault.ensures

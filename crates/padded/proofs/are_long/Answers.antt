@@ -17,14 +17,14 @@ returns-then-not-good_long c =
     let p = c.loop-p.p in
     let w = c.args.width in
     let all : p + w - 17 + 16 - p ≡ w - 1 = omega arith in
-    texts_miss c.loop-p.invariant (search rules) (search rules) (rw all at (sym (not-true c.good_long.result c.if-not-good_long.true) ∙ c.good_long.ensures))
+    texts_miss c.loop-p.invariant (search rules) (search rules) (rw all at (sym (c.if-not-good_long.true) ∙ c.good_long.ensures))
 
 pub loop-p-preserved : goal.loop-p-preserved
 loop-p-preserved c =
     let p = c.loop-p.p in
     let w = c.args.width in
     let all : p + w - 17 + 16 - p ≡ w - 1 = omega arith in
-    texts-next c.loop-p.invariant (search rules) (search rules) (rw all at (sym (not-false c.good_long.result c.if-not-good_long.false) ∙ c.good_long.ensures))
+    texts-next c.loop-p.invariant (search rules) (search rules) (rw all at (sym (c.if-not-good_long.false) ∙ c.good_long.ensures))
 
 pub returns : goal.returns
 returns c = texts-end c.loop-p.invariant (search rules)

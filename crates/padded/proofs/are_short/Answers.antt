@@ -19,12 +19,12 @@ returns-then-s-p-ge128 c =
 pub returns-then-not-good_pairs : goal.returns-then-not-good_pairs
 returns-then-not-good_pairs c =
     let args = c.args in
-    texts_miss c.loop-p.invariant (search rules) (search rules) (sym (not-true c.good_pairs.result c.if-not-good_pairs.true) ∙ c.good_pairs.ensures ∙ text-low args.s.now c.loop-p.p (args.width - 1) c.if-s-p-ge128.false)
+    texts_miss c.loop-p.invariant (search rules) (search rules) (sym (c.if-not-good_pairs.true) ∙ c.good_pairs.ensures ∙ text-low args.s.now c.loop-p.p (args.width - 1) c.if-s-p-ge128.false)
 
 pub loop-p-preserved : goal.loop-p-preserved
 loop-p-preserved c =
     let args = c.args in
-    texts-next c.loop-p.invariant (search rules) (search rules) (sym (not-false c.good_pairs.result c.if-not-good_pairs.false) ∙ c.good_pairs.ensures ∙ text-low args.s.now c.loop-p.p (args.width - 1) c.if-s-p-ge128.false)
+    texts-next c.loop-p.invariant (search rules) (search rules) (sym (c.if-not-good_pairs.false) ∙ c.good_pairs.ensures ∙ text-low args.s.now c.loop-p.p (args.width - 1) c.if-s-p-ge128.false)
 
 pub returns : goal.returns
 returns c = texts-end c.loop-p.invariant (search rules)

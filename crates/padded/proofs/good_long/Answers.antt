@@ -21,11 +21,11 @@ loop-i-init c =
 pub returns-then-not-good_pairs : goal.returns-then-not-good_pairs
 returns-then-not-good_pairs c =
     let args = c.args in
-    walked_miss c.loop-i.invariant.1 16 (args.e + 16 - args.a) (omega arith) (sym (not-true c.good_pairs.result c.if-not-good_pairs.true) ∙ c.good_pairs.ensures)
+    walked_miss c.loop-i.invariant.1 16 (args.e + 16 - args.a) (omega arith) (sym (c.if-not-good_pairs.true) ∙ c.good_pairs.ensures)
     ∙ text-low args.s.now args.a (args.e + 16 - args.a) c.if-s-a-ge128.false
 
 pub loop-i-preserved : goal.loop-i-preserved
-loop-i-preserved c = (omega arith, walked_next c.loop-i.invariant.1 16 (sym (not-false c.good_pairs.result c.if-not-good_pairs.false) ∙ c.good_pairs.ensures))
+loop-i-preserved c = (omega arith, walked_next c.loop-i.invariant.1 16 (sym (c.if-not-good_pairs.false) ∙ c.good_pairs.ensures))
 
 pub returns : goal.returns
 returns c =

@@ -28,12 +28,12 @@ loop-i-init c = (omega arith, walked_none c.args.s.now 0)
 pub returns-then-not-good_pairs : goal.returns-then-not-good_pairs
 returns-then-not-good_pairs c =
     let s = c.args.s.now in
-    walked_miss c.loop-i.invariant.1 16 (length s - 1) (search rules) (sym (not-true c.good_pairs-in-loop-i.result c.if-not-good_pairs.true) ∙ c.good_pairs-in-loop-i.ensures)
+    walked_miss c.loop-i.invariant.1 16 (length s - 1) (search rules) (sym (c.if-not-good_pairs.true) ∙ c.good_pairs-in-loop-i.ensures)
     ∙ text-low s 0 (length s - 1) c.if-s-ge128.false
     ∙ pairs_whole s (omega arith)
 
 pub loop-i-preserved : goal.loop-i-preserved
-loop-i-preserved c = (search rules, walked_next c.loop-i.invariant.1 16 (sym (not-false c.good_pairs-in-loop-i.result c.if-not-good_pairs.false) ∙ c.good_pairs-in-loop-i.ensures))
+loop-i-preserved c = (search rules, walked_next c.loop-i.invariant.1 16 (sym (c.if-not-good_pairs.false) ∙ c.good_pairs-in-loop-i.ensures))
 
 pub returns : goal.returns
 returns c =

@@ -5,10 +5,10 @@ use Rattle.padded.specs.PaddedAnswer.{told}
 use Rattle.padded.proofs.tell.Goals as goal
 
 pub returns-then-not-valid : goal.returns-then-not-valid
-returns-then-not-valid c = sym (ap (λ u. told u c.args.padded) (not-true c.args.valid c.if-not-valid.true))
+returns-then-not-valid c = sym (ap (λ u. told u c.args.padded) (c.if-not-valid.true))
 
 pub returns-then-not-padded : goal.returns-then-not-padded
-returns-then-not-padded c = sym (ap₂ told (not-false c.args.valid c.if-not-valid.false) (not-true c.args.padded c.if-not-padded.true))
+returns-then-not-padded c = sym (ap₂ told (c.if-not-valid.false) (c.if-not-padded.true))
 
 pub returns : goal.returns
-returns c = sym (ap₂ told (not-false c.args.valid c.if-not-valid.false) (not-false c.args.padded c.if-not-padded.false))
+returns c = sym (ap₂ told (c.if-not-valid.false) (c.if-not-padded.false))

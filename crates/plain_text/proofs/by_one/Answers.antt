@@ -13,10 +13,10 @@ pub loop-i-init : goal.loop-i-init
 loop-i-init c = record { bound = omega arith; same = refl }
 
 pub returns-then-not-plain_byte : goal.returns-then-not-plain_byte
-returns-then-not-plain_byte c = scan_miss c.loop-i.invariant (search rules) (sym (not-true c.plain_byte.result c.if-not-plain_byte.true) ∙ c.plain_byte.ensures)
+returns-then-not-plain_byte c = scan_miss c.loop-i.invariant (search rules) (sym (c.if-not-plain_byte.true) ∙ c.plain_byte.ensures)
 
 pub loop-i-preserved : goal.loop-i-preserved
-loop-i-preserved c = scan_next c.loop-i.invariant (search rules) (sym (not-false c.plain_byte.result c.if-not-plain_byte.false) ∙ c.plain_byte.ensures)
+loop-i-preserved c = scan_next c.loop-i.invariant (search rules) (sym (c.if-not-plain_byte.false) ∙ c.plain_byte.ensures)
 
 pub returns : goal.returns
 returns c = scan_end c.loop-i.invariant (search rules)

@@ -15,10 +15,10 @@ pub loop-i-init : goal.loop-i-init
 loop-i-init c = record { bound = omega arith; same = refl }
 
 pub returns-then-not-eight : goal.returns-then-not-eight
-returns-then-not-eight c = eight_miss c.loop-i.invariant (sym (not-true c.eight.result c.if-not-eight.true) ∙ c.eight.ensures)
+returns-then-not-eight c = eight_miss c.loop-i.invariant (sym (c.if-not-eight.true) ∙ c.eight.ensures)
 
 pub loop-i-preserved : goal.loop-i-preserved
-loop-i-preserved c = eight_next c.loop-i.invariant (sym (not-false c.eight.result c.if-not-eight.false) ∙ c.eight.ensures) (search rules)
+loop-i-preserved c = eight_next c.loop-i.invariant (sym (c.if-not-eight.false) ∙ c.eight.ensures) (search rules)
 
 pub returns-then-i-s : goal.returns-then-i-s
 returns-then-i-s c = scan_end c.loop-i.invariant (omega arith)

@@ -16,25 +16,25 @@ returns-in-AfterNul c = c.refused-in-AfterNul.ensures ∙ fault_29 _ _ c.require
 pub returns-then-not-is_schema : goal.returns-then-not-is_schema
 returns-then-not-is_schema c =
     let text = told-fine _ (was_text c.args.v.dataset_cstr_len c.args.block.now c.check_padded.ensures c.in-Fine.is) in
-    let schema = was is_schema c.half.ensures.0 c.is_schema.ensures (not-true c.is_schema.result c.if-not-is_schema.true) in
+    let schema = was is_schema c.half.ensures.0 c.is_schema.ensures (c.if-not-is_schema.true) in
     c.refused-then-not-is_schema.ensures ∙ fault_21 _ _ c.requires text schema
 
 pub returns-then-not-is_stype_in : goal.returns-then-not-is_stype_in
 returns-then-not-is_stype_in c =
     let text = told-fine _ (was_text c.args.v.dataset_cstr_len c.args.block.now c.check_padded.ensures c.in-Fine.is) in
-    let schema = was is_schema c.half.ensures.0 c.is_schema.ensures (not-false c.is_schema.result c.if-not-is_schema.false) in
-    c.refused-then-not-is_stype_in.ensures ∙ fault_22 _ _ c.requires text schema (sym c.is_stype_in.ensures ∙ not-true c.is_stype_in.result c.if-not-is_stype_in.true)
+    let schema = was is_schema c.half.ensures.0 c.is_schema.ensures (c.if-not-is_schema.false) in
+    c.refused-then-not-is_stype_in.ensures ∙ fault_22 _ _ c.requires text schema (sym c.is_stype_in.ensures ∙ c.if-not-is_stype_in.true)
 
 pub returns-then-not-is_stype : goal.returns-then-not-is_stype
 returns-then-not-is_stype c =
     let text = told-fine _ (was_text c.args.v.dataset_cstr_len c.args.block.now c.check_padded.ensures c.in-Fine.is) in
-    let schema = was is_schema c.half.ensures.0 c.is_schema.ensures (not-false c.is_schema.result c.if-not-is_schema.false) in
-    let stype-in = sym c.is_stype_in.ensures ∙ not-false c.is_stype_in.result c.if-not-is_stype_in.false in
-    c.refused-then-not-is_stype.ensures ∙ fault_23 _ _ c.requires text schema stype-in (sym c.is_stype.ensures ∙ not-true c.is_stype.result c.if-not-is_stype.true)
+    let schema = was is_schema c.half.ensures.0 c.is_schema.ensures (c.if-not-is_schema.false) in
+    let stype-in = sym c.is_stype_in.ensures ∙ c.if-not-is_stype_in.false in
+    c.refused-then-not-is_stype.ensures ∙ fault_23 _ _ c.requires text schema stype-in (sym c.is_stype.ensures ∙ c.if-not-is_stype.true)
 
 pub returns : goal.returns
 returns c =
     let text = told-fine _ (was_text c.args.v.dataset_cstr_len c.args.block.now c.check_padded.ensures c.in-Fine.is) in
-    let schema = was is_schema c.half.ensures.0 c.is_schema.ensures (not-false c.is_schema.result c.if-not-is_schema.false) in
-    let stype-in = sym c.is_stype_in.ensures ∙ not-false c.is_stype_in.result c.if-not-is_stype_in.false in
-    c.refused-2.ensures ∙ fault_0 _ _ c.requires text schema stype-in (sym c.is_stype.ensures ∙ not-false c.is_stype.result c.if-not-is_stype.false)
+    let schema = was is_schema c.half.ensures.0 c.is_schema.ensures (c.if-not-is_schema.false) in
+    let stype-in = sym c.is_stype_in.ensures ∙ c.if-not-is_stype_in.false in
+    c.refused-2.ensures ∙ fault_0 _ _ c.requires text schema stype-in (sym c.is_stype.ensures ∙ c.if-not-is_stype.false)

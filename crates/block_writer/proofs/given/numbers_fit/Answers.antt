@@ -18,14 +18,14 @@ returns-then-fields-gt1 c = simp (le-leb _ _ c.if-fields-gt255.false, lt-leb _ _
 pub returns-then-not-width_fits : goal.returns-then-not-width_fits
 returns-then-not-width_fits c =
     sym (numbers-wide c.args.version c.args.fields.now c.if-fields-gt255.false c.if-fields-gt1.false
-    (sym c.width_fits.ensures ∙ not-true c.width_fits.result c.if-not-width_fits.true))
+    (sym c.width_fits.ensures ∙ c.if-not-width_fits.true))
 
 pub returns-then-version-eq4 : goal.returns-then-version-eq4
 returns-then-version-eq4 c =
     numbers-layout c.args.version c.args.fields.now c.if-fields-gt255.false c.if-fields-gt1.false
-    (sym c.width_fits.ensures ∙ not-false c.width_fits.result c.if-not-width_fits.false) c.if-version-eq4.true
+    (sym c.width_fits.ensures ∙ c.if-not-width_fits.false) c.if-version-eq4.true
 
 pub returns : goal.returns
 returns c =
     numbers-below c.args.version c.args.fields.now c.if-fields-gt255.false c.if-fields-gt1.false
-    (sym c.width_fits.ensures ∙ not-false c.width_fits.result c.if-not-width_fits.false) c.if-version-eq4.false
+    (sym c.width_fits.ensures ∙ c.if-not-width_fits.false) c.if-version-eq4.false

@@ -15,12 +15,12 @@ loop-r-init c = let args = c.args in ap (Every (row_fits args.table.now args.tex
 pub returns-then-not-row_fits : goal.returns-then-not-row_fits
 returns-then-not-row_fits c =
     let args = c.args in
-    sym (every-no (row_fits args.table.now args.text.now) c.loop-r.r args.n c.loop-r-test.true (sym c.row_fits.ensures ∙ not-true c.row_fits.result c.if-not-row_fits.true)) ∙ c.loop-r.invariant
+    sym (every-no (row_fits args.table.now args.text.now) c.loop-r.r args.n c.loop-r-test.true (sym c.row_fits.ensures ∙ c.if-not-row_fits.true)) ∙ c.loop-r.invariant
 
 pub loop-r-preserved : goal.loop-r-preserved
 loop-r-preserved c =
     let args = c.args in
-    sym (every_yes (row_fits args.table.now args.text.now) c.loop-r.r args.n c.loop-r-test.true (sym c.row_fits.ensures ∙ not-false c.row_fits.result c.if-not-row_fits.false)) ∙ c.loop-r.invariant
+    sym (every_yes (row_fits args.table.now args.text.now) c.loop-r.r args.n c.loop-r-test.true (sym c.row_fits.ensures ∙ c.if-not-row_fits.false)) ∙ c.loop-r.invariant
 
 pub returns : goal.returns
 returns c =

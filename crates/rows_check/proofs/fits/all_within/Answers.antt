@@ -14,10 +14,10 @@ pub loop-todo-init : goal.loop-todo-init
 loop-todo-init c = (search rules, refl)
 
 pub returns-then-not-row_good : goal.returns-then-not-row_good
-returns-then-not-row_good c = sym (every-no _ _ _ c.loop-todo-test.true (sym c.row_good.ensures ∙ not-true c.row_good.result c.if-not-row_good.true)) ∙ c.loop-todo.invariant.1
+returns-then-not-row_good c = sym (every-no _ _ _ c.loop-todo-test.true (sym c.row_good.ensures ∙ c.if-not-row_good.true)) ∙ c.loop-todo.invariant.1
 
 pub loop-todo-preserved : goal.loop-todo-preserved
-loop-todo-preserved c = (search rules, sym (every_yes _ _ _ c.loop-todo-test.true (sym c.row_good.ensures ∙ not-false c.row_good.result c.if-not-row_good.false)) ∙ c.loop-todo.invariant.1)
+loop-todo-preserved c = (search rules, sym (every_yes _ _ _ c.loop-todo-test.true (sym c.row_good.ensures ∙ c.if-not-row_good.false)) ∙ c.loop-todo.invariant.1)
 
 pub returns : goal.returns
 returns c = sym (every-none _ _ _ c.loop-todo-test.false) ∙ c.loop-todo.invariant.1

@@ -16,12 +16,12 @@ returns-then-kind-gt-LABEL c = rw (← c.cell_of-kind.ensures.0) (simp (le-leb _
 
 pub returns-then-not-numbers_fit : goal.returns-then-not-numbers_fit
 unfolding row_fits both
-returns-then-not-numbers_fit c = rw (← c.cell_of-kind.ensures.0) (simp (le-leb _ _ c.if-kind-lt-RECORD.false, le-leb _ _ c.if-kind-gt-LABEL.false, sym c.numbers_fit.ensures ∙ not-true c.numbers_fit.result c.if-not-numbers_fit.true))
+returns-then-not-numbers_fit c = rw (← c.cell_of-kind.ensures.0) (simp (le-leb _ _ c.if-kind-lt-RECORD.false, le-leb _ _ c.if-kind-gt-LABEL.false, sym c.numbers_fit.ensures ∙ c.if-not-numbers_fit.true))
 
 pub returns-then-kind-eq-FIELD : goal.returns-then-kind-eq-FIELD
 unfolding row_fits both
-returns-then-kind-eq-FIELD c = rw (← c.cell_of-kind.ensures.0) (simp (le-leb _ _ c.if-kind-lt-RECORD.false, le-leb _ _ c.if-kind-gt-LABEL.false, sym c.numbers_fit.ensures ∙ not-false c.numbers_fit.result c.if-not-numbers_fit.false, eq-eqb _ _ c.if-kind-eq-FIELD.true))
+returns-then-kind-eq-FIELD c = rw (← c.cell_of-kind.ensures.0) (simp (le-leb _ _ c.if-kind-lt-RECORD.false, le-leb _ _ c.if-kind-gt-LABEL.false, sym c.numbers_fit.ensures ∙ c.if-not-numbers_fit.false, eq-eqb _ _ c.if-kind-eq-FIELD.true))
 
 pub returns : goal.returns
 unfolding row_fits both
-returns c = rw (← c.cell_of-kind.ensures.0) (simp (le-leb _ _ c.if-kind-lt-RECORD.false, le-leb _ _ c.if-kind-gt-LABEL.false, sym c.numbers_fit.ensures ∙ not-false c.numbers_fit.result c.if-not-numbers_fit.false, ne_eqb _ _ c.if-kind-eq-FIELD.false, c.span_fits.ensures))
+returns c = rw (← c.cell_of-kind.ensures.0) (simp (le-leb _ _ c.if-kind-lt-RECORD.false, le-leb _ _ c.if-kind-gt-LABEL.false, sym c.numbers_fit.ensures ∙ c.if-not-numbers_fit.false, ne_eqb _ _ c.if-kind-eq-FIELD.false, c.span_fits.ensures))

@@ -12,10 +12,10 @@ pub loop-todo-init : goal.loop-todo-init
 loop-todo-init c = (refl, refl)
 
 pub returns-then-not-row_test : goal.returns-then-not-row_test
-returns-then-not-row_test c = sym (every-no _ _ _ c.loop-todo-test.true (sym c.row_test.ensures ∙ not-true c.row_test.result c.if-not-row_test.true)) ∙ c.loop-todo.invariant.1
+returns-then-not-row_test c = sym (every-no _ _ _ c.loop-todo-test.true (sym c.row_test.ensures ∙ c.if-not-row_test.true)) ∙ c.loop-todo.invariant.1
 
 pub loop-todo-preserved : goal.loop-todo-preserved
-loop-todo-preserved c = (search rules, sym (every_yes _ _ _ c.loop-todo-test.true (sym c.row_test.ensures ∙ not-false c.row_test.result c.if-not-row_test.false)) ∙ c.loop-todo.invariant.1)
+loop-todo-preserved c = (search rules, sym (every_yes _ _ _ c.loop-todo-test.true (sym c.row_test.ensures ∙ c.if-not-row_test.false)) ∙ c.loop-todo.invariant.1)
 
 pub returns : goal.returns
 returns c = sym (every-none _ _ _ c.loop-todo-test.false) ∙ c.loop-todo.invariant.1

@@ -8,10 +8,10 @@ use Rattle.rows_check.proofs.order.counts_fit.Goals as goal
 
 pub returns-then-not-all_pass : goal.returns-then-not-all_pass
 unfolding counts_fit both
-returns-then-not-all_pass c = rw (sym c.all_pass.ensures ∙ not-true c.all_pass.result c.if-not-all_pass.true)
+returns-then-not-all_pass c = rw (sym c.all_pass.ensures ∙ c.if-not-all_pass.true)
 
 pub returns : goal.returns
 unfolding counts_fit both
 returns c =
     let counts = c.requires.counts in
-    c.groups_fit.ensures ∙ rw (counts.0, counts.1.0, counts.1.1, sym c.all_pass.ensures ∙ not-false c.all_pass.result c.if-not-all_pass.false)
+    c.groups_fit.ensures ∙ rw (counts.0, counts.1.0, counts.1.1, sym c.all_pass.ensures ∙ c.if-not-all_pass.false)

@@ -21,10 +21,10 @@ pub rises_at-requires : goal.rises_at-requires
 rises_at-requires c = omega arith
 
 pub returns-then-not-rises_at : goal.returns-then-not-rises_at
-returns-then-not-rises_at c = sym (every-no _ _ _ c.loop-todo-test.true (sym c.rises_at.ensures ∙ not-true c.rises_at.result c.if-not-rises_at.true)) ∙ c.loop-todo.invariant.2
+returns-then-not-rises_at c = sym (every-no _ _ _ c.loop-todo-test.true (sym c.rises_at.ensures ∙ c.if-not-rises_at.true)) ∙ c.loop-todo.invariant.2
 
 pub loop-todo-preserved : goal.loop-todo-preserved
-loop-todo-preserved c = (search rules, search rules, sym (every_yes _ _ _ c.loop-todo-test.true (sym c.rises_at.ensures ∙ not-false c.rises_at.result c.if-not-rises_at.false)) ∙ c.loop-todo.invariant.2)
+loop-todo-preserved c = (search rules, search rules, sym (every_yes _ _ _ c.loop-todo-test.true (sym c.rises_at.ensures ∙ c.if-not-rises_at.false)) ∙ c.loop-todo.invariant.2)
 
 pub returns : goal.returns
 returns c = sym (every-none _ _ _ c.loop-todo-test.false) ∙ c.loop-todo.invariant.2

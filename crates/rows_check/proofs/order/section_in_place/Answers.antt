@@ -29,10 +29,10 @@ pub returns-then-not-rows_pass : goal.returns-then-not-rows_pass
 unfolding section_in_place both
 returns-then-not-rows_pass c =
     let args = c.args in
-    rw (← c.cell_of-here.ensures.0, ← c.names_from-from.ensures.0, ← c.count_of-n.ensures.0) (simp (le-leb (args.q + 1) (row_count args.rows.now) (omega arith), eq-eqb _ _ c.if-here-kind.false, le-leb _ _ c.if-nr-end.false, sym c.rows_pass.ensures ∙ not-true c.rows_pass.result c.if-not-rows_pass.true))
+    rw (← c.cell_of-here.ensures.0, ← c.names_from-from.ensures.0, ← c.count_of-n.ensures.0) (simp (le-leb (args.q + 1) (row_count args.rows.now) (omega arith), eq-eqb _ _ c.if-here-kind.false, le-leb _ _ c.if-nr-end.false, sym c.rows_pass.ensures ∙ c.if-not-rows_pass.true))
 
 pub returns : goal.returns
 unfolding section_in_place both
 returns c =
     let args = c.args in
-    rw (← c.cell_of-here.ensures.0, ← c.names_from-from.ensures.0, ← c.count_of-n.ensures.0, ← c.name_kind.ensures) (simp (le-leb (args.q + 1) (row_count args.rows.now) (omega arith), eq-eqb _ _ c.if-here-kind.false, le-leb _ _ c.if-nr-end.false, sym c.rows_pass.ensures ∙ not-false c.rows_pass.result c.if-not-rows_pass.false, c.rows_pass-2.ensures))
+    rw (← c.cell_of-here.ensures.0, ← c.names_from-from.ensures.0, ← c.count_of-n.ensures.0, ← c.name_kind.ensures) (simp (le-leb (args.q + 1) (row_count args.rows.now) (omega arith), eq-eqb _ _ c.if-here-kind.false, le-leb _ _ c.if-nr-end.false, sym c.rows_pass.ensures ∙ c.if-not-rows_pass.false, c.rows_pass-2.ensures))

@@ -13,8 +13,8 @@ returns-then-rows-ne0 c = counts-none c.malformed.ensures (simp (ne_eqb _ _ c.if
 
 pub returns-then-not-all_pass : goal.returns-then-not-all_pass
 unfolding well_formed both
-returns-then-not-all_pass c = counts-none c.malformed-then-not-all_pass.ensures (simp (eq-eqb _ _ c.if-rows-ne0.false, sym c.all_pass.ensures ∙ not-true c.all_pass.result c.if-not-all_pass.true))
+returns-then-not-all_pass c = counts-none c.malformed-then-not-all_pass.ensures (simp (eq-eqb _ _ c.if-rows-ne0.false, sym c.all_pass.ensures ∙ c.if-not-all_pass.true))
 
 pub returns : goal.returns
 unfolding well_formed both
-returns c = counts-is c.in_order.ensures (simp (eq-eqb _ _ c.if-rows-ne0.false, sym c.all_pass.ensures ∙ not-false c.all_pass.result c.if-not-all_pass.false))
+returns c = counts-is c.in_order.ensures (simp (eq-eqb _ _ c.if-rows-ne0.false, sym c.all_pass.ensures ∙ c.if-not-all_pass.false))

@@ -12,6 +12,14 @@ use Rattle.text.proofs.Goes.{goes-skipped, goes_end}
 use borrow.Author.Rules.{rules}
 use Rattle.text.proofs.utf8.is_utf8.Goals as goal
 
+module _ (s : List ℕ) {a b : ℕ} (first : Skipped s 0 a) (second : Skipped s a b) where
+  passed : goes (some []) s ≡ goes (some []) (drop b s)
+  passed = goes-skipped s 0 a first ∙ goes-skipped s a b second
+
+  -- and after letters and bytes below 128
+  passed-more : {i d : ℕ} → goes (some []) (drop b s) ≡ goes (some []) (drop i s) → Skipped s i d → goes (some []) s ≡ goes (some []) (drop d s)
+  passed-more {i} {d} letters third = passed ∙ letters ∙ goes-skipped s i d third
+
 pub returns-then-is_low : goal.returns-then-is_low
 unfolding utf8
 returns-then-is_low c =
@@ -32,8 +40,8 @@ unfolding utf8
 returns-then-e-s c =
     let s = c.args.s.now in
     let letters = c.letters-e.ensures in
-    goes_end s _ letters.0 (λ k lo hi. absurd (omega (arith, c.if-e-s.true)))
-    ∙ sym (passed-more s c.skip-a.ensures c.skip-b.ensures c.pairs.ensures.same c.skip-d.ensures ∙ letters.1)
+    goes_end s _ letters.within (λ k lo hi. absurd (omega (arith, c.if-e-s.true)))
+    ∙ sym (passed-more s c.skip-a.ensures c.skip-b.ensures c.pairs.ensures.same c.skip-d.ensures ∙ letters.same)
 
 pub returns : goal.returns
 unfolding utf8

@@ -15,9 +15,9 @@ pub loop-i-init : goal.loop-i-init
 loop-i-init c = (search rules, refl)
 
 pub overflow_add-i : goal.overflow_add-i
-overflow_add-i c = let (room, same) = goes-letter c.args.s.now c.loop-i.i (sym c.pair_at.ensures ∙ not-false c.pair_at.result c.if-not-pair_at.false) in search rules
+overflow_add-i c = let (room, same) = goes-letter c.args.s.now c.loop-i.i (sym c.pair_at.ensures ∙ c.if-not-pair_at.false) in search rules
 
 pub loop-i-preserved : goal.loop-i-preserved
 loop-i-preserved c =
-    let (room, same) = goes-letter c.args.s.now c.loop-i.i (sym c.pair_at.ensures ∙ not-false c.pair_at.result c.if-not-pair_at.false) in
+    let (room, same) = goes-letter c.args.s.now c.loop-i.i (sym c.pair_at.ensures ∙ c.if-not-pair_at.false) in
     (room, c.loop-i.invariant.1 ∙ same)
