@@ -22,7 +22,7 @@ pub returns-then-end-frame : goal.returns-then-end-frame
 returns-then-end-frame c =
     let pre = c.requires in
     let side-end = c.side_end-end.ensures in
-    record { value = base_82 _ _ pre.1.0.small pre.1.0.low side-end.0 c.if-end-eq-NOWHERE.false c.if-end-frame.true; owners_unchanged = side-end.1 }
+    record { value = base_82 _ _ pre.1.0.small pre.1.0.low side-end.value c.if-end-eq-NOWHERE.false c.if-end-frame.true; owners_unchanged = side-end.owners_unchanged }
 
 pub shape_of-owners : goal.shape_of-owners
 shape_of-owners c = ap length c.side_end-end.ensures.owners_unchanged
@@ -31,4 +31,4 @@ pub returns : goal.returns
 returns c =
     let pre = c.requires in
     let side-end = c.side_end-end.ensures in
-    record { value = base_0 _ _ pre.1.0.small pre.1.0.low side-end.0 c.if-end-eq-NOWHERE.false c.if-end-frame.false; owners_unchanged = side-end.1 }
+    record { value = base_0 _ _ pre.1.0.small pre.1.0.low side-end.value c.if-end-eq-NOWHERE.false c.if-end-frame.false; owners_unchanged = side-end.owners_unchanged }

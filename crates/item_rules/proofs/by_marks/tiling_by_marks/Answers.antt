@@ -24,4 +24,4 @@ pub returns : goal.returns
 returns c =
     let pre = c.requires in
     let base-by-marks = c.base_by_marks-b.ensures in
-    record { value = tiling_ext _ _ _ (base-by-marks.0 ∙ base_engines pre.1.0) c.if-b-ne0.false (c.ext_by_marks.ensures.value ∙ ext_engines pre.1.0); owners_unchanged = (c.ext_by_marks.ensures.owners_unchanged ∙ base-by-marks.1) }
+    record { value = tiling_ext _ _ _ (base-by-marks.value ∙ base_engines pre.1.0) c.if-b-ne0.false (c.ext_by_marks.ensures.value ∙ ext_engines pre.1.0); owners_unchanged = (c.ext_by_marks.ensures.owners_unchanged ∙ base-by-marks.owners_unchanged) }

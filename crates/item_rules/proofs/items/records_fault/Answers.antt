@@ -40,7 +40,7 @@ pub loop-item-preserved : goal.loop-item-preserved
 loop-item-preserved c =
     let inv = c.loop-item.invariant in
     let record_fault_lem = c.record_fault-v.ensures in
-    (records-on _ _ _ _ _ _ inv.0 (step-found c.next_item.ensures c.in-Found.is) (search rules) c.is_marked-seen.ensures (tried_0 record_fault_lem.0 c.if-v-ne0.false) c.if-v-ne0.false record_fault_lem.1.0 c.mark.ensures, record_fault_lem.1.1 ∙ inv.1)
+    (records-on _ _ _ _ _ _ inv.0 (step-found c.next_item.ensures c.in-Found.is) (search rules) c.is_marked-seen.ensures (tried_0 record_fault_lem.tried c.if-v-ne0.false) c.if-v-ne0.false record_fault_lem.clean.0 c.mark.ensures, record_fault_lem.clean.1 ∙ inv.1)
 
 pub shape_of-owners-in-End : goal.shape_of-owners-in-End
 shape_of-owners-in-End c = ap length c.loop-item.invariant.1

@@ -20,10 +20,10 @@ pub records_fault-requires : goal.records_fault-requires
 records_fault-requires c =
     let pre = c.requires in
     let structs-fault = c.structs_fault-v.ensures in
-    (pre.1.0, (structs-fault.1.0 c.if-v-ne0.false, rw structs-fault.1.1 pre.1.1.1))
+    (pre.1.0, (structs-fault.clean.0 c.if-v-ne0.false, rw structs-fault.clean.1 pre.1.1.1))
 
 pub returns : goal.returns
 returns c =
     let structs-fault = c.structs_fault-v.ensures in
     let if1 = c.if-v-ne0 in
-    tried_as (λ e. all-records _ _ _ _ _ c.fill_aligns.ensures (tried_0 structs-fault.0 if1.false) if1.false e) (tried-by structs-fault.1.1 c.records_fault.ensures)
+    tried_as (λ e. all-records _ _ _ _ _ c.fill_aligns.ensures (tried_0 structs-fault.tried if1.false) if1.false e) (tried-by structs-fault.clean.1 c.records_fault.ensures)

@@ -20,7 +20,7 @@ returns-then-a c =
     let pre = c.requires in
     let walked = c.fields_fault-a.ensures in
     let none = c.if-a-ne0.false in
-    (answered (seq_tiling _ _ _ _ _ _ _ _ _ walked.0 none (tiling_order (passed _ _ _ _ _ _ _ _ pre.1.1.0 (sym walked.0 ∙ none)) (walked.1.1 c.if-a.true) c.unfilled.ensures)), (λ _. c.wipe_ids.ensures, refl))
+    (answered (seq_tiling _ _ _ _ _ _ _ _ _ walked.fault none (tiling_order (passed _ _ _ _ _ _ _ _ pre.1.1.0 (sym walked.fault ∙ none)) (walked.only_ids.1 c.if-a.true) c.unfilled.ensures)), (λ _. c.wipe_ids.ensures, refl))
 
 pub tiling-requires : goal.tiling-requires
 tiling-requires c =

@@ -41,10 +41,9 @@ loop-todo-smaller c = omega arith
 pub loop-todo-preserved : goal.loop-todo-preserved
 loop-todo-preserved c =
     let section-at = c.section_at.ensures in
-    let b = c.b-1.given in
     let body = c.body in
-    let w = lies_at section-at.1 b.1 in (
-      going-run c.loop-todo.invariant.0 _ (sections-run _ _ _ _ _ c.loop-todo-test.true (sym section-at.0 ∙ b.1))
+    let w = lies_at section-at.1 c.in-Value.is in (
+      going-run c.loop-todo.invariant.0 _ (sections-run _ _ _ _ _ c.loop-todo-test.true (sym section-at.0 ∙ c.in-Value.is))
           (ran_shifted body.ensures.0 _ c.in-Value-body.is) c.in-Value-body.is body.auto.1.1.1.1.0 (part-few _ _ _ (ran_at body.ensures.0 c.in-Value-body.is) w.1 w.2),
       cleared_at body.ensures.1 c.in-Value-body.is,
     )

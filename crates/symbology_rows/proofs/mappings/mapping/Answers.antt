@@ -24,10 +24,9 @@ overflow_cast-count c = omega (arith, past-at c.u32_at.ensures.1 c.in-Value-u32_
 
 pub put_symbol-requires : goal.put_symbol-requires
 put_symbol-requires c =
-    let symbol-at = c.raw_symbol_at.ensures in
-    let p = c.p-1.given in (
-      omega (arith, past-at symbol-at.1 p.1, past-at c.u32_at.ensures.1 c.in-Value-u32_at.is, c.requires),
-      omega (arith, symbol-wide _ c.args.width 35 36 42 c.args.s.now _ (sym symbol-at.0 ∙ p.1) (past-at symbol-at.1 p.1).1, c.requires.width_bound.0),
+    let symbol-at = c.raw_symbol_at.ensures in (
+      omega (arith, past-at symbol-at.1 c.in-Value.is, past-at c.u32_at.ensures.1 c.in-Value-u32_at.is, c.requires),
+      omega (arith, symbol-wide _ c.args.width 35 36 42 c.args.s.now _ (sym symbol-at.0 ∙ c.in-Value.is) (past-at symbol-at.1 c.in-Value.is).1, c.requires.width_bound.0),
       omega (arith, c.requires.room),
     )
 
