@@ -19,7 +19,7 @@ pub whole_size-requires : goal.whole_size-requires
 whole_size-requires c =
     let k = c.well-formed in
     let good = not-false k.result.good c.if-not-k.left in
-    (k.ensures.counts good, (c.all_good-good.ensures, sym k.ensures.told ∙ good))
+    record { counts = k.ensures.counts good; judged = c.all_good-good.ensures; formed = sym k.ensures.told ∙ good }
 
 pub returns-then-whole : goal.returns-then-whole
 returns-then-whole c = rw c.if-whole.taken c.whole_size.ensures

@@ -57,7 +57,7 @@ loop-todo-preserved c =
     record {
       seen = _;
       going = going-row inv.going (labels-row _ _ _ _ _ _ loop-test.true (sym u16-at.0 ∙ c.in-Value.is) (sym name-at.0 ∙ c.in-Value-name_in.is) free)
-          (put-row_as c.label_row-row.ensures c.put_row.ensures) c.put_row.auto.0 (omega (arith, past-at u16-at.1 c.in-Value.is, past-at name-at.1 c.in-Value-name_in.is, inv.going));
+          (put-row_as c.label_row-row.ensures c.put_row.ensures) c.put_row.auto.table (omega (arith, past-at u16-at.1 c.in-Value.is, past-at name-at.1 c.in-Value-name_in.is, inv.going));
       marks = rw c.mark.ensures (marks-more _ _ _ (past-at u16-at.1 c.in-Value.is).2 inv.marks);
       trail = trail-next _ inv.trail loop-test.true w.0 w.1 (past-at name-at.1 c.in-Value-name_in.is).1;
     }

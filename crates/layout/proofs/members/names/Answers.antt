@@ -28,7 +28,7 @@ pub loop-todo-preserved : goal.loop-todo-preserved
 loop-todo-preserved c =
     let name-at = c.name_in.ensures in
     going-row c.loop-todo.invariant (names-row _ _ _ _ _ c.loop-todo-test.true (sym name-at.0 ∙ c.in-Value.is))
-    (put-row_as c.name_row-row.ensures c.put_row.ensures) c.put_row.auto.0 (omega (arith, past-at name-at.1 c.in-Value.is))
+    (put-row_as c.name_row-row.ensures c.put_row.ensures) c.put_row.auto.table (omega (arith, past-at name-at.1 c.in-Value.is))
 
 pub shape_of-table-in-Refused : goal.shape_of-table-in-Refused
 shape_of-table-in-Refused c = c.loop-todo.invariant.wide

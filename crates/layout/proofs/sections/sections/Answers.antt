@@ -55,7 +55,7 @@ overflow_add-result c =
     omega (arith, h, c.requires.0.small)
 
 pub shape_of-table-in-Refused-body : goal.shape_of-table-in-Refused-body
-shape_of-table-in-Refused-body c = c.body.auto.1.1.1.1.0 ∙ c.loop-todo.invariant.0.wide
+shape_of-table-in-Refused-body c = c.body.auto.marks.1.1.1.0 ∙ c.loop-todo.invariant.0.wide
 
 pub returns-in-Refused-body : goal.returns-in-Refused-body
 returns-in-Refused-body c = record { ran = going_halt c.loop-todo.invariant.0 _ (sections-run _ _ _ _ _ c.loop-todo-test.true (sym c.section_at.ensures.0 ∙ c.in-Value.is)) (ran_moved c.body.ensures.ran _ c.in-Refused-body.is) refl; cleared = tt }

@@ -74,7 +74,7 @@ loop-todo-preserved c =
     let date-at = c.date_at.ensures in
     let date-at2 = c.date_at-in-Value.ensures in
     let symbol-at = c.interval_name.ensures in (
-      going-row inv (intervals-row _ _ _ _ _ _ _ c.loop-todo-test.true (sym date-at.0 ∙ c.in-Value.is) (sym date-at2.0 ∙ c.in-Value-date_at.is) (sym symbol-at.0 ∙ c.in-Value-interval_name.is)) c.put_interval.ensures.0 c.put_interval.auto.0
+      going-row inv (intervals-row _ _ _ _ _ _ _ c.loop-todo-test.true (sym date-at.0 ∙ c.in-Value.is) (sym date-at2.0 ∙ c.in-Value-date_at.is) (sym symbol-at.0 ∙ c.in-Value-interval_name.is)) c.put_interval.ensures.0 c.put_interval.auto.table
           (omega (arith, past-at date-at.1 c.in-Value.is, past-at date-at2.1 c.in-Value-date_at.is, past-at symbol-at.1 c.in-Value-interval_name.is, inv)),
       c.put_interval.ensures.1,
       date-passes _ 39 _ _ (sym date-at2.0 ∙ c.in-Value-date_at.is),
