@@ -7,7 +7,7 @@ use Rattle.codec.specs.Laws.{whole_back, left-part, part-take}
 use Rattle.text.specs.Utf8.{utf8}
 use Rattle.text.specs.Trim.{trimmed_len}
 use Rattle.padded.specs.Padded.{nul_padded}
-use Rattle.padded.specs.PaddedLaws.{Name}
+use Rattle.padded.proofs.PaddedLaws.{Name}
 use Rattle.dates.specs.Date.{is_date}
 use Rattle.table.specs.EachLaws.{Each}
 use Rattle.symbology_format.specs.NameLaws.{NamedIn, Stands, name-stands, symbology-named}

@@ -4,7 +4,7 @@ use Rattle.std.proofs.Common.{sym, ap, ◌∙◌, subst, take-take}
 use Rattle.text.specs.Trim.{trimmed_len}
 use Rattle.text.specs.TrimLaws.{trimmed-le}
 use Rattle.padded.specs.Padded.{nul_padded, before_nul}
-use Rattle.padded.specs.PaddedLaws.{Name, padded-name}
+use Rattle.padded.proofs.PaddedLaws.{Name, padded-name}
 use Rattle.table.specs.EachLaws.{Each}
 use Rattle.symbology_format.specs.Symbology.{Symbology, symbology}
 use Rattle.symbology_format.specs.SymbologyRows.{symbology_rows}
