@@ -7,7 +7,7 @@ use Rattle.codec.specs.Codec.{Res, ok, refuse, ◌>>=◌}
 use Rattle.codec.specs.CaseLaws.{both_true}
 use Rattle.table.specs.Table.{flat}
 use Rattle.table.specs.Columns.{columns}
-use Rattle.table.specs.ColumnLaws.{columns-length, columns_again}
+use Rattle.table.proofs.ColumnLaws.{columns-length, columns_again}
 use Rattle.layout.specs.ReadLaws.{rows-flat}
 use Rattle.metadata_lengths.specs.Lengths.{lengths}
 use Rattle.block_format.specs.Block.{Block, block_of}

@@ -21,7 +21,7 @@ use Rattle.prelude.specs.Prelude.{is_version, prelude_of}
 use Rattle.prelude.specs.PrintLaws.{prelude-print, prelude-back}
 use Rattle.prelude.specs.declared.Stage.TheVariants.{Whole}
 use Rattle.table.specs.Columns.{columns}
-use Rattle.table.specs.TableLaws.{flat-length}
+use Rattle.table.proofs.TableLaws.{flat-length}
 use Rattle.wire.specs.Reader.{all_tests}
 use Rattle.layout.specs.Layout.{Layout, print_layout, LegalLayout, EachName}
 use Rattle.layout.specs.LayoutOf.{D}

@@ -8,8 +8,8 @@ use Rattle.std.proofs.lemmas.List.{length-map}
 use Rattle.codec.specs.Codec.{refusal, ok, Bytes}
 use Rattle.table.specs.Table.{flat}
 use Rattle.table.specs.Columns.{columns, cell, row_cell}
-use Rattle.table.specs.ColumnLaws.{columns-length, cell_row}
-use Rattle.table.specs.TableLaws.{Wide, flat-length}
+use Rattle.table.proofs.ColumnLaws.{columns-length, cell_row}
+use Rattle.table.proofs.TableLaws.{Wide, flat-length}
 use Rattle.table.specs.EachLaws.{Each, each_at, row_number, RowInside}
 use Rattle.layout.specs.Layout.{Layout}
 use Rattle.layout.specs.LayoutOf.{layout_of}

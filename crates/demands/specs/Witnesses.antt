@@ -29,7 +29,7 @@ use Rattle.block_format.specs.Fields.{fields_with, fields_of}
 use Rattle.block_format.specs.Read.{Promise}
 use Rattle.block_format.specs.ReadLaws.{gist, given, read-given}
 use Rattle.block_format.specs.declared.BlockAnswer.TheVariants.{Read}
-use Rattle.table.specs.ColumnLaws.{columns-none}
+use Rattle.table.proofs.ColumnLaws.{columns-none}
 use Rattle.block_format.specs.Examples.{zero_fields}
 use Rattle.block_format.specs.declared.Fields.{Fields}
 use Rattle.block_format.specs.declared.Optional.TheVariants.{Absent, Present}

@@ -21,10 +21,10 @@ use Rattle.wire.specs.Formats.{Name, Tests}
 use Rattle.wire.specs.Reader.{tests_of, name_by, name_at, section_at}
 use Rattle.numbers.specs.Numbers.{take_at, u16_at, part, le16, le32, le64}
 use Rattle.numbers.specs.NumberLaws.{take-value, take-refused, num-is, u16-is, u64-is}
-use Rattle.wire.specs.NameLaws.{name-ok, name-no}
+use Rattle.wire.proofs.NameLaws.{name-ok, name-no}
 use Rattle.table.specs.Table.{Out, said, row, seq, on_got, all_rows}
 use Rattle.table.specs.StepLaws.{items_end, items_row, items_no, both, both-seq, said-named, count-row, said-num, seq-same}
-use Rattle.wire.specs.StepLaws.{said-name, parts-end, parts-run, parts-no}
+use Rattle.wire.proofs.StepLaws.{said-name, parts-end, parts-run, parts-no}
 use Rattle.numbers.specs.declared.Got.{Got}
 use Rattle.numbers.specs.declared.Got.TheVariants.{Value, Refused}
 use Rattle.layout.specs.Layout

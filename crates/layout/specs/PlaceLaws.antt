@@ -19,7 +19,7 @@ use Rattle.wire.specs.FormatLaws.{section-bare}
 use Rattle.numbers.specs.Numbers.{num_at, u16_at, part, le16}
 use Rattle.wire.specs.Reader.{name, name_at, section_at}
 use Rattle.numbers.specs.NumberLaws.{num_of, num-is, num-value, u16-value}
-use Rattle.wire.specs.NameLaws.{name_of, name-is, name-place}
+use Rattle.wire.proofs.NameLaws.{name_of, name-is, name-place}
 use Rattle.wire.specs.SectionLaws.{section_got, section-bad, section-of}
 use Rattle.numbers.specs.declared.Got.{Got}
 use Rattle.numbers.specs.declared.Got.TheVariants.{Value, Refused}

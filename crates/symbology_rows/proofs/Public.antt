@@ -14,7 +14,7 @@ use Rattle.text.specs.Utf8.{utf8}
 use Rattle.padded.specs.Padded.{nul_padded}
 use Rattle.dates.specs.Date.{is_date}
 use Rattle.table.specs.Table.{put_columns, said, answer, fill, Fills, Ran}
-use Rattle.table.specs.ColumnLaws.{fill-columns}
+use Rattle.table.proofs.ColumnLaws.{fill-columns}
 use Rattle.numbers.specs.declared.Got.{Got}
 use Rattle.numbers.specs.declared.Got.TheVariants.{Value}
 use Rattle.numbers.specs.declared.Got.TheVariants as Got'

@@ -13,7 +13,7 @@ use Rattle.table.specs.Table.{Out, all_rows, said, seq, on_got}
 use Rattle.table.specs.StepLaws.{seq-ok, seq-no}
 use Rattle.wire.specs.Formats.{Name, Tests, section}
 use Rattle.wire.specs.Reader.{name_by, name_at, section_at}
-use Rattle.wire.specs.NameLaws.{name_of, name-is, name-place}
+use Rattle.wire.proofs.NameLaws.{name_of, name-is, name-place}
 use Rattle.wire.specs.SectionLaws.{section_got, section-bad}
 use Rattle.numbers.specs.declared.Got.{Got}
 use Rattle.numbers.specs.declared.Got.TheVariants.{Value, Refused}

@@ -9,7 +9,7 @@ use Rattle.std.proofs.lemmas.List.{length-map, set_at}
 use Rattle.std.proofs.Math.Seq.{drop-length, drop-append_seam}
 use borrow.Author.Tests.{lt-ltb, le-ltb}
 use Rattle.table.specs.Table.{spread, put_columns, fill}
-use Rattle.table.specs.TableLaws.{Wide}
+use Rattle.table.proofs.TableLaws.{Wide}
 use Rattle.table.specs.Columns.{column, columns_from, columns, cell, cell_of}
 
 -- k columns of height h, in which so many rows stand
