@@ -3,14 +3,14 @@ use Rattle.std.specs.Prelude.{ℕ, ◌+◌, ◌≡◌, true, List, ◌++◌, len
 use Rattle.std.proofs.Common.{zero-add, sym, subst, append_assoc}
 use Rattle.std.proofs.Math.Seq.{take-append_seam}
 use Rattle.codec.specs.Codec.{ok, Bytes, raw, named, checked, ◌then◌, ◌on◌}
-use Rattle.codec.specs.Laws.{whole_back, left-part, part-take}
+use Rattle.codec.proofs.Laws.{whole_back, left-part, part-take}
 use Rattle.text.specs.Utf8.{utf8}
 use Rattle.text.specs.Trim.{trimmed_len}
 use Rattle.padded.specs.Padded.{nul_padded}
 use Rattle.padded.proofs.PaddedLaws.{Name}
 use Rattle.dates.specs.Date.{is_date}
 use Rattle.table.specs.EachLaws.{Each}
-use Rattle.symbology_format.specs.NameLaws.{NamedIn, Stands, name-stands, symbology-named}
+use Rattle.symbology_format.proofs.NameLaws.{NamedIn, Stands, name-stands, symbology-named}
 use Rattle.metadata_lengths.specs.Lengths.{lengths}
 use Rattle.block_format.specs.Block.{Block, header, width_of, block, block_of}
 use Rattle.block_format.specs.Read.{sixes}

@@ -5,7 +5,7 @@ use Rattle.std.proofs.Math.Path.{refl, ap₂}
 use Rattle.std.proofs.Common.{sym, ap, ◌∙◌, append-nil}
 use Rattle.std.proofs.lemmas.List.{length-map}
 use Rattle.codec.specs.Codec.{little, raw, skip, num, named, checked, judged, sized, boxed, full, remainder, ◌then◌, ◌on◌}
-use Rattle.codec.specs.Laws.{part-take}
+use Rattle.codec.proofs.Laws.{part-take}
 use Rattle.text.specs.Utf8.{utf8}
 use Rattle.text.specs.Trim.{trimmed_len}
 use Rattle.padded.specs.Padded.{nul_padded}
@@ -13,9 +13,9 @@ use Rattle.dates.specs.Date.{is_date}
 use Rattle.wire.specs.Reader.{all_tests}
 use Rattle.symbology_format.specs.Symbology.{Symbology, symbology}
 use Rattle.symbology_format.specs.SymbologyRows.{symbology_rows}
-use Rattle.symbology_format.specs.NameLaws.{Stands}
-use Rattle.symbology_format.specs.PrintLaws.{symbol_texts, trimmed, name_in, no_start6}
-use Rattle.symbology_format.specs.PrintLaws as Symbols
+use Rattle.symbology_format.proofs.NameLaws.{Stands}
+use Rattle.symbology_format.proofs.PrintLaws.{symbol_texts, trimmed, name_in, no_start6}
+use Rattle.symbology_format.proofs.PrintLaws as Symbols
 use Rattle.layout.specs.Layout.{Layout, print_layout, locate_layout, LegalLayout, EachName}
 use Rattle.layout.specs.LayoutOf.{D}
 use Rattle.layout.specs.Rows.{rows}

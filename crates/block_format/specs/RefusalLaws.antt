@@ -5,8 +5,8 @@ use Rattle.std.proofs.Common.{zero-le, arith, sym, ap, subst, inl, inr}
 use Rattle.refusal.specs.declared.Refusal.{Refusal}
 use Rattle.codec.specs.Codec.{Res, ok, refuse, refusal, ◌>>=◌, need, whole}
 use Rattle.codec.specs.Refusals.{Gives, In, Within}
-use Rattle.codec.specs.PlaceLaws.{within-is, within_test, within-whole}
-use Rattle.codec.specs.RefusalLaws.{in_more, gives_more, gives_is, gives_test, gives_whole}
+use Rattle.codec.proofs.PlaceLaws.{within-is, within_test, within-whole}
+use Rattle.codec.proofs.RefusalLaws.{in_more, gives_more, gives_is, gives_test, gives_whole}
 use Rattle.text.specs.Utf8.{utf8}
 use Rattle.wire.specs.Reader.{all_tests}
 use Rattle.padded.specs.Padded.{nul_padded}

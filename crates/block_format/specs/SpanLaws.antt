@@ -2,14 +2,14 @@
 use Rattle.std.specs.Prelude.{ℕ, ◌+◌, ◌≡◌, refl, Bool, true, false, cond, List, [], length, leb, eqb}
 use Rattle.std.proofs.Common.{arith, sym, ap, ◌∙◌, subst, ne_eqb}
 use Rattle.codec.specs.Codec.{ok, Bytes, named, full, boxed, remainder, ◌then◌, ◌on◌, whole}
-use Rattle.codec.specs.Laws.{need-ok, whole_back}
+use Rattle.codec.proofs.Laws.{need-ok, whole_back}
 use Rattle.text.specs.Utf8.{utf8}
 use Rattle.padded.specs.Padded.{nul_padded}
 use Rattle.dates.specs.Date.{is_date}
 use Rattle.prelude.specs.Prelude.{is_version}
 use Rattle.table.specs.EachLaws.{Each, RowInside, PartInside, part-inside}
 use Rattle.symbology_format.specs.Symbology.{Symbology, symbology}
-use Rattle.symbology_format.specs.SpanLaws.{symbology-lies}
+use Rattle.symbology_format.proofs.SpanLaws.{symbology-lies}
 use Rattle.layout.specs.Layout.{Layout}
 use Rattle.layout.specs.Rows.{rows}
 use Rattle.layout.specs.ReadLaws.{no_rows}

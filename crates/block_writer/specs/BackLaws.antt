@@ -13,7 +13,7 @@ use Rattle.std.proofs.Math.Dec.{leb, eqb}
 use borrow.Author.Tests.{leb-true, ltb-true, eqb-true, le-leb, eq-eqb, ne_eqb}
 use Rattle.codec.specs.Codec.{ok, refusal, little, is_nil, Bytes, fault_of}
 use Rattle.codec.specs.CaseLaws.{no_true, both_true, by_bool}
-use Rattle.codec.specs.Laws.{length-little}
+use Rattle.codec.proofs.Laws.{length-little}
 use Rattle.codec.specs.Faults as Faults
 use Rattle.codec.specs.Faults.{first-zero, unless-zero}
 use Rattle.text.specs.Trim.{trimmed_len}
@@ -36,8 +36,8 @@ use Rattle.rows_check.specs.CheckLaws.{Formed}
 use Rattle.rows_check.specs.LegalLaws.{sound}
 use Rattle.rows_check.specs.TreeLaws.{tree-rows, tree-flat, tree-version}
 use Rattle.rows_check.specs.NameLaws.{tree-each}
-use Rattle.symbology_format.specs.PrintLaws.{name_in, no_start6}
-use Rattle.symbology_format.specs.NameLaws.{Stands}
+use Rattle.symbology_format.proofs.PrintLaws.{name_in, no_start6}
+use Rattle.symbology_format.proofs.NameLaws.{Stands}
 use Rattle.metadata_lengths.specs.Lengths.{lengths}
 use Rattle.block_format.specs.Block.{Block, header, layout_part, symbology_part, block_of}
 use Rattle.block_format.specs.BlockFaults.{LegalPart, layout_bytes, symbology_bytes, header_fault, layout_fault, header-length, block-told}

@@ -10,7 +10,7 @@ use Rattle.std.proofs.Math.Seq.{length-take-le}
 use borrow.Author.Tests.{leb-true, ltb-true, eqb-true, ne_eqb}
 use Rattle.codec.specs.Codec.{little, is_nil, Bytes}
 use Rattle.codec.specs.CaseLaws.{both_true, by_bool}
-use Rattle.codec.specs.Laws.{length-little, bytes_take, bytes_drop}
+use Rattle.codec.proofs.Laws.{length-little, bytes_take, bytes_drop}
 use Rattle.codec.specs.Faults.{unless, first}
 use Rattle.text.specs.Utf8.{utf8}
 use Rattle.text.specs.Trim.{trimmed_len}

@@ -8,7 +8,7 @@ use Rattle.std.proofs.Math.ListN.{length}
 use Rattle.refusal.specs.declared.Refusal.{Refusal}
 use Rattle.codec.specs.Codec.{Res, ok, refuse, refusal, fault_of}
 use Rattle.codec.specs.Refusals.{Gives, In, Fault}
-use Rattle.codec.specs.RefusalLaws.{in_more, gives_more, fault-by}
+use Rattle.codec.proofs.RefusalLaws.{in_more, gives_more, fault-by}
 use Rattle.codec.specs.Faults.{unless, first}
 use Rattle.prelude.specs.Prelude.{is_version}
 use Rattle.rows_check.specs.Check.{row_numbers, fault}

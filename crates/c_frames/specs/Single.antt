@@ -4,7 +4,7 @@ use Rattle.std.specs.Prelude.{ℕ, ◌≡◌, refl, List, ◌∷◌}
 use Rattle.std.proofs.Common.{sym, subst}
 use Rattle.refusal.specs.declared.Refusal.{Refusal}
 use Rattle.codec.specs.Refusals.{In}
-use Rattle.codec.specs.RefusalLaws.{in_more}
+use Rattle.codec.proofs.RefusalLaws.{in_more}
 use Rattle.c_texts.specs.Single.{one}
 use Rattle.frames.specs.Frames.{answer_number, frame_numbers}
 use Rattle.frames.specs.RefusalLaws.{answer-refused}

@@ -4,7 +4,7 @@ use Rattle.std.specs.Prelude.{ℕ, ◌/◌, ◌≡◌, refl, List, ◌∷◌, le
 use Rattle.std.proofs.Common.{sym, subst}
 use Rattle.refusal.specs.declared.Refusal.{Refusal}
 use Rattle.codec.specs.Refusals.{In}
-use Rattle.codec.specs.RefusalLaws.{in_more, gives_is}
+use Rattle.codec.proofs.RefusalLaws.{in_more, gives_is}
 use Rattle.layout.specs.Answers.{verdict, judge, layout_number, verdict_number}
 use Rattle.layout.specs.RefusalLaws.{judge-refused}
 use Rattle.layout.specs.declared.Answer.{Answer}

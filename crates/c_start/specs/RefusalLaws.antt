@@ -4,7 +4,7 @@ use Rattle.std.specs.Prelude.{ℕ, ◌≡◌, refl, List, ◌∷◌}
 use Rattle.std.proofs.Common.{sym, subst}
 use Rattle.refusal.specs.declared.Refusal.{Refusal}
 use Rattle.codec.specs.Refusals.{In}
-use Rattle.codec.specs.RefusalLaws.{in_more}
+use Rattle.codec.proofs.RefusalLaws.{in_more}
 use Rattle.block_format.specs.Read.{block_numbers, block_answer, block_number}
 use Rattle.block_format.specs.RefusalLaws.{answer-refuses}
 use Rattle.block_format.specs.declared.BlockAnswer.{BlockAnswer}

@@ -10,7 +10,7 @@ use Rattle.table.specs.Columns.{columns}
 use Rattle.layout.specs.ReadLaws.{rows-nine}
 use Rattle.symbology_format.specs.WidthLaws.{rows-of-six}
 use Rattle.names.specs.declared.Span.TheVariants.{Part}
-use Rattle.names.specs.NameLaws.{symbol-no_field, item-no_field}
+use Rattle.names.proofs.SpanLaws.{symbol-no_field, item-no_field}
 use Rattle.names.specs.Names.{symbol_text, item_text, symbology_span, layout_span, part_in}
 use Rattle.metadata_lengths.specs.Lengths.{lengths}
 use Rattle.block_format.specs.Block.{Block, block_of}

@@ -9,7 +9,7 @@ use borrow.Author.Tests.{leb-true, eq-eqb, ne_eqb}
 use Rattle.refusal.specs.declared.Refusal.{Refusal}
 use Rattle.codec.specs.Codec.{Res, ok, refuse, among}
 use Rattle.codec.specs.CaseLaws.{by_le, by_bool, both_true, no_true}
-use Rattle.codec.specs.RefusalLaws.{in_more, in_pass}
+use Rattle.codec.proofs.RefusalLaws.{in_more, in_pass}
 use Rattle.table.proofs.ColumnLaws.{columns-length}
 use Rattle.layout.specs.ReadLaws.{rows-flat}
 use Rattle.prelude.specs.Prelude.{is_version, prelude_of, prelude_numbers}

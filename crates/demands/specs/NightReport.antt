@@ -9,7 +9,7 @@ use mathlib.Core.List.{List, []}
 use Rattle.std.proofs.lemmas.List.{length-replicate}
 use Rattle.std.proofs.Math.Dec.{leb}
 use Rattle.refusal.specs.declared.Refusal.{Refusal}
-use Rattle.codec.specs.RefusalLaws.{in_pass}
+use Rattle.codec.proofs.RefusalLaws.{in_pass}
 use Rattle.held.specs.Held.{first_of}
 use Rattle.held.specs.StreamLaws.{finds_first}
 use Rattle.held.specs.declared.Holding.{Holding}

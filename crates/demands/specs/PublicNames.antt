@@ -18,7 +18,7 @@ use Rattle.layout.specs.ReadLaws.{rows-nine}
 use Rattle.layout.specs.SpanLaws.{layout-lies}
 use Rattle.layout.specs.TextLaws.{row_text}
 use Rattle.names.specs.Names.{no_text, symbol_text, item_text, span_of, symbology_span, layout_span, part_in}
-use Rattle.names.specs.NameLaws.{span-part, span_none, part_bytes, part_none, symbol-text, symbol-kinds, item-kinds}
+use Rattle.names.proofs.SpanLaws.{span-part, span_none, part_bytes, part_none, symbol-text, symbol-kinds, item-kinds}
 use Rattle.names.specs.declared.Span.{Span}
 use Rattle.names.specs.declared.Span.TheVariants.{Part}
 use Rattle.rules.specs.Rules.{ruled_of}

@@ -7,8 +7,8 @@ use Rattle.std.proofs.lemmas.List.{length-replicate}
 use Rattle.codec.specs.Codec.{Bytes, ok, raw, padded, skip, num, fixed, named, checked, judged, placed, asks, sized, limited, times, distinct, whole, boxed, full, ◌then◌, ◌on◌, remainder}
 use Rattle.codec.specs.CaseLaws.{both_true}
 use Rattle.codec.specs.Edits.{Marked, kept, free, ◌and◌, box, bytes_of, Edit, keep, fill, pair, grow, put}
-use Rattle.codec.specs.Format.{raw-edits, num-edits, fixed-edits}
-use Rattle.codec.specs.EditLaws.{edits-kept, edits-still, edits-skip, edits-padded, edits-then, edits-on, edits-named, edits-checked, edits-judged, edits-asks, edits-placed, edits-sized, edits-times, edits-distinct, edits-apart, edits-boxed}
+use Rattle.codec.proofs.Format.{raw-edits, num-edits, fixed-edits}
+use Rattle.codec.proofs.EditLaws.{edits-kept, edits-still, edits-skip, edits-padded, edits-then, edits-on, edits-named, edits-checked, edits-judged, edits-asks, edits-placed, edits-sized, edits-times, edits-distinct, edits-apart, edits-boxed}
 use Rattle.text.specs.Utf8.{utf8}
 use Rattle.dates.specs.Date.{is_date, is_day, days_in, is_leap}
 use Rattle.dates.specs.Day.{day_of, day_number, days_to, days_before, days_of_year}

@@ -6,7 +6,7 @@ use Rattle.std.proofs.Math.Path.{◌≡◌, refl, ap}
 use Rattle.refusal.specs.declared.Refusal.{Refusal}
 use Rattle.codec.specs.Codec.{refusal}
 use Rattle.codec.specs.Refusals.{In}
-use Rattle.codec.specs.RefusalLaws.{in_more}
+use Rattle.codec.proofs.RefusalLaws.{in_more}
 use Rattle.prelude.specs.Prelude.{prelude_numbers, prelude_of}
 use Rattle.prelude.specs.RefusalLaws.{prelude-refuses, prelude-place}
 use Rattle.prelude.specs.declared.Stage.{Stage}

@@ -4,7 +4,7 @@ use Rattle.std.proofs.Common.{arith, sym, ap, ◌∙◌, lt-ltb, le-ltb, le-leb,
 use Rattle.std.proofs.Math.Bool.{true, false}
 use Rattle.std.proofs.lemmas.Bool.{lt-leb}
 use Rattle.codec.specs.Codec.{refusal, named, checked, ◌then◌}
-use Rattle.codec.specs.StepLaws.{byte_got}
+use Rattle.codec.proofs.StepLaws.{byte_got}
 use Rattle.held.specs.Held.{bounded, within, held_of}
 use Rattle.held.specs.StageLaws.{HeadLaw, stage-said, refused_needs, whole_needs, refused-whole}
 use Rattle.held.specs.declared.Holding.{Holding}

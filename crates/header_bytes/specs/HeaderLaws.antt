@@ -7,7 +7,7 @@ use Rattle.std.proofs.lemmas.List.{length-replicate}
 use Rattle.std.proofs.lemmas.Bool.{lt-leb}
 use Rattle.codec.specs.Codec.{little}
 use Rattle.codec.specs.CaseLaws.{by_bool}
-use Rattle.codec.specs.Laws.{length-little}
+use Rattle.codec.proofs.Laws.{length-little}
 use Rattle.put.specs.Output.{RoomFor, Wrote, Stored}
 use Rattle.put.specs.OutputLaws.{wrote_stored, stored_is, stored_short, stored_none}
 use Rattle.metadata_lengths.specs.Lengths.{lengths}

@@ -5,7 +5,7 @@ use Rattle.refusal.specs.declared.Refusal.{Refusal}
 use Rattle.codec.specs.Codec.{refusal}
 use Rattle.codec.specs.CaseLaws.{by_eqb}
 use Rattle.codec.specs.Refusals.{In, Fault}
-use Rattle.codec.specs.RefusalLaws.{in_more}
+use Rattle.codec.proofs.RefusalLaws.{in_more}
 use Rattle.prelude.specs.Prelude.{prelude_numbers, prelude_of}
 use Rattle.prelude.specs.RefusalLaws.{prelude-refuses}
 use Rattle.prelude.specs.declared.Stage.{Stage}

@@ -10,12 +10,12 @@ use native.Mathlib.Omega.{arith}
 use borrow.Author.Tests.{eq-eqb, ne_eqb}
 use Rattle.refusal.specs.declared.Refusal.{Refusal}
 use Rattle.codec.specs.Codec.{Codec, Res, ok, refuse, refusal, shifted, ◌>>=◌, padded, num, named, ◌then◌, sized, times, times_parse, among, distinct, distinct_parse, counted}
-use Rattle.codec.specs.Laws.{bind_ok}
-use Rattle.codec.specs.StepLaws.{raw_got, raw-bad, num_got, num-bad, times-length, distinct-length}
+use Rattle.codec.proofs.Laws.{bind_ok}
+use Rattle.codec.proofs.StepLaws.{raw_got, raw-bad, num_got, num-bad, times-length, distinct-length}
 use Rattle.codec.specs.CaseLaws.{by_bool, by_le}
-use Rattle.codec.specs.Format.{Format}
+use Rattle.codec.proofs.Format.{Format}
 use Rattle.codec.specs.Refusals.{Within, ends}
-use Rattle.codec.specs.PlaceLaws.{within-is, within-then}
+use Rattle.codec.proofs.PlaceLaws.{within-is, within-then}
 use Rattle.wire.specs.Formats
 use Rattle.wire.specs.Formats.{Name, Tests}
 use Rattle.wire.specs.Reader.{tests_of, name_by, name_at, section_at}

@@ -8,11 +8,11 @@ use Rattle.std.proofs.Math.Path.{refl, ap, ap₂}
 use mathlib.Core.List.{List, [], ◌∷◌, ◌++◌, map, append_assoc}
 use Rattle.std.proofs.lemmas.Bool.{lt-leb}
 use Rattle.codec.specs.Codec.{Res, ok, refuse, refusal, shifted, ◌>>=◌, Codec, num, padded, named, ◌then◌, sized, times, times_parse, counted, whole, times_bare}
-use Rattle.codec.specs.Laws.{shifted-ok, bind_ok, length-bare}
-use Rattle.codec.specs.StepLaws.{raw_got, raw-bad, times-length}
+use Rattle.codec.proofs.Laws.{shifted-ok, bind_ok, length-bare}
+use Rattle.codec.proofs.StepLaws.{raw_got, raw-bad, times-length}
 use Rattle.codec.specs.CaseLaws.{by_le}
 use Rattle.wire.specs.Reader.{all_tests}
-use Rattle.codec.specs.Format.{Format}
+use Rattle.codec.proofs.Format.{Format}
 use Rattle.wire.specs.Formats
 use Rattle.wire.specs.Formats.{Name, section}
 use Rattle.wire.specs.FormatLaws.{section-bare}

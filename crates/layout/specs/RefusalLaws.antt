@@ -6,8 +6,8 @@ use Rattle.std.proofs.Math.Path.{refl}
 use Rattle.refusal.specs.declared.Refusal.{Refusal}
 use Rattle.codec.specs.Codec.{Res, ok, refuse, refusal, ◌>>=◌, whole}
 use Rattle.codec.specs.Refusals.{Gives, In, Within, ends, tells}
-use Rattle.codec.specs.PlaceLaws.{within-is, within-then, within-whole}
-use Rattle.codec.specs.RefusalLaws.{in_more, gives_is, gives_then, gives_by, gives_whole}
+use Rattle.codec.proofs.PlaceLaws.{within-is, within-then, within-whole}
+use Rattle.codec.proofs.RefusalLaws.{in_more, gives_is, gives_then, gives_by, gives_whole}
 use Rattle.wire.specs.Formats.{Tests}
 use Rattle.wire.specs.Formats
 use Rattle.wire.specs.Reader.{all_tests, tests_of, name_numbers, section_numbers}

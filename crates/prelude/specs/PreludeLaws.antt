@@ -4,7 +4,7 @@ use Rattle.std.specs.Prelude.{ℕ, ◌+◌, ◌-◌, ◌*◌, ◌≤◌, ◌<◌
 use Rattle.std.proofs.Common.{arith, sym, ◌∙◌, lt-ltb, le-ltb, eq-eqb, ne_eqb, length-take-le, get_or-take, take-take}
 use Rattle.std.proofs.Math.Bool.{true, false}
 use Rattle.codec.specs.Codec.{refusal, Bytes, value, fixed, named, checked, ◌then◌}
-use Rattle.codec.specs.StepLaws.{num_got, byte_got, value-step}
+use Rattle.codec.proofs.StepLaws.{num_got, byte_got, value-step}
 use Rattle.numbers.specs.Numbers.{le32}
 use Rattle.numbers.specs.NumberLaws.{u32_is}
 use Rattle.prelude.specs.Prelude.{magic, is_version, prelude, said, prelude_of}

@@ -9,8 +9,8 @@ use Rattle.refusal.specs.declared.Refusal.{Refusal}
 use Rattle.codec.specs.Codec.{Res, ok, refuse, refusal}
 use Rattle.codec.specs.CaseLaws.{by_le}
 use Rattle.codec.specs.Refusals.{In}
-use Rattle.codec.specs.RefusalLaws.{gives_is}
-use Rattle.codec.specs.PlaceLaws.{within-is}
+use Rattle.codec.proofs.RefusalLaws.{gives_is}
+use Rattle.codec.proofs.PlaceLaws.{within-is}
 use Rattle.prelude.specs.Prelude.{Prelude, magic, is_version, prelude, said, prelude_numbers, prelude_of}
 use Rattle.prelude.specs.PreludeLaws.{is_magic, length_of, tests, prelude-few, prelude-is}
 use Rattle.prelude.specs.declared.Stage.TheVariants.{Needs, Refused}

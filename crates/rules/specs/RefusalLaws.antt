@@ -9,7 +9,7 @@ use borrow.Author.Tests.{eqb-false}
 use Rattle.refusal.specs.declared.Refusal.{Refusal}
 use Rattle.codec.specs.Codec.{Res, ok, refuse, refusal, ◌>>=◌, need}
 use Rattle.codec.specs.Refusals.{Gives, In, Fault}
-use Rattle.codec.specs.RefusalLaws.{in_more, gives_more, gives_is, gives_then, gives_judged}
+use Rattle.codec.proofs.RefusalLaws.{in_more, gives_more, gives_is, gives_then, gives_judged}
 use Rattle.wire.specs.Reader.{all_tests}
 use Rattle.layout.specs.Layout.{Layout, Parts, from_layout}
 use Rattle.layout.specs.LayoutOf.{layout_of}

@@ -23,7 +23,7 @@ use Rattle.symbology_format.specs.Symbology.{Symbology}
 use Rattle.symbology_format.specs.SymbologyRows.{symbology_rows}
 use Rattle.symbology_rows.specs.Reader.{symbology_at, symbology_of}
 use Rattle.symbology_rows.specs.Answers.{found, rows_answer, rows_table, RowsPromise}
-use Rattle.symbology_format.specs.LenientLaws.{no-tests}
+use Rattle.symbology_format.proofs.LenientLaws.{no-tests}
 use Rattle.symbology_rows.specs.ReadLaws.{symbology-parse}
 use Rattle.symbology_format.specs.WidthLaws.{rows-of-six}
 use Rattle.symbology_rows.specs.declared.Found.TheVariants as Found'

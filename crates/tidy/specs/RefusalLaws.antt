@@ -4,7 +4,7 @@ use Rattle.std.proofs.Common.{subst, arith}
 use Rattle.refusal.specs.declared.Refusal.{Refusal}
 use Rattle.codec.specs.Codec.{Res, ok, refuse, refusal, Codec}
 use Rattle.codec.specs.Refusals.{In, Gives}
-use Rattle.codec.specs.RefusalLaws.{in_more}
+use Rattle.codec.proofs.RefusalLaws.{in_more}
 use Rattle.layout.specs.Layout.{Fields, Label, Layout}
 use Rattle.layout.specs.LayoutOf.{entry, label, record_l, struct_l, label_def}
 use Rattle.layout.specs.NameCountLaws.{AllOf}

@@ -1,9 +1,9 @@
 -- Names with tests left out: what is accepted is read as the same. Assumes nothing.
 use Rattle.std.specs.Prelude.{ℕ, ◌≡◌, true, false, List}
 use Rattle.codec.specs.Codec.{raw, fixed}
-use Rattle.codec.specs.Format.{Format}
+use Rattle.codec.proofs.Format.{Format}
 use Rattle.codec.specs.Lenient.{Lenient}
-use Rattle.codec.specs.LenientLaws.{lenient_same, lenient_test, lenient_named, lenient_placed, lenient_then, lenient_sized, lenient_boxed}
+use Rattle.codec.proofs.LenientLaws.{lenient_same, lenient_test, lenient_named, lenient_placed, lenient_then, lenient_sized, lenient_boxed}
 use Rattle.wire.specs.Formats.{Tests, section, text_of, text, name}
 
 -- tests that pass what others pass

@@ -8,11 +8,11 @@ use Rattle.std.proofs.Math.Seq.{take-length}
 use borrow.Author.Tests.{ne_eqb}
 use Rattle.refusal.specs.declared.Refusal.{Refusal}
 use Rattle.codec.specs.Codec.{Res, ok, refuse, refusal, raw, num, fixed, ◌then◌, named, checked, placed, sized, among}
-use Rattle.codec.specs.StepLaws.{raw_got, raw-bad, byte_got, byte-bad}
+use Rattle.codec.proofs.StepLaws.{raw_got, raw-bad, byte_got, byte-bad}
 use Rattle.codec.specs.CaseLaws.{by_bool, by_le, by_eqb}
 use Rattle.text.specs.Utf8.{utf8}
 use Rattle.codec.specs.Lenient.{lax}
-use Rattle.codec.specs.LenientLaws.{lax-out}
+use Rattle.codec.proofs.LenientLaws.{lax-out}
 use Rattle.plain_text.specs.Plain.{plain}
 use Rattle.plain_text.specs.PlainLaws.{plain-utf8, plain-next}
 use Rattle.numbers.specs.Numbers.{part}

@@ -4,7 +4,7 @@ use Rattle.std.specs.Prelude.{ℕ, ◌+◌, ◌≡◌, Bool, false, List}
 use Rattle.std.proofs.Math.Path.{refl}
 use Rattle.std.proofs.Math.ListN.{length}
 use Rattle.refusal.specs.declared.Refusal.{Refusal}
-use Rattle.codec.specs.Format.{Format, raw}
+use Rattle.codec.proofs.Format.{Format, raw}
 use Rattle.codec.specs.Refusals.{In}
 use Rattle.numbers.specs.RefusalLaws.{got_refuses}
 use Rattle.numbers.specs.declared.Got.TheVariants.{Refused}

@@ -7,7 +7,7 @@ use Rattle.std.proofs.Common.{sym, ◌∙◌}
 use mathlib.Core.List.{List, [], ◌∷◌, ◌++◌}
 use Rattle.refusal.specs.declared.Refusal.{Refusal}
 use Rattle.codec.specs.Codec.{Res, ok, refuse, moved, shifted, ◌>>=◌, Codec, named, times_parse}
-use Rattle.codec.specs.Format.{Format}
+use Rattle.codec.proofs.Format.{Format}
 use Rattle.numbers.specs.Numbers.{part}
 use Rattle.table.specs.Table.{Out, all_rows, said, seq, on_got}
 use Rattle.table.specs.StepLaws.{seq-ok, seq-no}

@@ -13,7 +13,7 @@ use Rattle.plain_tiling.specs.Tile.{Span}
 use Rattle.plain_tiling.specs.Plain.{blank, taken, paint, overlap, marks, reach, furthest, by_marks, base_by_marks, ext_by_marks}
 use Rattle.plain_tiling.specs.Places.{Unowned, Enough}
 use Rattle.plain_tiling.specs.Owners.{SpanIn, Placed}
-use Rattle.plain_tiling.specs.PlainLaws.{blank-free, marks-any, taken-no, paint-length, paint-low, paint-high, paint-more, held-room, furthest-small, cleared}
+use Rattle.plain_tiling.proofs.PlainLaws.{blank-free, marks-any, taken-no, paint-length, paint-low, paint-high, paint-more, held-room, furthest-small, cleared}
 use Rattle.plain_tiling.specs.Marking.{Marked, Marking, end_by_marks}
 
 pub marking : {c : ℕ} {ss : List Span} {ms : List ℕ} → Enough (length ms) c ss → Unowned ms → Marking (length ms) c ss ss ms 0 c

@@ -5,7 +5,7 @@ use Rattle.text.specs.TrimLaws.{trimmed-le}
 use Rattle.table.specs.EachLaws.{Each, RowInside, PartInside}
 use Rattle.symbology_format.specs.Symbology.{Symbology, symbology}
 use Rattle.symbology_format.specs.SymbologyRows.{symbology_rows}
-use Rattle.symbology_format.specs.EachRowLaws.{each_row}
+use Rattle.symbology_format.proofs.EachRowLaws.{each_row}
 
 -- every row is of kind 0 to 4, and its text, the symbol without the NULs at its end, lies within the m bytes
 pub symbology-lies : (utf8 nul_padded : List ℕ → Bool) (is_date : ℕ → Bool) (width m : ℕ) (t : Symbology) → (symbology utf8 nul_padded is_date width).codec.legal t → (symbology utf8 nul_padded is_date width).codec.each (PartInside m) t → Each (RowInside 0 4 m) (symbology_rows t)

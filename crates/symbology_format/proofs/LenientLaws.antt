@@ -2,7 +2,7 @@
 use Rattle.std.specs.Prelude.{ℕ, ◌+◌, ◌≡◌, refl, Bool, true, List}
 use Rattle.codec.specs.Codec.{raw, num}
 use Rattle.codec.specs.Lenient.{Lenient}
-use Rattle.codec.specs.LenientLaws.{lenient_same, lenient_test, lenient_named, lenient_placed, lenient_then, lenient_asks, lenient_limited}
+use Rattle.codec.proofs.LenientLaws.{lenient_same, lenient_test, lenient_named, lenient_placed, lenient_then, lenient_asks, lenient_limited}
 use Rattle.symbology_format.specs.Symbology.{symbol, date, list, interval, mapping, symbology}
 
 -- tests that pass what other tests pass

@@ -5,14 +5,14 @@ use Rattle.std.proofs.Common.{sym, ◌∙◌, take-take}
 use mathlib.Core.List.{List, [], ◌∷◌, ◌++◌, map, map-map, map-append}
 use Rattle.std.proofs.lemmas.List.{length-map}
 use Rattle.codec.specs.Codec.{Codec, little, raw, num, named, checked, placed, asks, limited, times_print, times_bare, TimesEach, ◌then◌}
-use Rattle.codec.specs.Laws.{length-bare}
+use Rattle.codec.proofs.Laws.{length-bare}
 use Rattle.dates.specs.Day.{day_of}
 use Rattle.text.specs.Trim.{trimmed_len}
 use Rattle.text.specs.TrimLaws.{trimmed-le}
 use Rattle.table.specs.Table.{flat, From, ◌and_then◌, each_from}
 use Rattle.symbology_format.specs.Symbology.{Symbol, Interval, Mapping, Symbology, symbol, date, list, interval, mapping, symbology}
 use Rattle.symbology_format.specs.SymbologyRows.{symbol_row, interval_row, mapping_rows, list_row, list_rows, symbology_rows}
-use Rattle.symbology_format.specs.NameLaws.{Stands}
+use Rattle.symbology_format.proofs.NameLaws.{Stands}
 
 -- ---- texts
 

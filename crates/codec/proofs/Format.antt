@@ -6,12 +6,12 @@ use Rattle.std.proofs.Common.{le_refl, arith, sym, ap, ◌∙◌}
 use Rattle.std.specs.Prelude.{◌≡◌, refl, Bool, true, false, List, length}
 use Rattle.codec.specs.Codec
 use Rattle.codec.specs.Codec.{Codec}
-use Rattle.codec.specs.Laws.{Law, law-raw, law-skip, law-padded, law-num, law-fixed, law-then, law-on, law-named, law-checked, law-judged, law-asks, law-placed, law-sized, law-times, law-distinct, law-limited, law-boxed, law-full, law-remainder, length-bare}
+use Rattle.codec.proofs.Laws.{Law, law-raw, law-skip, law-padded, law-num, law-fixed, law-then, law-on, law-named, law-checked, law-judged, law-asks, law-placed, law-sized, law-times, law-distinct, law-limited, law-boxed, law-full, law-remainder, length-bare}
 use Rattle.codec.specs.Refusals.{Only, Fault, Inside}
-use Rattle.codec.specs.RefusalLaws.{only-raw, only-skip, only-padded, only-num, only-fixed, only_then, only-on, only-named, only-checked, only-judged, only-asks, only-placed, only-times, only-distinct, only-limited, only-boxed, only-remainder, only-sized, only-full}
-use Rattle.codec.specs.PlaceLaws.{inside-raw, inside-skip, inside-padded, inside-num, inside-fixed, inside-then, inside_on, inside-named, inside-checked, inside-judged, inside-asks, inside-placed, inside-times, inside-distinct, inside-limited, inside-boxed, inside-remainder, inside-sized, inside-full}
+use Rattle.codec.proofs.RefusalLaws.{only-raw, only-skip, only-padded, only-num, only-fixed, only_then, only-on, only-named, only-checked, only-judged, only-asks, only-placed, only-times, only-distinct, only-limited, only-boxed, only-remainder, only-sized, only-full}
+use Rattle.codec.proofs.PlaceLaws.{inside-raw, inside-skip, inside-padded, inside-num, inside-fixed, inside-then, inside_on, inside-named, inside-checked, inside-judged, inside-asks, inside-placed, inside-times, inside-distinct, inside-limited, inside-boxed, inside-remainder, inside-sized, inside-full}
 use Rattle.codec.specs.Edits.{Edits}
-use Rattle.codec.specs.EditLaws.{edits-kept, edits-still, edits-skip, edits-padded, edits-then, edits-on, edits-named, edits-checked, edits-judged, edits-asks, edits-placed, edits-sized, edits-times, edits-distinct, edits-limited, edits-apart, edits-boxed}
+use Rattle.codec.proofs.EditLaws.{edits-kept, edits-still, edits-skip, edits-padded, edits-then, edits-on, edits-named, edits-checked, edits-judged, edits-asks, edits-placed, edits-sized, edits-times, edits-distinct, edits-limited, edits-apart, edits-boxed}
 
 -- e says whether a place may stand at the very end of a value, as that of an empty text does. Such a value is not the last in a section
 abbrev pub tail : Bool → ℕ

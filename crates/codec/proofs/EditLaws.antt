@@ -8,7 +8,7 @@ use mathlib.Core.List.{List, [], ◌∷◌, ◌++◌}
 use Rattle.std.proofs.Math.ListN.{length, length-append}
 use Rattle.std.proofs.lemmas.Bool.{lt-leb}
 use Rattle.codec.specs.Codec.{Codec, skip, padded, little, ◌then◌, ◌on◌, named, checked, judged, asks, placed, sized, times, times_print, TimesLegal, times_bare, times_locate, distinct, limited, boxed}
-use Rattle.codec.specs.Laws.{Law, length-little, length-bare, distinct-kept, distinct-all, room_back}
+use Rattle.codec.proofs.Laws.{Law, length-little, length-bare, distinct-kept, distinct-all, room_back}
 use Rattle.codec.specs.Edits.{Marked, kept, free, ◌and◌, box, bytes_of, Edit, put, Edited, Keeps, Shifts, Edits}
 
 -- ---- what an edit puts in

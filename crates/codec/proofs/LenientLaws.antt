@@ -3,7 +3,7 @@
 -- Assumes nothing.
 use Rattle.std.specs.Prelude.{ℕ, zero, suc, ◌+◌, ◌-◌, ◌/◌, ◌≡◌, Bool, true, false, not, List, ◌∷◌, length, drop, leb, eqb}
 use Rattle.codec.specs.Codec.{ok, shifted, Codec, raw, num, fixed, ◌then◌, ◌on◌, named, checked, judged, asks, placed, sized, times, times_parse, among, distinct, distinct_parse, limited, counted, whole, boxed, is_nil, full, remainder}
-use Rattle.codec.specs.Laws.{bind_ok, need-ok, shifted-ok}
+use Rattle.codec.proofs.Laws.{bind_ok, need-ok, shifted-ok}
 use Rattle.codec.specs.Lenient.{Lenient, lax, any_num}
 
 -- nothing left out

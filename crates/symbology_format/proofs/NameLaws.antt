@@ -8,7 +8,7 @@ use Rattle.padded.proofs.PaddedLaws.{Name, padded-name}
 use Rattle.table.specs.EachLaws.{Each}
 use Rattle.symbology_format.specs.Symbology.{Symbology, symbology}
 use Rattle.symbology_format.specs.SymbologyRows.{symbology_rows}
-use Rattle.symbology_format.specs.EachRowLaws.{each_row}
+use Rattle.symbology_format.proofs.EachRowLaws.{each_row}
 
 -- the name by a row's start and length is that of the symbol of this width that begins there
 abbrev pub NamedIn : List ℕ → ℕ → List ℕ → Type 0
