@@ -18,7 +18,7 @@ use Rattle.codec.specs.Faults as Faults
 use Rattle.codec.specs.Faults.{first-zero, unless-zero}
 use Rattle.text.specs.Trim.{trimmed_len}
 use Rattle.prelude.specs.Prelude.{is_version, prelude_of}
-use Rattle.prelude.specs.PrintLaws.{prelude-print, prelude-back}
+use Rattle.prelude.proofs.PrintLaws.{prelude-print, prelude-back}
 use Rattle.prelude.specs.declared.Stage.TheVariants.{Whole}
 use Rattle.table.specs.Columns.{columns}
 use Rattle.table.proofs.TableLaws.{flat-length}

@@ -7,7 +7,7 @@ use Rattle.std.proofs.Math.Bool.{true, false}
 use Rattle.codec.specs.CaseLaws.{both_true, by_le, by_order}
 use Rattle.codec.specs.Codec.{little, is_nil}
 use Rattle.codec.specs.Faults.{unless-zero}
-use Rattle.prelude.specs.PrintLaws.{prelude-print}
+use Rattle.prelude.proofs.PrintLaws.{prelude-print}
 use Rattle.symbology_format.specs.Symbology.{Symbology}
 use Rattle.rows_check.specs.Check.{fault, printed}
 use Rattle.rows_check.specs.SectionLaws.{printed-is}

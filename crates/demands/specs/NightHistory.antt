@@ -13,8 +13,8 @@ use Rattle.codec.proofs.RefusalLaws.{in_more, in_pass}
 use Rattle.table.proofs.ColumnLaws.{columns-length}
 use Rattle.layout.specs.ReadLaws.{rows-flat}
 use Rattle.prelude.specs.Prelude.{is_version, prelude_of, prelude_numbers}
-use Rattle.prelude.specs.PreludeLaws.{is_magic, length_of, tests, prelude-few, prelude-is}
-use Rattle.prelude.specs.RefusalLaws.{prelude-refuses}
+use Rattle.prelude.proofs.PreludeLaws.{is_magic, length_of, tests, prelude-few, prelude-is}
+use Rattle.prelude.proofs.RefusalLaws.{prelude-refuses}
 use Rattle.prelude.specs.declared.Stage.{Stage}
 use Rattle.prelude.specs.declared.Stage.TheVariants as Stage'
 use Rattle.held.specs.Held.{first_of}

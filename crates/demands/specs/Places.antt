@@ -6,7 +6,7 @@ use Rattle.std.proofs.Common.{sym, ap, ◌∙◌}
 use Rattle.refusal.specs.declared.Refusal.{Refusal}
 use Rattle.codec.specs.Codec.{refusal}
 use Rattle.prelude.specs.Prelude.{prelude_of}
-use Rattle.prelude.specs.RefusalLaws.{prelude-place}
+use Rattle.prelude.proofs.RefusalLaws.{prelude-place}
 use Rattle.prelude.specs.declared.Stage.TheVariants as Stage'
 use Rattle.layout.specs.Answers.{judge}
 use Rattle.layout.specs.AnswerLaws.{judge-no}

@@ -4,7 +4,7 @@ use Rattle.std.specs.Prelude.{ℕ, ◌+◌, ◌/◌, ◌≤◌, ◌≡◌, refl,
 use Rattle.std.proofs.Common.{arith, sym, ap, ◌∙◌, length-drop}
 use Rattle.codec.specs.Codec.{Bytes}
 use Rattle.prelude.specs.Prelude.{prelude_of}
-use Rattle.prelude.specs.PreludeLaws.{prelude-first}
+use Rattle.prelude.proofs.PreludeLaws.{prelude-first}
 use Rattle.prelude.specs.declared.Stage.TheVariants as Stage'
 use Rattle.table.specs.Columns.{columns}
 use Rattle.rows_check.specs.Tree.{rows_in}

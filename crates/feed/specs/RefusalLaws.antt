@@ -8,7 +8,7 @@ use Rattle.codec.specs.Codec.{refusal}
 use Rattle.codec.specs.Refusals.{In}
 use Rattle.codec.proofs.RefusalLaws.{in_more}
 use Rattle.prelude.specs.Prelude.{prelude_numbers, prelude_of}
-use Rattle.prelude.specs.RefusalLaws.{prelude-refuses, prelude-place}
+use Rattle.prelude.proofs.RefusalLaws.{prelude-refuses, prelude-place}
 use Rattle.prelude.specs.declared.Stage.{Stage}
 use Rattle.prelude.specs.declared.Stage.TheVariants.{Needs, Refused, Whole}
 use Rattle.block_format.specs.Read.{block_numbers, block_answer}

@@ -2,7 +2,7 @@
 use Rattle.std.specs.Prelude.{ℕ, ◌+◌, ◌≡◌, List}
 use Rattle.std.proofs.Common.{arith, sym, ap, subst₂, ◌∙◌}
 use Rattle.prelude.specs.Prelude.{prelude_of}
-use Rattle.prelude.specs.PreludeLaws.{prelude-few, prelude-first, prelude-never}
+use Rattle.prelude.proofs.PreludeLaws.{prelude-few, prelude-first, prelude-never}
 use Rattle.prelude.specs.declared.Stage.{Stage}
 use Rattle.prelude.specs.declared.Stage.TheVariants as Stage'
 use Rattle.held.specs.StageLaws.{HeadLaw, Pours, refused_needs, whole_needs}

@@ -7,7 +7,7 @@ use Rattle.codec.specs.CaseLaws.{by_eqb}
 use Rattle.codec.specs.Refusals.{In, Fault}
 use Rattle.codec.proofs.RefusalLaws.{in_more}
 use Rattle.prelude.specs.Prelude.{prelude_numbers, prelude_of}
-use Rattle.prelude.specs.RefusalLaws.{prelude-refuses}
+use Rattle.prelude.proofs.RefusalLaws.{prelude-refuses}
 use Rattle.prelude.specs.declared.Stage.{Stage}
 use Rattle.prelude.specs.declared.Stage.TheVariants as Stage'
 use Rattle.block_format.specs.Read.{block_numbers, block_answer}

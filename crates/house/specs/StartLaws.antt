@@ -11,7 +11,7 @@ use Rattle.block_format.specs.Read.{block_answer}
 use Rattle.block_format.specs.declared.BlockAnswer.{BlockAnswer}
 use Rattle.codec.specs.CaseLaws.{by_le}
 use Rattle.prelude.specs.Prelude.{prelude_of}
-use Rattle.prelude.specs.PreludeLaws.{prelude-few}
+use Rattle.prelude.proofs.PreludeLaws.{prelude-few}
 use Rattle.prelude.specs.declared.Stage.{Stage}
 use Rattle.prelude.specs.declared.Stage.TheVariants as Stage'
 use Rattle.held.specs.Held as held

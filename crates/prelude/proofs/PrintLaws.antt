@@ -4,7 +4,7 @@ use Rattle.std.proofs.Common.{arith, ◌∙◌, leb-true, le-leb}
 use Rattle.codec.specs.CaseLaws.{both_true}
 use Rattle.codec.specs.Codec.{little, num, fixed, named, checked, ◌then◌}
 use Rattle.prelude.specs.Prelude.{Prelude, magic, is_version, prelude, prelude_of}
-use Rattle.prelude.specs.PreludeLaws.{length_of, prelude-is}
+use Rattle.prelude.proofs.PreludeLaws.{length_of, prelude-is}
 use Rattle.prelude.specs.declared.Stage.TheVariants.{Whole}
 
 -- the magic, the version, the length

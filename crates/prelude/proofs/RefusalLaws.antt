@@ -12,7 +12,7 @@ use Rattle.codec.specs.Refusals.{In}
 use Rattle.codec.proofs.RefusalLaws.{gives_is}
 use Rattle.codec.proofs.PlaceLaws.{within-is}
 use Rattle.prelude.specs.Prelude.{Prelude, magic, is_version, prelude, said, prelude_numbers, prelude_of}
-use Rattle.prelude.specs.PreludeLaws.{is_magic, length_of, tests, prelude-few, prelude-is}
+use Rattle.prelude.proofs.PreludeLaws.{is_magic, length_of, tests, prelude-few, prelude-is}
 use Rattle.prelude.specs.declared.Stage.TheVariants.{Needs, Refused}
 
 -- 10 is at the magic's first byte, 11 at the version, 12 at the length
