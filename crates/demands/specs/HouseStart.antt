@@ -14,7 +14,7 @@ use Rattle.prelude.specs.Prelude.{prelude_of}
 use Rattle.prelude.specs.declared.Stage.{Stage}
 use Rattle.prelude.specs.declared.Stage.TheVariants as Stage'
 use Rattle.held.specs.Held.{within}
-use Rattle.held.specs.StageLaws.{bounded-whole, stage_in}
+use Rattle.held.proofs.StageLaws.{bounded-whole, stage_in}
 use Rattle.held.specs.declared.Holding.{Holding}
 use Rattle.held.specs.declared.Holding.TheVariants.{Needs, Refused, Whole}
 use Rattle.feed.specs.Feeding.{start, announced, stage_of, answer_at, block_in, block_says, feed_numbers}

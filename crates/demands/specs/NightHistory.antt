@@ -18,10 +18,10 @@ use Rattle.prelude.proofs.RefusalLaws.{prelude-refuses}
 use Rattle.prelude.specs.declared.Stage.{Stage}
 use Rattle.prelude.specs.declared.Stage.TheVariants as Stage'
 use Rattle.held.specs.Held.{first_of}
-use Rattle.held.specs.StageLaws.{is_whole, after-length}
-use Rattle.held.specs.PieceLaws.{needs_all}
-use Rattle.held.specs.StreamLaws.{Long, first-whole, Count, Found, finds_first}
-use Rattle.held.specs.RefusalLaws as why
+use Rattle.held.proofs.StageLaws.{is_whole, after-length}
+use Rattle.held.proofs.PieceLaws.{needs_all}
+use Rattle.held.proofs.StreamLaws.{Long, first-whole, Count, Found, finds_first}
+use Rattle.held.proofs.RefusalLaws as why
 use Rattle.held.specs.declared.Holding.{Holding}
 use Rattle.held.specs.declared.Holding.TheVariants.{Needs, Refused, Whole}
 use Rattle.block_format.specs.Block.{Block, block_of}
@@ -34,7 +34,7 @@ use Rattle.count.specs.Count.{History, counted, counted_all, counted_end}
 use Rattle.count.specs.CountLaws.{all_none, all_one}
 use Rattle.count.specs.declared.Outcome.{Outcome}
 use Rattle.count.specs.declared.Outcome.TheVariants as Outcome'
-use Rattle.frames.specs.CutLaws.{joined}
+use Rattle.frames.proofs.CutLaws.{joined}
 use Rattle.night.specs.Night.{after_block, goes_on, history_in, history_of, end_numbers, Night, met, turned, turns, through}
 use Rattle.night.specs.TurnLaws.{turns-none, turns-over, turns_turn}
 use Rattle.demands.specs.NightCut.{turned_needs, left-none, passed, any_cutting}

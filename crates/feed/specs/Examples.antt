@@ -11,7 +11,7 @@ use Rattle.block_format.specs.declared.Fields.{Fields}
 use Rattle.block_format.specs.declared.BlockAnswer.TheVariants.{Read}
 use Rattle.prelude.specs.Prelude.{magic, prelude, prelude_of}
 use Rattle.prelude.specs.declared.Stage.{Stage}
-use Rattle.held.specs.AloneLaws.{Alone, alone-few, alone-refused, alone_rest, alone-whole}
+use Rattle.held.proofs.AloneLaws.{Alone, alone-few, alone-refused, alone_rest, alone-whole}
 use Rattle.held.specs.declared.Holding.{Holding}
 use Rattle.feed.specs.Feeding.{announced, start, stage_of, store_after, block_in, answer_at, Judgement, Feeding, symbology_at, layout_at, block_says}
 use Rattle.feed.specs.StageLaws.{start-law, judged-whole}

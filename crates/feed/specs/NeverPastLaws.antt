@@ -7,10 +7,10 @@ use Rattle.block_format.specs.declared.Fields.{Fields}
 use Rattle.prelude.specs.Prelude.{prelude_of}
 use Rattle.prelude.specs.declared.Stage.TheVariants as Stage'
 use Rattle.held.specs.Held.{need_of}
-use Rattle.held.specs.StageLaws.{is_whole, taken-most}
-use Rattle.held.specs.AloneLaws.{front_paste}
-use Rattle.held.specs.NeverPastLaws as held
-use Rattle.held.specs.NeverPastLaws.{Inside}
+use Rattle.held.proofs.StageLaws.{is_whole, taken-most}
+use Rattle.held.proofs.AloneLaws.{front_paste}
+use Rattle.held.proofs.NeverPastLaws as held
+use Rattle.held.proofs.NeverPastLaws.{Inside}
 use Rattle.held.specs.declared.Holding.{Holding}
 use Rattle.held.specs.declared.Holding.TheVariants.{Needs, Refused, Whole}
 use Rattle.feed.specs.Feeding.{start, stage_of, taken_of, held_after, store_after, answer_at, Judgement, Feeding, block_says, symbology_at, layout_at}

@@ -17,8 +17,8 @@ use Rattle.block_format.specs.declared.BlockAnswer.{BlockAnswer}
 use Rattle.block_format.specs.declared.BlockAnswer.TheVariants as BlockAnswer'
 use Rattle.feed.specs.Feeding.{announced, start, stage_of, block_in, block_says, answer_at, feed_numbers, Feeding}
 use Rattle.feed.specs.StageLaws.{start-law}
-use Rattle.held.specs.StageLaws.{is_whole}
-use Rattle.held.specs.RefusalLaws as why
+use Rattle.held.proofs.StageLaws.{is_whole}
+use Rattle.held.proofs.RefusalLaws as why
 use Rattle.held.specs.declared.Holding.{Holding}
 use Rattle.held.specs.declared.Holding.TheVariants as Holding'
 use Rattle.feed.specs.declared.Answer.{Answer}

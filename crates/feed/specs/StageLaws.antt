@@ -5,7 +5,7 @@ use Rattle.prelude.specs.Prelude.{prelude_of}
 use Rattle.prelude.proofs.PreludeLaws.{prelude-few, prelude-first, prelude-never}
 use Rattle.prelude.specs.declared.Stage.{Stage}
 use Rattle.prelude.specs.declared.Stage.TheVariants as Stage'
-use Rattle.held.specs.StageLaws.{HeadLaw, Pours, refused_needs, whole_needs}
+use Rattle.held.proofs.StageLaws.{HeadLaw, Pours, refused_needs, whole_needs}
 use Rattle.held.specs.declared.Holding.TheVariants.{Needs, Whole}
 use Rattle.feed.specs.Feeding.{announced, start, stage_of, block_in, block_says, Judgement, Feeding, answer_at, symbology_at, layout_at}
 use Rattle.block_format.specs.Read.{Promise}

@@ -14,7 +14,7 @@ use Rattle.block_format.specs.Read.{block_numbers, block_answer}
 use Rattle.block_format.specs.RefusalLaws.{answer-refuses}
 use Rattle.block_format.specs.declared.BlockAnswer.{BlockAnswer}
 use Rattle.block_format.specs.declared.BlockAnswer.TheVariants as BlockAnswer'
-use Rattle.held.specs.StageLaws.{by-bound, bounded_beyond, bounded-rest, bounded-whole}
+use Rattle.held.proofs.StageLaws.{by-bound, bounded_beyond, bounded-rest, bounded-whole}
 use Rattle.held.specs.declared.Holding.{Holding}
 use Rattle.held.specs.declared.Holding.TheVariants.{Needs, Refused, Whole}
 use Rattle.feed.specs.Feeding.{announced, stage_of, block_in, answer_at, feed_numbers}

@@ -8,7 +8,7 @@ use Rattle.refusal.specs.declared.Refusal.{Refusal}
 use Rattle.codec.specs.Codec.{among}
 use Rattle.codec.proofs.RefusalLaws.{in_pass}
 use Rattle.block_format.specs.declared.Fields.{Fields}
-use Rattle.held.specs.StageLaws as held
+use Rattle.held.proofs.StageLaws as held
 use Rattle.feed.specs.Feeding.{start, stage_of, answer_at, taken_of, held_after, store_after, feed_numbers, Feeding}
 use Rattle.feed.specs.StageLaws.{start-law}
 use Rattle.feed.specs.RefusalLaws.{feed_refuses}

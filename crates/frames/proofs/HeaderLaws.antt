@@ -6,7 +6,7 @@ use Rattle.std.proofs.lemmas.Bool.{lt-leb}
 use Rattle.codec.specs.Codec.{refusal, named, checked, ◌then◌}
 use Rattle.codec.proofs.StepLaws.{byte_got}
 use Rattle.held.specs.Held.{bounded, within, held_of}
-use Rattle.held.specs.StageLaws.{HeadLaw, stage-said, refused_needs, whole_needs, refused-whole}
+use Rattle.held.proofs.StageLaws.{HeadLaw, stage-said, refused_needs, whole_needs, refused-whole}
 use Rattle.held.specs.declared.Holding.{Holding}
 use Rattle.held.specs.declared.Holding.TheVariants.{Needs, Refused, Whole}
 use Rattle.frames.specs.Frames.{is_length, header, said, header_of, frame}

@@ -11,7 +11,7 @@ use Rattle.refusal.specs.declared.Refusal.{Refusal}
 use Rattle.codec.specs.Codec.{refusal}
 use Rattle.codec.specs.CaseLaws.{by_order}
 use Rattle.held.specs.Held.{Head, bounded, within, held_of, need_of, poured, taken_of, held_after, store_after}
-use Rattle.held.specs.StageLaws.{HeadLaw, bounded-short, bounded-rest, bounded-whole, stage-small, stage-head, stage-said, stage-rest, stage-whole, paste_length}
+use Rattle.held.proofs.StageLaws.{HeadLaw, bounded-short, bounded-rest, bounded-whole, stage-small, stage-head, stage-said, stage-rest, stage-whole, paste_length}
 use Rattle.held.specs.declared.Holding.{Holding}
 use Rattle.held.specs.declared.Holding.TheVariants.{Needs, Refused, Whole}
 

@@ -4,8 +4,8 @@ use Rattle.std.proofs.Common.{arith, sym, ap, ◌∙◌, lt-ltb, le-ltb}
 use Rattle.codec.specs.Codec.{refusal}
 use Rattle.codec.specs.CaseLaws.{by_le}
 use Rattle.held.specs.Held.{Head, fits, first_of, refused_at}
-use Rattle.held.specs.StageLaws.{HeadLaw, refused-whole, whole_needs}
-use Rattle.held.specs.AloneLaws.{Alone, alone-small, alone-few, alone-refused, alone-short, alone_rest, alone-whole}
+use Rattle.held.proofs.StageLaws.{HeadLaw, refused-whole, whole_needs}
+use Rattle.held.proofs.AloneLaws.{Alone, alone-small, alone-few, alone-refused, alone-short, alone_rest, alone-whole}
 use Rattle.held.specs.declared.Holding.{Holding}
 use Rattle.held.specs.declared.Holding.TheVariants.{Needs, Refused, Whole}
 

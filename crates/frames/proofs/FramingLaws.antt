@@ -5,16 +5,16 @@ use Rattle.std.proofs.Common.{arith, inl, inr, ⊎_elim, sym, ap, ap₂, subst, 
 use Rattle.std.proofs.Math.Seq.{paste, paste-zero}
 use Rattle.refusal.specs.declared.Refusal.{Refusal}
 use Rattle.held.specs.Held.{held_of, need_of, held_after, store_after}
-use Rattle.held.specs.StageLaws.{Pours}
-use Rattle.held.specs.PieceLaws.{taken_none}
-use Rattle.held.specs.LeastLaws as held
-use Rattle.held.specs.NeverPastLaws as never
-use Rattle.held.specs.NeverPastLaws.{Inside}
+use Rattle.held.proofs.StageLaws.{Pours}
+use Rattle.held.proofs.PieceLaws.{taken_none}
+use Rattle.held.proofs.LeastLaws as held
+use Rattle.held.proofs.NeverPastLaws as never
+use Rattle.held.proofs.NeverPastLaws.{Inside}
 use Rattle.held.specs.declared.Holding.{Holding}
 use Rattle.held.specs.declared.Holding.TheVariants as Holding'
 use Rattle.frames.specs.Frames.{frame, answer_of, Framing}
-use Rattle.frames.specs.HeaderLaws.{frame-law}
-use Rattle.frames.specs.AtOnceLaws.{AtOnce, taken-at-once}
+use Rattle.frames.proofs.HeaderLaws.{frame-law}
+use Rattle.frames.proofs.AtOnceLaws.{AtOnce, taken-at-once}
 use Rattle.frames.specs.declared.Answer.{Answer}
 use Rattle.frames.specs.declared.Answer.TheVariants.{Needs, Frame, Refused}
 use Rattle.frames.specs.declared.Framed.{Framed}

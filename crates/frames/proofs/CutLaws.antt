@@ -9,14 +9,14 @@ use Rattle.std.proofs.Math.Seq.{length-take-le, paste, paste-zero}
 use Rattle.refusal.specs.declared.Refusal.{Refusal}
 use Rattle.codec.specs.CaseLaws.{by_le}
 use Rattle.held.specs.Held.{held_of, need_of, taken_of, held_after, store_after, first_of, refused_at}
-use Rattle.held.specs.StageLaws.{is_whole, after-length, taken-fits}
-use Rattle.held.specs.PieceLaws.{taken_none, both-taken, both-store, both_rest}
+use Rattle.held.proofs.StageLaws.{is_whole, after-length, taken-fits}
+use Rattle.held.proofs.PieceLaws.{taken_none, both-taken, both-store, both_rest}
 use Rattle.held.specs.declared.Holding.{Holding}
 use Rattle.held.specs.declared.Holding.TheVariants as Holding'
 use Rattle.frames.specs.Frames.{frame, Frames, ◌before◌, goes_on, frames_in, frames_of, Framing}
-use Rattle.frames.specs.HeaderLaws.{frame-law}
-use Rattle.frames.specs.FramingLaws.{held_after_lem, after_needs, after_frame, after-refused}
-use Rattle.frames.specs.StreamLaws.{first_frame, goes_after, frames_from, from_start}
+use Rattle.frames.proofs.HeaderLaws.{frame-law}
+use Rattle.frames.proofs.FramingLaws.{held_after_lem, after_needs, after_frame, after-refused}
+use Rattle.frames.proofs.StreamLaws.{first_frame, goes_after, frames_from, from_start}
 use Rattle.frames.specs.declared.Answer.TheVariants.{Needs, Frame, Refused}
 use Rattle.frames.specs.declared.Framed.{Framed}
 

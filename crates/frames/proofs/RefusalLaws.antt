@@ -6,13 +6,13 @@ use Rattle.codec.specs.Codec.{refusal, Bytes}
 use Rattle.codec.specs.CaseLaws.{by_le}
 use Rattle.codec.specs.Refusals.{In}
 use Rattle.held.specs.Held.{bounded, held_of}
-use Rattle.held.specs.RefusalLaws as why
-use Rattle.held.specs.StageLaws.{refused_needs, refused-whole, by-bound, bounded_beyond, bounded-rest, bounded-whole, stage_beyond, stage-head}
+use Rattle.held.proofs.RefusalLaws as why
+use Rattle.held.proofs.StageLaws.{refused_needs, refused-whole, by-bound, bounded_beyond, bounded-rest, bounded-whole, stage_beyond, stage-head}
 use Rattle.held.specs.declared.Holding.{Holding}
 use Rattle.held.specs.declared.Holding.TheVariants as Holding'
 use Rattle.frames.specs.Frames.{is_length, header_of, frame, answer_of, frame_numbers, Framing}
-use Rattle.frames.specs.HeaderLaws.{told, header-few, header_is, frame-law, bad-held, good-held}
-use Rattle.frames.specs.FramingLaws.{refused-of}
+use Rattle.frames.proofs.HeaderLaws.{told, header-few, header_is, frame-law, bad-held, good-held}
+use Rattle.frames.proofs.FramingLaws.{refused-of}
 use Rattle.frames.specs.declared.Answer.{Answer}
 use Rattle.frames.specs.declared.Framed.{Framed}
 

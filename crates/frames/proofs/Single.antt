@@ -2,7 +2,7 @@
 -- Assumes nothing.
 use Rattle.std.specs.Prelude.{ℕ, ◌≡◌, List, take}
 use Rattle.std.proofs.Common.{sym, ap, ap₂, ◌∙◌}
-use Rattle.frames.specs.FramingLaws.{outcome}
+use Rattle.frames.proofs.FramingLaws.{outcome}
 use Rattle.frames.specs.Frames.{Framing}
 use Rattle.frames.specs.declared.Framed.{Framed}
 

@@ -6,9 +6,9 @@ use Rattle.std.proofs.Math.Seq.{paste}
 use Rattle.std.proofs.lemmas.List.{drop-append-le}
 use Rattle.codec.specs.CaseLaws.{by_le}
 use Rattle.held.specs.Held.{Head, held_of, need_of, poured, taken_of, held_after, store_after}
-use Rattle.held.specs.StageLaws.{HeadLaw, taken-most}
-use Rattle.held.specs.NeededLaws.{needs_room}
-use Rattle.held.specs.BytewiseLaws.{eats, after, after-eats, eats-append, eats-none, rest}
+use Rattle.held.proofs.StageLaws.{HeadLaw, taken-most}
+use Rattle.held.proofs.NeededLaws.{needs_room}
+use Rattle.held.proofs.BytewiseLaws.{eats, after, after-eats, eats-append, eats-none, rest}
 use Rattle.held.specs.declared.Holding.TheVariants.{Needs}
 
 module _ (H : Head) (L : HeadLaw H) (k : ℕ) (st p : List ℕ) where

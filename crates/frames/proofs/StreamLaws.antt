@@ -4,13 +4,13 @@ use Rattle.std.specs.Prelude.{ℕ, zero, suc, ◌≤◌, ◌<◌, ◌≡◌, ref
 use Rattle.std.proofs.Common.{arith, ◌∙◌, length-drop, take_all}
 use Rattle.std.proofs.Math.Path.{sym, ap, ap₂}
 use Rattle.held.specs.Held.{held_of, taken_of, held_after, store_after, first_of}
-use Rattle.held.specs.AloneLaws.{Alone}
-use Rattle.held.specs.StreamLaws.{Long, first-whole, Count, finds_first}
-use Rattle.held.specs.StageLaws.{after-length}
+use Rattle.held.proofs.AloneLaws.{Alone}
+use Rattle.held.proofs.StreamLaws.{Long, first-whole, Count, finds_first}
+use Rattle.held.proofs.StageLaws.{after-length}
 use Rattle.held.specs.declared.Holding.{Holding}
 use Rattle.held.specs.declared.Holding.TheVariants.{Needs, Refused, Whole}
 use Rattle.frames.specs.Frames.{header_of, frame, Frames, ◌before◌, goes_on, frames_in, frames_of}
-use Rattle.frames.specs.HeaderLaws.{frame-law, is-frame}
+use Rattle.frames.proofs.HeaderLaws.{frame-law, is-frame}
 
 -- ---- what stands first
 

@@ -7,9 +7,9 @@ use Rattle.std.proofs.Math.Path.{refl, ap, subst}
 use mathlib.Core.List.{List, [], ◌∷◌}
 use Rattle.std.proofs.lemmas.List.{take-set-le}
 use Rattle.held.specs.Held.{Head, held_of, need_of, taken_of, held_after, store_after}
-use Rattle.held.specs.StageLaws.{HeadLaw, needing}
-use Rattle.held.specs.NeededLaws.{needs_room}
-use Rattle.held.specs.BytewiseLaws.{eat, eats, after-eats}
+use Rattle.held.proofs.StageLaws.{HeadLaw, needing}
+use Rattle.held.proofs.NeededLaws.{needs_room}
+use Rattle.held.proofs.BytewiseLaws.{eat, eats, after-eats}
 use Rattle.held.specs.declared.Holding.{Holding}
 use Rattle.held.specs.declared.Holding.TheVariants.{Needs, Refused, Whole}
 

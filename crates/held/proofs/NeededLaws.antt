@@ -4,7 +4,7 @@ use Rattle.std.proofs.Common.{arith, ⊎_elim, ap, ◌∙◌, length-append, tak
 use Rattle.std.proofs.lemmas.List.{take-append-le}
 use Rattle.std.proofs.Math.Seq.{paste}
 use Rattle.held.specs.Held.{Head, held_of}
-use Rattle.held.specs.StageLaws.{HeadLaw, ForHead, ForWhole, needing, stage-head, stage-rest, stage-whole, paste_length}
+use Rattle.held.proofs.StageLaws.{HeadLaw, ForHead, ForWhole, needing, stage-head, stage-rest, stage-whole, paste_length}
 use Rattle.held.specs.declared.Holding.TheVariants.{Needs, Whole}
 
 -- what lies before a paste is kept

@@ -10,8 +10,8 @@ use mathlib.Core.List.{List, [], ◌∷◌, ◌++◌}
 use Rattle.std.proofs.Math.ListN.{length, get_or, set}
 use Rattle.std.proofs.Math.Seq.{paste, paste-zero, paste-suc}
 use Rattle.held.specs.Held.{Head, held_of, need_of, poured, taken_of}
-use Rattle.held.specs.StageLaws.{HeadLaw, below_or, ForHead, ForWhole, needing, paste_paste, poured-most, poured-fits}
-use Rattle.held.specs.NeededLaws.{needs_room, needs_rest, needs_whole}
+use Rattle.held.proofs.StageLaws.{HeadLaw, below_or, ForHead, ForWhole, needing, paste_paste, poured-most, poured-fits}
+use Rattle.held.proofs.NeededLaws.{needs_room, needs_rest, needs_whole}
 use Rattle.held.specs.declared.Holding.{Holding}
 use Rattle.held.specs.declared.Holding.TheVariants.{Needs, Refused, Whole}
 

@@ -4,10 +4,10 @@ use Rattle.std.specs.Prelude.{ℕ, ◌≡◌, refl, List, [], ◌∷◌, ◌++�
 use Rattle.codec.specs.Codec.{refusal, ◌then◌, named, checked, num, raw}
 use Rattle.held.specs.Held.{bounded, held_of, poured, taken_of, first_of}
 use Rattle.held.specs.declared.Holding.TheVariants.{Needs, Refused, Whole}
-use Rattle.frames.specs.CutLaws.{Reading, over, more, whole}
+use Rattle.frames.proofs.CutLaws.{Reading, over, more, whole}
 use Rattle.frames.specs.declared.Answer.{Answer}
 use Rattle.frames.specs.declared.Answer.TheVariants as Answer'
-use Rattle.frames.specs.FramingLaws.{outcome}
+use Rattle.frames.proofs.FramingLaws.{outcome}
 use Rattle.frames.specs.Frames.{header, header_of, frame, frames_in, frames_of}
 
 -- n bytes, the first two of which are a length in words and an rtype

@@ -7,8 +7,8 @@ use Rattle.std.proofs.Math.Path.{ap}
 use Rattle.std.proofs.Common.{◌∙◌}
 use Rattle.std.proofs.Math.Seq.{paste}
 use Rattle.held.specs.Held.{Head, held_of, need_of, poured, taken_of, held_after, store_after}
-use Rattle.held.specs.StageLaws.{HeadLaw}
-use Rattle.held.specs.NeededLaws.{needs_rest, needs_head, needs_whole}
+use Rattle.held.proofs.StageLaws.{HeadLaw}
+use Rattle.held.proofs.NeededLaws.{needs_rest, needs_head, needs_whole}
 use Rattle.held.specs.declared.Holding.TheVariants.{Needs, Whole}
 
 -- THE LEAST COUNT: k bytes of a store are held, and n more are needed; q is the next piece
