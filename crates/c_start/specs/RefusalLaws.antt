@@ -10,7 +10,7 @@ use Rattle.block_format.specs.RefusalLaws.{answer-refuses}
 use Rattle.block_format.specs.declared.BlockAnswer.{BlockAnswer}
 use Rattle.block_format.specs.declared.BlockAnswer.TheVariants as BlockAnswer'
 use Rattle.feed.specs.Feeding.{stage_of, held_after, store_after, answer_at, answer_number, feed_numbers}
-use Rattle.feed.specs.RefusalLaws.{answer-refused}
+use Rattle.feed.proofs.RefusalLaws.{answer-refused}
 use Rattle.feed.specs.declared.Answer.{Answer}
 use Rattle.feed.specs.declared.Answer.TheVariants as Answer'
 use Rattle.c_start.specs.Numbers.{BlockC, FeedC}

@@ -16,7 +16,7 @@ use Rattle.held.proofs.PieceLaws.{taken_none, both-taken, both-store, taken-some
 use Rattle.held.specs.declared.Holding.{Holding}
 use Rattle.held.specs.declared.Holding.TheVariants.{Needs, Refused, Whole}
 use Rattle.feed.specs.Feeding.{start, stage_of, block_in, block_says, answer_at, symbology_at, layout_at, taken_of, held_after, store_after}
-use Rattle.feed.specs.StageLaws.{start-law}
+use Rattle.feed.proofs.StageLaws.{start-law}
 use Rattle.feed.specs.declared.Answer.TheVariants as Answer'
 use Rattle.block_format.specs.Read.{block_answer}
 use Rattle.block_format.specs.declared.BlockAnswer.{BlockAnswer}

@@ -29,7 +29,7 @@ use Rattle.block_format.specs.Read.{sixes, nines, roomy, body_numbers, symbology
 use Rattle.block_format.specs.RefusalLaws.{answer-body}
 use Rattle.block_format.specs.declared.BlockAnswer.{BlockAnswer}
 use Rattle.feed.specs.Feeding.{announced, start, stage_of, block_in, block_says, answer_at, symbology_at, layout_at, taken_of, held_after, store_after}
-use Rattle.feed.specs.StageLaws.{start-law, whole-prelude}
+use Rattle.feed.proofs.StageLaws.{start-law, whole-prelude}
 use Rattle.count.specs.Count.{History, counted, counted_all, counted_end}
 use Rattle.count.specs.CountLaws.{all_none, all_one}
 use Rattle.count.specs.declared.Outcome.{Outcome}

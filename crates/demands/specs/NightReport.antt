@@ -18,7 +18,7 @@ use Rattle.block_format.specs.Read.{block_numbers, block_answer}
 use Rattle.block_format.specs.RefusalLaws.{answer-refuses}
 use Rattle.block_format.specs.declared.BlockAnswer.{BlockAnswer}
 use Rattle.feed.specs.Feeding.{start, block_in}
-use Rattle.feed.specs.StageLaws.{start-law}
+use Rattle.feed.proofs.StageLaws.{start-law}
 use Rattle.count.specs.Count.{accepted, cuts, total, refused_below, Below}
 use Rattle.count.specs.CountLaws.{sums}
 use Rattle.frames.proofs.CutLaws.{joined}

@@ -21,8 +21,8 @@ use Rattle.block_format.specs.RefusalLaws.{answer-within, refused_anyway}
 use Rattle.block_format.specs.declared.BlockAnswer.{BlockAnswer}
 use Rattle.block_format.specs.declared.BlockAnswer.TheVariants as BlockAnswer'
 use Rattle.feed.specs.Feeding.{Feeding}
-use Rattle.feed.specs.RefusalLaws.{feed_place, feed_anyway}
-use Rattle.feed.specs.PieceLaws.{Lent, any_cutting}
+use Rattle.feed.proofs.RefusalLaws.{feed_place, feed_anyway}
+use Rattle.feed.proofs.PieceLaws.{Lent, any_cutting}
 use Rattle.feed.specs.declared.Answer.{Answer as FeedAnswer}
 use Rattle.feed.specs.declared.Answer.TheVariants as Feed'
 use Rattle.feed.specs.declared.Fed.{Fed}

@@ -7,8 +7,8 @@ use Rattle.block_format.specs.declared.Fields.{Fields}
 use Rattle.prelude.specs.Prelude.{prelude_of}
 use Rattle.prelude.specs.declared.Stage.TheVariants as Stage'
 use Rattle.feed.specs.Feeding.{Feeding}
-use Rattle.feed.specs.PieceLaws.{Lent, lent_is-one}
-use Rattle.feed.specs.NeverPastLaws.{settled, done-whole}
+use Rattle.feed.proofs.PieceLaws.{Lent, lent_is-one}
+use Rattle.feed.proofs.NeverPastLaws.{settled, done-whole}
 use Rattle.feed.specs.Single.{Same}
 use Rattle.feed.specs.declared.Answer.TheVariants.{Done}
 use Rattle.feed.specs.declared.Fed.{Fed}

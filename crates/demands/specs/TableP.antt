@@ -34,7 +34,7 @@ use Rattle.block_format.specs.declared.BlockAnswer.{BlockAnswer}
 use Rattle.block_format.specs.declared.BlockAnswer.TheVariants.{Read}
 use Rattle.block_format.specs.declared.BlockAnswer.TheVariants as Block'
 use Rattle.table.specs.Columns.{columns}
-use Rattle.feed.specs.Examples.{Gives, p1, p2, p3, p4, p5}
+use Rattle.feed.proofs.Examples.{Gives, p1, p2, p3, p4, p5}
 use Rattle.feed.specs.declared.Answer.TheVariants.{Needs, Refused}
 
 -- the layout b, with any sheet, any width and any table with room for the rows: version and row count are answered, the rows stand at

@@ -33,7 +33,7 @@ use Rattle.table.proofs.ColumnLaws.{columns-none}
 use Rattle.block_format.specs.Examples.{zero_fields}
 use Rattle.block_format.specs.declared.Fields.{Fields}
 use Rattle.block_format.specs.declared.Optional.TheVariants.{Absent, Present}
-use Rattle.feed.specs.Examples.{Gives, fed_done}
+use Rattle.feed.proofs.Examples.{Gives, fed_done}
 use Rattle.feed.specs.declared.Answer.TheVariants.{Done}
 use Rattle.demands.specs.LayoutRows.{move_row}
 use Rattle.demands.specs.Demand3.{marking, SameRead, demand3}

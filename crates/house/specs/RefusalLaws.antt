@@ -19,7 +19,7 @@ use Rattle.held.specs.declared.Holding.{Holding}
 use Rattle.held.specs.declared.Holding.TheVariants.{Needs, Refused, Whole}
 use Rattle.feed.specs.Feeding.{announced, stage_of, block_in, answer_at, feed_numbers}
 use Rattle.feed.specs.AnswerLaws.{says-read, says-refused, says-short}
-use Rattle.feed.specs.RefusalLaws.{answer-refused}
+use Rattle.feed.proofs.RefusalLaws.{answer-refused}
 use Rattle.feed.specs.declared.Answer.{Answer}
 use Rattle.feed.specs.declared.Answer.TheVariants as Answer'
 use Rattle.house_file.specs.House.{blocks_of, unpacked_in, packed_in}

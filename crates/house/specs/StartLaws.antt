@@ -19,7 +19,7 @@ use Rattle.held.proofs.StageLaws.{refused-whole, by-bound, bounded_beyond, bound
 use Rattle.held.specs.declared.Holding.TheVariants.{Needs, Refused, Whole}
 use Rattle.feed.specs.Feeding.{start, announced, stage_of, block_in, block_says, answer_at, symbology_at, layout_at, taken_of, held_after, store_after, Judgement, Feeding}
 use Rattle.feed.specs.AnswerLaws.{answer_needs, answer-kept, answer-whole}
-use Rattle.feed.specs.StageLaws.{start-law}
+use Rattle.feed.proofs.StageLaws.{start-law}
 use Rattle.feed.specs.declared.Fed.{Fed}
 use Rattle.house_file.specs.House.{blocks_of, store_in, Unpacking, Packing}
 use Rattle.house_file.specs.declared.Unpacked.{Unpacked}

@@ -14,7 +14,7 @@ use Rattle.prelude.specs.declared.Stage.{Stage}
 use Rattle.held.proofs.AloneLaws.{Alone, alone-few, alone-refused, alone_rest, alone-whole}
 use Rattle.held.specs.declared.Holding.{Holding}
 use Rattle.feed.specs.Feeding.{announced, start, stage_of, store_after, block_in, answer_at, Judgement, Feeding, symbology_at, layout_at, block_says}
-use Rattle.feed.specs.StageLaws.{start-law, judged-whole}
+use Rattle.feed.proofs.StageLaws.{start-law, judged-whole}
 use Rattle.feed.specs.declared.Answer.{Answer}
 use Rattle.feed.specs.declared.Answer.TheVariants.{Needs, Done, Refused}
 use Rattle.feed.specs.declared.Fed.{Fed}

@@ -5,7 +5,7 @@ use Rattle.std.proofs.Math.Path.{refl, sym, ap}
 use Rattle.std.proofs.Math.ListN.{length, drop}
 use Rattle.block_format.specs.Read.{block_answer, block_symbology, block_layout}
 use Rattle.feed.specs.Feeding.{start, stage_of, block_says, block_in, answer_at, symbology_at, layout_at}
-use Rattle.feed.specs.StageLaws.{start-law}
+use Rattle.feed.proofs.StageLaws.{start-law}
 use Rattle.held.proofs.StageLaws as stage
 use Rattle.held.specs.declared.Holding.{Holding}
 use Rattle.held.specs.declared.Holding.TheVariants.{Needs, Refused, Whole}

@@ -16,7 +16,7 @@ use Rattle.block_format.specs.RefusalLaws.{answer-refuses, answer-within, refuse
 use Rattle.block_format.specs.declared.BlockAnswer.{BlockAnswer}
 use Rattle.block_format.specs.declared.BlockAnswer.TheVariants as BlockAnswer'
 use Rattle.feed.specs.Feeding.{announced, start, stage_of, block_in, block_says, answer_at, feed_numbers, Feeding}
-use Rattle.feed.specs.StageLaws.{start-law}
+use Rattle.feed.proofs.StageLaws.{start-law}
 use Rattle.held.proofs.StageLaws.{is_whole}
 use Rattle.held.proofs.RefusalLaws as why
 use Rattle.held.specs.declared.Holding.{Holding}

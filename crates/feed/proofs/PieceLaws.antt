@@ -6,7 +6,7 @@ use Rattle.std.proofs.Math.Seq.{paste, paste-zero}
 use Rattle.held.specs.Held.{need_of}
 use Rattle.held.proofs.PieceLaws as pieces
 use Rattle.feed.specs.Feeding.{start, stage_of, taken_of, block_says, block_in, answer_at, symbology_at, layout_at, Judgement, Feeding}
-use Rattle.feed.specs.StageLaws.{start-law}
+use Rattle.feed.proofs.StageLaws.{start-law}
 use Rattle.feed.specs.Single.{Same, one_feed}
 use Rattle.block_format.specs.ReadLaws.{again}
 use Rattle.feed.specs.declared.Answer.{Answer}

@@ -6,7 +6,7 @@ use Rattle.block_format.specs.Read.{block_answer}
 use Rattle.block_format.specs.declared.BlockAnswer.{BlockAnswer}
 use Rattle.block_format.specs.declared.BlockAnswer.TheVariants.{Read}
 use Rattle.feed.specs.Feeding.{start, stage_of, store_after, block_says, block_in, answer_at, Feeding, symbology_at, layout_at}
-use Rattle.feed.specs.StageLaws.{start-law}
+use Rattle.feed.proofs.StageLaws.{start-law}
 use Rattle.held.proofs.LeastLaws as held
 use Rattle.feed.specs.declared.Answer.{Answer}
 use Rattle.feed.specs.declared.Fed.{Fed}

@@ -14,8 +14,8 @@ use Rattle.held.proofs.NeverPastLaws.{Inside}
 use Rattle.held.specs.declared.Holding.{Holding}
 use Rattle.held.specs.declared.Holding.TheVariants.{Needs, Refused, Whole}
 use Rattle.feed.specs.Feeding.{start, stage_of, taken_of, held_after, store_after, answer_at, Judgement, Feeding, block_says, symbology_at, layout_at}
-use Rattle.feed.specs.StageLaws.{start-law, whole-prelude}
-use Rattle.feed.specs.PieceLaws.{taken_none, join}
+use Rattle.feed.proofs.StageLaws.{start-law, whole-prelude}
+use Rattle.feed.proofs.PieceLaws.{taken_none, join}
 use Rattle.feed.specs.Single.{Same, one_feed}
 use Rattle.feed.specs.declared.Answer.{Answer}
 use Rattle.feed.specs.declared.Answer.TheVariants.{Done}
