@@ -37,7 +37,7 @@ use Rattle.symbology.specs.declared.SectionAnswer.{SectionAnswer}
 use Rattle.symbology.specs.declared.SectionAnswer.TheVariants as SectionAnswer'
 use Rattle.item_rules.specs.Rules.{rule_numbers}
 use Rattle.rules.specs.Rules.{rules_of, ruled_of}
-use Rattle.rules.specs.RefusalLaws.{ruled_either}
+use Rattle.rules.proofs.RefusalLaws.{ruled_either}
 use Rattle.rules.specs.RuleLaws.{ruled-is}
 use Rattle.block_format.specs.Block.{no_items, layout_part, symbology_part}
 use Rattle.block.specs.Parts.{in_block, span_of, span_at, SpanInside, within, outside, section_at, layout_table, LayoutReads, lays, lays-no, SymbologyReads}

@@ -42,10 +42,10 @@ use Rattle.metadata_lengths.specs.Lengths.{lengths}
 use Rattle.block_format.specs.Block.{Block, header, layout_part, symbology_part, block_of}
 use Rattle.block_format.specs.BlockFaults.{LegalPart, layout_bytes, symbology_bytes, header_fault, layout_fault, header-length, block-told}
 use Rattle.block_format.specs.LengthsLaws.{lengths-layout}
-use Rattle.block_format.specs.PrintLaws.{header-print, layout-print, no-layout-print, Suits, located, sixes-still, fields-are, nines-still, fields-still, sixes-texts, nines-texts}
+use Rattle.block_format.proofs.PrintLaws.{header-print, layout-print, no-layout-print, Suits, located, sixes-still, fields-are, nines-still, fields-still, sixes-texts, nines-texts}
 use Rattle.block_format.specs.Fields.{unless, limit_of, end_of, ts_out_of, fields_of}
 use Rattle.block_format.specs.Read.{sixes, nines, over, Promise}
-use Rattle.block_format.specs.ReadLaws.{held}
+use Rattle.block_format.proofs.ReadLaws.{held}
 use Rattle.metadata_lengths.specs.declared.MetadataLengths.{MetadataLengths}
 use Rattle.block_format.specs.declared.Fields.{Fields}
 use Rattle.block_format.specs.declared.Optional.{Optional}

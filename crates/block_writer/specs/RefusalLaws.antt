@@ -15,7 +15,7 @@ use Rattle.rows_check.specs.Check.{row_numbers, fault}
 use Rattle.rows_check.specs.RefusalLaws.{check_fault}
 use Rattle.block_format.specs.Block.{block_of}
 use Rattle.block_format.specs.Read.{block_numbers}
-use Rattle.block_format.specs.RefusalLaws.{block_gives}
+use Rattle.block_format.proofs.RefusalLaws.{block_gives}
 use Rattle.writer.specs.Write.{out_after}
 use Rattle.writer.specs.RoundTripLaws.{out-refused}
 use Rattle.writer.specs.RefusalLaws.{Placeless, judged-refuses, room-refuses}

@@ -6,7 +6,7 @@ use Rattle.refusal.specs.declared.Refusal.{Refusal}
 use Rattle.codec.specs.Refusals.{In}
 use Rattle.codec.proofs.RefusalLaws.{in_more}
 use Rattle.block_format.specs.Read.{block_numbers, block_answer, block_number}
-use Rattle.block_format.specs.RefusalLaws.{answer-refuses}
+use Rattle.block_format.proofs.RefusalLaws.{answer-refuses}
 use Rattle.block_format.specs.declared.BlockAnswer.{BlockAnswer}
 use Rattle.block_format.specs.declared.BlockAnswer.TheVariants as BlockAnswer'
 use Rattle.feed.specs.Feeding.{stage_of, held_after, store_after, answer_at, answer_number, feed_numbers}

@@ -16,7 +16,7 @@ use Rattle.metadata_lengths.specs.Lengths.{lengths}
 use Rattle.block_format.specs.Block.{Block, block_of}
 use Rattle.block_format.specs.Fields.{fields_of}
 use Rattle.block_format.specs.Read.{sixes, nines, over, block_answer, block_symbology, block_layout, Promise}
-use Rattle.block_format.specs.ReadLaws.{held}
+use Rattle.block_format.proofs.ReadLaws.{held}
 use Rattle.block_format.specs.declared.BlockAnswer.{BlockAnswer}
 use Rattle.block_format.specs.declared.BlockAnswer.TheVariants.{Read}
 use Rattle.demands.specs.LayoutRows.{move_row}

@@ -26,7 +26,7 @@ use Rattle.symbology_format.specs.Symbology.{Symbology, symbology}
 use Rattle.symbology_format.specs.SymbologyRows.{symbology_rows}
 use Rattle.table.specs.EachLaws.{Each, RowInside}
 use Rattle.layout.specs.SpanLaws.{read-lies}
-use Rattle.block_format.specs.SpanLaws.{block-whole}
+use Rattle.block_format.proofs.SpanLaws.{block-whole}
 use Rattle.metadata_lengths.specs.Lengths.{v4, lengths}
 use Rattle.block_format.specs.Block.{Header, Block, header, width_of, layout_part, symbology_part, block, block_of}
 use Rattle.block_format.specs.Read.{sixes, nines}

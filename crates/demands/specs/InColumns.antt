@@ -6,7 +6,7 @@ use Rattle.table.specs.Columns.{cell}
 use Rattle.table.proofs.ColumnLaws.{columns-length, cell_row, cell-kept, after_kept}
 use Rattle.block_format.specs.Block.{Block, block_of}
 use Rattle.block_format.specs.Read.{sixes, nines, Promise}
-use Rattle.block_format.specs.ReadLaws.{held}
+use Rattle.block_format.proofs.ReadLaws.{held}
 use Rattle.block_format.specs.declared.BlockAnswer.{BlockAnswer}
 
 -- the table s' has the rows rs, and else what s had

@@ -26,7 +26,7 @@ use Rattle.held.specs.declared.Holding.{Holding}
 use Rattle.held.specs.declared.Holding.TheVariants.{Needs, Refused, Whole}
 use Rattle.block_format.specs.Block.{Block, block_of}
 use Rattle.block_format.specs.Read.{sixes, nines, roomy, body_numbers, symbology_after, layout_after, block_answer, block_symbology, block_layout}
-use Rattle.block_format.specs.RefusalLaws.{answer-body}
+use Rattle.block_format.proofs.RefusalLaws.{answer-body}
 use Rattle.block_format.specs.declared.BlockAnswer.{BlockAnswer}
 use Rattle.feed.specs.Feeding.{announced, start, stage_of, block_in, block_says, answer_at, symbology_at, layout_at, taken_of, held_after, store_after}
 use Rattle.feed.proofs.StageLaws.{start-law, whole-prelude}

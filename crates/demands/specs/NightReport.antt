@@ -15,7 +15,7 @@ use Rattle.held.proofs.StreamLaws.{finds_first}
 use Rattle.held.specs.declared.Holding.{Holding}
 use Rattle.held.specs.declared.Holding.TheVariants.{Needs, Refused, Whole}
 use Rattle.block_format.specs.Read.{block_numbers, block_answer}
-use Rattle.block_format.specs.RefusalLaws.{answer-refuses}
+use Rattle.block_format.proofs.RefusalLaws.{answer-refuses}
 use Rattle.block_format.specs.declared.BlockAnswer.{BlockAnswer}
 use Rattle.feed.specs.Feeding.{start, block_in}
 use Rattle.feed.proofs.StageLaws.{start-law}

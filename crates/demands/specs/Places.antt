@@ -17,7 +17,7 @@ use Rattle.rules.specs.Rules.{ruled_of}
 use Rattle.given_layout.specs.Ruled.{Ruled}
 use Rattle.given_layout.specs.RuledLaws.{ruled-layout-within}
 use Rattle.block_format.specs.Read.{Promise}
-use Rattle.block_format.specs.RefusalLaws.{answer-within, refused_anyway}
+use Rattle.block_format.proofs.RefusalLaws.{answer-within, refused_anyway}
 use Rattle.block_format.specs.declared.BlockAnswer.{BlockAnswer}
 use Rattle.block_format.specs.declared.BlockAnswer.TheVariants as BlockAnswer'
 use Rattle.feed.specs.Feeding.{Feeding}

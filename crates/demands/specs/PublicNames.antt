@@ -29,9 +29,9 @@ use Rattle.rows_check.specs.TreeLaws.{tree-rows, tree-flat}
 use Rattle.rows_check.specs.SpanLaws.{rows_in_lie}
 use Rattle.block_format.specs.Block.{Block, block_of}
 use Rattle.block_format.specs.Read.{sixes, nines, over}
-use Rattle.block_format.specs.ReadLaws.{Held}
+use Rattle.block_format.proofs.ReadLaws.{Held}
 use Rattle.block_format.specs.declared.BlockAnswer.{BlockAnswer}
-use Rattle.block_format.specs.SpanLaws.{sixes_lie}
+use Rattle.block_format.proofs.SpanLaws.{sixes_lie}
 use Rattle.demands.specs.LayoutRows.{move_row, move_kind, move_length, move_start}
 use Rattle.demands.specs.Edited.{layout_in, nines_lie}
 

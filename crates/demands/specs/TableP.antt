@@ -26,9 +26,9 @@ use Rattle.given_layout.specs.RuledLaws
 use Rattle.given_layout.specs.Single.{read-layout_single}
 use Rattle.block_format.specs.Block.{block_of}
 use Rattle.block_format.specs.Read.{Promise}
-use Rattle.block_format.specs.ReadLaws.{given, read-given, refused-given}
+use Rattle.block_format.proofs.ReadLaws.{given, read-given, refused-given}
 use Rattle.block.specs.Single.{read-block_single}
-use Rattle.block_format.specs.Examples.{listed, zero_fields, P10, P11}
+use Rattle.block_format.proofs.Examples.{listed, zero_fields, P10, P11}
 use Rattle.block_format.specs.declared.Fields.{Fields}
 use Rattle.block_format.specs.declared.BlockAnswer.{BlockAnswer}
 use Rattle.block_format.specs.declared.BlockAnswer.TheVariants.{Read}

@@ -27,10 +27,10 @@ use Rattle.metadata_lengths.specs.Lengths.{lengths}
 use Rattle.block_format.specs.Block.{Block, header, layout_part, symbology_part, block, block_of}
 use Rattle.block_format.specs.Fields.{fields_with, fields_of}
 use Rattle.block_format.specs.Read.{Promise}
-use Rattle.block_format.specs.ReadLaws.{gist, given, read-given}
+use Rattle.block_format.proofs.ReadLaws.{gist, given, read-given}
 use Rattle.block_format.specs.declared.BlockAnswer.TheVariants.{Read}
 use Rattle.table.proofs.ColumnLaws.{columns-none}
-use Rattle.block_format.specs.Examples.{zero_fields}
+use Rattle.block_format.proofs.Examples.{zero_fields}
 use Rattle.block_format.specs.declared.Fields.{Fields}
 use Rattle.block_format.specs.declared.Optional.TheVariants.{Absent, Present}
 use Rattle.feed.proofs.Examples.{Gives, fed_done}

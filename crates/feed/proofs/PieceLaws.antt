@@ -8,7 +8,7 @@ use Rattle.held.proofs.PieceLaws as pieces
 use Rattle.feed.specs.Feeding.{start, stage_of, taken_of, block_says, block_in, answer_at, symbology_at, layout_at, Judgement, Feeding}
 use Rattle.feed.proofs.StageLaws.{start-law}
 use Rattle.feed.specs.Single.{Same, one_feed}
-use Rattle.block_format.specs.ReadLaws.{again}
+use Rattle.block_format.proofs.ReadLaws.{again}
 use Rattle.feed.specs.declared.Answer.{Answer}
 use Rattle.feed.specs.declared.Fed.{Fed}
 use Rattle.held.specs.declared.Holding.{Holding}

@@ -12,7 +12,7 @@ use Rattle.prelude.proofs.RefusalLaws.{prelude-refuses, prelude-place}
 use Rattle.prelude.specs.declared.Stage.{Stage}
 use Rattle.prelude.specs.declared.Stage.TheVariants.{Needs, Refused, Whole}
 use Rattle.block_format.specs.Read.{block_numbers, block_answer}
-use Rattle.block_format.specs.RefusalLaws.{answer-refuses, answer-within, refused_anyway}
+use Rattle.block_format.proofs.RefusalLaws.{answer-refuses, answer-within, refused_anyway}
 use Rattle.block_format.specs.declared.BlockAnswer.{BlockAnswer}
 use Rattle.block_format.specs.declared.BlockAnswer.TheVariants as BlockAnswer'
 use Rattle.feed.specs.Feeding.{announced, start, stage_of, block_in, block_says, answer_at, feed_numbers, Feeding}

@@ -11,7 +11,7 @@ use Rattle.prelude.proofs.RefusalLaws.{prelude-refuses}
 use Rattle.prelude.specs.declared.Stage.{Stage}
 use Rattle.prelude.specs.declared.Stage.TheVariants as Stage'
 use Rattle.block_format.specs.Read.{block_numbers, block_answer}
-use Rattle.block_format.specs.RefusalLaws.{answer-refuses}
+use Rattle.block_format.proofs.RefusalLaws.{answer-refuses}
 use Rattle.block_format.specs.declared.BlockAnswer.{BlockAnswer}
 use Rattle.block_format.specs.declared.BlockAnswer.TheVariants as BlockAnswer'
 use Rattle.held.proofs.StageLaws.{by-bound, bounded_beyond, bounded-rest, bounded-whole}

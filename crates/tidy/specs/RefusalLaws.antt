@@ -9,7 +9,7 @@ use Rattle.layout.specs.Layout.{Fields, Label, Layout}
 use Rattle.layout.specs.LayoutOf.{entry, label, record_l, struct_l, label_def}
 use Rattle.layout.specs.NameCountLaws.{AllOf}
 use Rattle.rules.specs.Rules.{ruled_numbers, ruled_of}
-use Rattle.rules.specs.RefusalLaws.{ruled_gives}
+use Rattle.rules.proofs.RefusalLaws.{ruled_gives}
 use Rattle.tidy.specs.declared.Tidy.TheVariants.{Refused}
 use Rattle.tidy.specs.Tidy.{leftover, nonzero, each_from, in_entry, in_fields, in_labels, in_record, in_struct, in_label_def, structs_at, labels_at, untidy, first_of, told, tidy_of, untidy_numbers, tidy_numbers}
 

@@ -17,7 +17,7 @@ use Rattle.layout.specs.Answers.{wire_numbers}
 use Rattle.layout.specs.RefusalLaws.{parts-numbers}
 use Rattle.symbology_format.specs.Contents.{contents_numbers, symbology-numbers}
 use Rattle.item_rules.specs.Rules.{rule_numbers}
-use Rattle.rules.specs.RefusalLaws.{rules_fault}
+use Rattle.rules.proofs.RefusalLaws.{rules_fault}
 use Rattle.metadata_lengths.specs.Lengths.{lengths}
 use Rattle.block_format.specs.Block.{Block, header, layout_part, symbology_part, block, block_of}
 use Rattle.block_format.specs.Fields.{fields_of}

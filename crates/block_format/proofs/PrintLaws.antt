@@ -26,7 +26,7 @@ use Rattle.layout.specs.PartsLaws.{printed-parts, located-parts, rows-still}
 use Rattle.block_format.specs.Block.{Header, Block, header, width_of, no_items, layout_part, symbology_part, block}
 use Rattle.block_format.specs.Fields.{schema_of, stype_in_of, limit_of, end_of, ts_out_of, fields_with, fields_of}
 use Rattle.block_format.specs.Read.{sixes, nines}
-use Rattle.block_format.specs.SpanLaws.{symbology-each}
+use Rattle.block_format.proofs.SpanLaws.{symbology-each}
 use Rattle.metadata_lengths.specs.declared.MetadataLengths.{MetadataLengths}
 
 -- ---- what is printed

@@ -14,7 +14,7 @@ use Rattle.symbology_format.proofs.NameLaws.{NamedIn, Stands, name-stands, symbo
 use Rattle.metadata_lengths.specs.Lengths.{lengths}
 use Rattle.block_format.specs.Block.{Block, header, width_of, block, block_of}
 use Rattle.block_format.specs.Read.{sixes}
-use Rattle.block_format.specs.SpanLaws.{symbology-legal, symbology-each, block-whole}
+use Rattle.block_format.proofs.SpanLaws.{symbology-legal, symbology-each, block-whole}
 use Rattle.metadata_lengths.specs.declared.MetadataLengths.{MetadataLengths}
 
 -- the dataset of a legal block has the version's length and only NULs after a NUL

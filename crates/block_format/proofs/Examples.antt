@@ -8,7 +8,7 @@ use Rattle.layout.specs.Rows.{rows}
 use Rattle.metadata_lengths.specs.Lengths.{lengths}
 use Rattle.block_format.specs.Block.{header, layout_part, symbology_part, block, block_of}
 use Rattle.block_format.specs.Fields.{fields_with, fields_of}
-use Rattle.block_format.specs.ReadLaws.{given}
+use Rattle.block_format.proofs.ReadLaws.{given}
 use Rattle.block_format.specs.declared.Fields.{Fields}
 use Rattle.block_format.specs.declared.Optional.TheVariants.{Absent, Present}
 
