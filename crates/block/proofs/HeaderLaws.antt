@@ -9,7 +9,7 @@ use lib.ListN.{length, get_or, take, drop}
 use Rattle.codec.specs.Codec.{Res, ok, refuse, refusal, ◌>>=◌, need, raw, skip, num, value, ◌then◌, named, checked, fault_of}
 use Rattle.refusal.specs.declared.Refusal.{Refusal}
 use Rattle.codec.specs.CaseLaws.{by_bool}
-use Rattle.codec.specs.StepLaws.{raw_got, num_got, byte_got}
+use Rattle.codec.proofs.StepLaws.{raw_got, num_got, byte_got}
 use Rattle.text.specs.Utf8.{utf8}
 use Rattle.padded.specs.Padded.{nul_padded}
 use Rattle.padded.specs.PaddedAnswer.{padded_of}

@@ -14,10 +14,10 @@ use Rattle.refusal.specs.declared.Refusal.{Refusal}
 use Rattle.refusal.specs.Places.{has_place}
 use Rattle.codec.specs.CaseLaws.{by_bool, by_le, no_true}
 use Rattle.codec.specs.Refusals.{In, all_pass}
-use Rattle.codec.specs.RefusalLaws.{gives_is, in_pass}
+use Rattle.codec.proofs.RefusalLaws.{gives_is, in_pass}
 use Rattle.codec.specs.Codec.{Res, ok, refuse, refusal, shifted, ◌>>=◌, need, Codec, raw, num, value, sized, named, checked, judged, whole, boxed, is_nil, full, remainder}
-use Rattle.codec.specs.Laws.{bind_ok, need-ok}
-use Rattle.codec.specs.StepLaws.{raw_got, raw-bad, num_got, num-bad}
+use Rattle.codec.proofs.Laws.{bind_ok, need-ok}
+use Rattle.codec.proofs.StepLaws.{raw_got, raw-bad, num_got, num-bad}
 use Rattle.text.specs.Utf8.{utf8}
 use Rattle.wire.specs.Reader.{all_tests}
 use Rattle.padded.specs.Padded.{nul_padded}
@@ -37,7 +37,7 @@ use Rattle.symbology.specs.declared.SectionAnswer.{SectionAnswer}
 use Rattle.symbology.specs.declared.SectionAnswer.TheVariants as SectionAnswer'
 use Rattle.item_rules.specs.Rules.{rule_numbers}
 use Rattle.rules.specs.Rules.{rules_of, ruled_of}
-use Rattle.rules.specs.RefusalLaws.{ruled_either}
+use Rattle.rules.proofs.RefusalLaws.{ruled_either}
 use Rattle.rules.specs.RuleLaws.{ruled-is}
 use Rattle.block_format.specs.Block.{no_items, layout_part, symbology_part}
 use Rattle.block.specs.Parts.{in_block, span_of, span_at, SpanInside, within, outside, section_at, layout_table, LayoutReads, lays, lays-no, SymbologyReads}

@@ -4,7 +4,7 @@ use Rattle.std.specs.Prelude.{ℕ, zero, suc, ◌≡◌, refl, Bool, true, false
 use Rattle.std.proofs.Common.{ap}
 use Rattle.codec.specs.Codec
 use Rattle.codec.specs.Codec.{Res, ◌>>=◌, need, whole, is_nil}
-use Rattle.codec.specs.Format.{Format, raw, num, skip, raw_tests, num_test, ◌then◌, on, named, checked, judged, sized, apart, spanned, remainder}
+use Rattle.codec.proofs.Format.{Format, raw, num, skip, raw_tests, num_test, ◌then◌, on, named, checked, judged, sized, apart, spanned, remainder}
 use Rattle.text.specs.Utf8.{utf8}
 use Rattle.wire.specs.Reader.{all_tests}
 use Rattle.padded.specs.Padded.{nul_padded}

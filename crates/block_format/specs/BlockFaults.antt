@@ -3,8 +3,9 @@
 use Rattle.std.specs.Prelude.{ℕ, ◌+◌, ◌^◌, ◌<◌, ◌≡◌, refl, Bool, true, false, cond, List, [], length, leb, eqb}
 use Rattle.std.proofs.Common.{zero-add, arith, ap, subst, append-nil, length-append, le-leb, leb-true}
 use Rattle.codec.specs.Codec.{ok, Bytes, raw, skip, num, ◌then◌, ◌on◌, named, checked, judged, sized, whole, boxed, is_nil, full, remainder}
-use Rattle.codec.specs.Laws.{law-raw, law-skip, law-num, length-little, unmoved}
-use Rattle.codec.specs.Faults.{Told, Faults, unless, first, first-end, unless-zero, need-told, bind_told, when_told, faults_none, faults_as, faults_then, faults_on, faults_named, faults_checked, faults_judged, faults_sized, faults_boxed, faults_remainder, faults_raw_tests, faults_num_test, faults_spanned, whole-told}
+use Rattle.codec.proofs.Laws.{law-raw, law-skip, law-num, length-little, unmoved}
+use Rattle.codec.specs.Faults.{unless, first, first-end, unless-zero}
+use Rattle.codec.proofs.FaultLaws.{Told, Faults, need-told, bind_told, when_told, faults_none, faults_as, faults_then, faults_on, faults_named, faults_checked, faults_judged, faults_sized, faults_boxed, faults_remainder, faults_raw_tests, faults_num_test, faults_spanned, whole-told}
 use Rattle.text.specs.Utf8.{utf8}
 use Rattle.padded.specs.Padded.{nul_padded}
 use Rattle.wire.specs.Reader.{all_tests}
@@ -14,7 +15,8 @@ use Rattle.layout.specs.Layout.{Layout, parts, from_layout, print_layout, LegalL
 use Rattle.layout.specs.LayoutOf.{D}
 use Rattle.layout.specs.LayoutLaws.{parts-some, legal-parts, print-parts}
 use Rattle.symbology_format.specs.Symbology.{Symbology, symbology, unspanned}
-use Rattle.symbology_format.specs.SymbologyFaults.{SizedSymbology, symbology_fault, faults_symbology}
+use Rattle.symbology_format.specs.SymbologyFaults.{SizedSymbology, symbology_fault}
+use Rattle.symbology_format.proofs.SymbologyFaultLaws.{faults_symbology}
 use Rattle.rules.specs.Rules.{rules_of}
 use Rattle.metadata_lengths.specs.Lengths.{v1, v2, v4, lengths}
 use Rattle.block_format.specs.Block.{Header, Block, is_schema, is_stype, is_stype_in, header, width_of, header-width, layout_box, layout_blind, layout_part, symbology_part, body, block, block_of}

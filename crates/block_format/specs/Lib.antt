@@ -1,11 +1,5 @@
 pub mod Block
 pub mod Fields
 pub mod Read
-pub mod ReadLaws
-pub mod RefusalLaws
-pub mod Examples
-pub mod SpanLaws
-pub mod NameLaws
 pub mod BlockFaults
 pub mod LengthsLaws
-pub mod PrintLaws

@@ -13,15 +13,15 @@ use Rattle.std.proofs.Math.Dec.{leb, eqb}
 use borrow.Author.Tests.{leb-true, ltb-true, eqb-true, le-leb, eq-eqb, ne_eqb}
 use Rattle.codec.specs.Codec.{ok, refusal, little, is_nil, Bytes, fault_of}
 use Rattle.codec.specs.CaseLaws.{no_true, both_true, by_bool}
-use Rattle.codec.specs.Laws.{length-little}
+use Rattle.codec.proofs.Laws.{length-little}
 use Rattle.codec.specs.Faults as Faults
 use Rattle.codec.specs.Faults.{first-zero, unless-zero}
 use Rattle.text.specs.Trim.{trimmed_len}
 use Rattle.prelude.specs.Prelude.{is_version, prelude_of}
-use Rattle.prelude.specs.PrintLaws.{prelude-print, prelude-back}
+use Rattle.prelude.proofs.PrintLaws.{prelude-print, prelude-back}
 use Rattle.prelude.specs.declared.Stage.TheVariants.{Whole}
 use Rattle.table.specs.Columns.{columns}
-use Rattle.table.specs.TableLaws.{flat-length}
+use Rattle.table.proofs.TableLaws.{flat-length}
 use Rattle.wire.specs.Reader.{all_tests}
 use Rattle.layout.specs.Layout.{Layout, print_layout, LegalLayout, EachName}
 use Rattle.layout.specs.LayoutOf.{D}
@@ -36,16 +36,16 @@ use Rattle.rows_check.specs.CheckLaws.{Formed}
 use Rattle.rows_check.specs.LegalLaws.{sound}
 use Rattle.rows_check.specs.TreeLaws.{tree-rows, tree-flat, tree-version}
 use Rattle.rows_check.specs.NameLaws.{tree-each}
-use Rattle.symbology_format.specs.PrintLaws.{name_in, no_start6}
-use Rattle.symbology_format.specs.NameLaws.{Stands}
+use Rattle.symbology_format.proofs.PrintLaws.{name_in, no_start6}
+use Rattle.symbology_format.proofs.NameLaws.{Stands}
 use Rattle.metadata_lengths.specs.Lengths.{lengths}
 use Rattle.block_format.specs.Block.{Block, header, layout_part, symbology_part, block_of}
 use Rattle.block_format.specs.BlockFaults.{LegalPart, layout_bytes, symbology_bytes, header_fault, layout_fault, header-length, block-told}
 use Rattle.block_format.specs.LengthsLaws.{lengths-layout}
-use Rattle.block_format.specs.PrintLaws.{header-print, layout-print, no-layout-print, Suits, located, sixes-still, fields-are, nines-still, fields-still, sixes-texts, nines-texts}
+use Rattle.block_format.proofs.PrintLaws.{header-print, layout-print, no-layout-print, Suits, located, sixes-still, fields-are, nines-still, fields-still, sixes-texts, nines-texts}
 use Rattle.block_format.specs.Fields.{unless, limit_of, end_of, ts_out_of, fields_of}
 use Rattle.block_format.specs.Read.{sixes, nines, over, Promise}
-use Rattle.block_format.specs.ReadLaws.{held}
+use Rattle.block_format.proofs.ReadLaws.{held}
 use Rattle.metadata_lengths.specs.declared.MetadataLengths.{MetadataLengths}
 use Rattle.block_format.specs.declared.Fields.{Fields}
 use Rattle.block_format.specs.declared.Optional.{Optional}

@@ -10,7 +10,7 @@ use Rattle.std.proofs.Math.Seq.{length-take-le}
 use borrow.Author.Tests.{leb-true, ltb-true, eqb-true, ne_eqb}
 use Rattle.codec.specs.Codec.{little, is_nil, Bytes}
 use Rattle.codec.specs.CaseLaws.{both_true, by_bool}
-use Rattle.codec.specs.Laws.{length-little, bytes_take, bytes_drop}
+use Rattle.codec.proofs.Laws.{length-little, bytes_take, bytes_drop}
 use Rattle.codec.specs.Faults.{unless, first}
 use Rattle.text.specs.Utf8.{utf8}
 use Rattle.text.specs.Trim.{trimmed_len}
@@ -31,7 +31,7 @@ use Rattle.metadata_lengths.specs.Lengths.{lengths}
 use Rattle.block_format.specs.Block.{width_of, header, layout_part, symbology_part}
 use Rattle.block_format.specs.BlockFaults.{SizedHeader, LegalPart, layout_bytes, SizedLayout, symbology_bytes, ShapedBlock, header_fault, layout_fault, block-length, block-told}
 use Rattle.block_format.specs.LengthsLaws.{lengths-width, whole-fault}
-use Rattle.block_format.specs.PrintLaws.{block-print}
+use Rattle.block_format.proofs.PrintLaws.{block-print}
 use Rattle.columns_check.specs.Tree.{symbology_of}
 use Rattle.columns_check.specs.Check.{well_formed, narrow}
 use Rattle.columns_check.specs.FilledLaws.{nuls-bytes, filled-length, filled-bytes}

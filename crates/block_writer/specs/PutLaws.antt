@@ -7,7 +7,7 @@ use Rattle.std.proofs.Math.Bool.{true, false}
 use Rattle.codec.specs.CaseLaws.{both_true, by_le, by_order}
 use Rattle.codec.specs.Codec.{little, is_nil}
 use Rattle.codec.specs.Faults.{unless-zero}
-use Rattle.prelude.specs.PrintLaws.{prelude-print}
+use Rattle.prelude.proofs.PrintLaws.{prelude-print}
 use Rattle.symbology_format.specs.Symbology.{Symbology}
 use Rattle.rows_check.specs.Check.{fault, printed}
 use Rattle.rows_check.specs.SectionLaws.{printed-is}
@@ -20,7 +20,7 @@ use Rattle.put.specs.OutputLaws.{Left, left-start, left_stored, left-rest, lent_
 use Rattle.metadata_lengths.specs.Lengths.{lengths}
 use Rattle.block_format.specs.Block.{header, layout_part, symbology_part}
 use Rattle.block_format.specs.BlockFaults.{symbology_bytes}
-use Rattle.block_format.specs.PrintLaws.{layout-print, no-layout-print, names-print, rest-names-print}
+use Rattle.block_format.proofs.PrintLaws.{layout-print, no-layout-print, names-print, rest-names-print}
 use Rattle.columns_check.specs.Tree.{kind_of, symbol_rows, partial_rows, list_rows, symbology_of}
 use Rattle.columns_check.specs.Check.{well_formed, narrow}
 use Rattle.columns_check.specs.RowLaws.{Placed, done, mapping, interval, run-kind, lists-le}

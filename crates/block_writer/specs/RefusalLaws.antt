@@ -8,14 +8,14 @@ use Rattle.std.proofs.Math.ListN.{length}
 use Rattle.refusal.specs.declared.Refusal.{Refusal}
 use Rattle.codec.specs.Codec.{Res, ok, refuse, refusal, fault_of}
 use Rattle.codec.specs.Refusals.{Gives, In, Fault}
-use Rattle.codec.specs.RefusalLaws.{in_more, gives_more, fault-by}
+use Rattle.codec.proofs.RefusalLaws.{in_more, gives_more, fault-by}
 use Rattle.codec.specs.Faults.{unless, first}
 use Rattle.prelude.specs.Prelude.{is_version}
 use Rattle.rows_check.specs.Check.{row_numbers, fault}
 use Rattle.rows_check.specs.RefusalLaws.{check_fault}
 use Rattle.block_format.specs.Block.{block_of}
 use Rattle.block_format.specs.Read.{block_numbers}
-use Rattle.block_format.specs.RefusalLaws.{block_gives}
+use Rattle.block_format.proofs.RefusalLaws.{block_gives}
 use Rattle.writer.specs.Write.{out_after}
 use Rattle.writer.specs.RoundTripLaws.{out-refused}
 use Rattle.writer.specs.RefusalLaws.{Placeless, judged-refuses, room-refuses}

@@ -9,7 +9,7 @@ use Rattle.numbers.specs.RefusalLaws.{num-refuses}
 use Rattle.numbers.specs.declared.Got.{Got}
 use Rattle.numbers.specs.declared.Got.TheVariants.{Value, Refused}
 use Rattle.wire.specs.Reader.{all_tests, name_at, name_numbers}
-use Rattle.wire.specs.RefusalLaws.{name-refuses}
+use Rattle.wire.proofs.RefusalLaws.{name-refuses}
 use Rattle.byte_reader.specs.Reader.{Stepped, LabelIs}
 use Rattle.byte_reader.specs.declared.ByteReader.{ByteReader}
 use Rattle.byte_reader.specs.declared.Label.{Label}

@@ -4,10 +4,10 @@ use Rattle.std.specs.Prelude.{ℕ, ◌≡◌, refl, List, ◌∷◌}
 use Rattle.std.proofs.Common.{sym, subst}
 use Rattle.refusal.specs.declared.Refusal.{Refusal}
 use Rattle.codec.specs.Refusals.{In}
-use Rattle.codec.specs.RefusalLaws.{in_more}
+use Rattle.codec.proofs.RefusalLaws.{in_more}
 use Rattle.c_texts.specs.Single.{one}
 use Rattle.frames.specs.Frames.{answer_number, frame_numbers}
-use Rattle.frames.specs.RefusalLaws.{answer-refused}
+use Rattle.frames.proofs.RefusalLaws.{answer-refused}
 use Rattle.frames.specs.declared.Answer.{Answer}
 use Rattle.frames.specs.declared.Answer.TheVariants as Answer'
 use Rattle.c_frames.specs.Numbers.{framed_answer, FrameC}

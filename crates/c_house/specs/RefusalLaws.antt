@@ -3,7 +3,7 @@ use Rattle.std.specs.Prelude.{ℕ, ◌≡◌, refl, List, ◌∷◌, length}
 use Rattle.std.proofs.Common.{sym, subst}
 use Rattle.refusal.specs.declared.Refusal.{Refusal}
 use Rattle.codec.specs.Refusals.{In}
-use Rattle.codec.specs.RefusalLaws.{in_more}
+use Rattle.codec.proofs.RefusalLaws.{in_more}
 use Rattle.house_file.specs.House.{blocks_of, store_in}
 use Rattle.house.specs.Start.{stored_in}
 use Rattle.house.specs.RefusalLaws.{store_numbers, load_numbers, stored_refuses, load_in}

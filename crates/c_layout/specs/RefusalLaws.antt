@@ -4,7 +4,7 @@ use Rattle.std.specs.Prelude.{ℕ, ◌/◌, ◌≡◌, refl, List, ◌∷◌, le
 use Rattle.std.proofs.Common.{sym, subst}
 use Rattle.refusal.specs.declared.Refusal.{Refusal}
 use Rattle.codec.specs.Refusals.{In}
-use Rattle.codec.specs.RefusalLaws.{in_more, gives_is}
+use Rattle.codec.proofs.RefusalLaws.{in_more, gives_is}
 use Rattle.layout.specs.Answers.{verdict, judge, layout_number, verdict_number}
 use Rattle.layout.specs.RefusalLaws.{judge-refused}
 use Rattle.layout.specs.declared.Answer.{Answer}
@@ -12,7 +12,7 @@ use Rattle.layout.specs.declared.Answer.TheVariants as Answer'
 use Rattle.layout.specs.declared.Verdict.{Verdict}
 use Rattle.layout.specs.declared.Verdict.TheVariants as Verdict'
 use Rattle.rules.specs.Rules.{ruled_numbers, ruled_of}
-use Rattle.rules.specs.RefusalLaws.{ruled_gives, ruled-refuses}
+use Rattle.rules.proofs.RefusalLaws.{ruled_gives, ruled-refuses}
 use Rattle.writer.specs.Write.{write_numbers, write_layout, written_number}
 use Rattle.writer.specs.RefusalLaws.{answer-refuses}
 use Rattle.writer.specs.declared.Written.{Written}

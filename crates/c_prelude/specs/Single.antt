@@ -3,9 +3,9 @@
 use Rattle.std.specs.Prelude.{ℕ, ◌≡◌, refl, List, ◌∷◌}
 use Rattle.std.proofs.Common.{sym, subst, ◌∙◌}
 use Rattle.codec.specs.Refusals.{In}
-use Rattle.codec.specs.RefusalLaws.{in_more}
+use Rattle.codec.proofs.RefusalLaws.{in_more}
 use Rattle.prelude.specs.Prelude.{prelude_numbers, prelude_of, stage_number}
-use Rattle.prelude.specs.RefusalLaws.{prelude-refuses}
+use Rattle.prelude.proofs.RefusalLaws.{prelude-refuses}
 use Rattle.prelude.specs.declared.Stage.{Stage}
 use Rattle.prelude.specs.declared.Stage.TheVariants.{Needs, Refused, Whole}
 use Rattle.c_prelude.specs.Numbers.{prelude_out}

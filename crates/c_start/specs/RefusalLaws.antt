@@ -4,13 +4,13 @@ use Rattle.std.specs.Prelude.{ℕ, ◌≡◌, refl, List, ◌∷◌}
 use Rattle.std.proofs.Common.{sym, subst}
 use Rattle.refusal.specs.declared.Refusal.{Refusal}
 use Rattle.codec.specs.Refusals.{In}
-use Rattle.codec.specs.RefusalLaws.{in_more}
+use Rattle.codec.proofs.RefusalLaws.{in_more}
 use Rattle.block_format.specs.Read.{block_numbers, block_answer, block_number}
-use Rattle.block_format.specs.RefusalLaws.{answer-refuses}
+use Rattle.block_format.proofs.RefusalLaws.{answer-refuses}
 use Rattle.block_format.specs.declared.BlockAnswer.{BlockAnswer}
 use Rattle.block_format.specs.declared.BlockAnswer.TheVariants as BlockAnswer'
 use Rattle.feed.specs.Feeding.{stage_of, held_after, store_after, answer_at, answer_number, feed_numbers}
-use Rattle.feed.specs.RefusalLaws.{answer-refused}
+use Rattle.feed.proofs.RefusalLaws.{answer-refused}
 use Rattle.feed.specs.declared.Answer.{Answer}
 use Rattle.feed.specs.declared.Answer.TheVariants as Answer'
 use Rattle.c_start.specs.Numbers.{BlockC, FeedC}

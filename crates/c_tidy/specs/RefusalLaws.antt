@@ -3,7 +3,7 @@ use Rattle.std.specs.Prelude.{ℕ, ◌≡◌, refl, List, ◌∷◌}
 use Rattle.std.proofs.Common.{sym, subst}
 use Rattle.refusal.specs.declared.Refusal.{Refusal}
 use Rattle.codec.specs.Refusals.{In}
-use Rattle.codec.specs.RefusalLaws.{in_more}
+use Rattle.codec.proofs.RefusalLaws.{in_more}
 use Rattle.tidy.specs.Tidy.{tidy_of, tidy_number, tidy_numbers}
 use Rattle.tidy.specs.RefusalLaws.{tidy_refuses}
 use Rattle.tidy.specs.declared.Tidy.{Tidy}

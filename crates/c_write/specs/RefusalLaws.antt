@@ -3,7 +3,7 @@ use Rattle.std.specs.Prelude.{ℕ, ◌≡◌, refl, List, ◌∷◌, length}
 use Rattle.std.proofs.Common.{sym, subst}
 use Rattle.refusal.specs.declared.Refusal.{Refusal}
 use Rattle.codec.specs.Refusals.{In}
-use Rattle.codec.specs.RefusalLaws.{in_more}
+use Rattle.codec.proofs.RefusalLaws.{in_more}
 use Rattle.writer.specs.Write.{written_number}
 use Rattle.writer.specs.declared.Written.{Written}
 use Rattle.writer.specs.declared.Written.TheVariants as Written'

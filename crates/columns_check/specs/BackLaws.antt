@@ -8,7 +8,7 @@ use Rattle.text.specs.Trim.{trimmed_len}
 use Rattle.table.specs.Table.{flat, From, ◌and_then◌, each_from}
 use Rattle.symbology_format.specs.SymbologyRows.{row6, symbol_row, list_row, interval_row, mapping_rows, symbology_rows}
 use Rattle.symbology_format.specs.SymbologyRows as S
-use Rattle.symbology_format.specs.PrintLaws.{list_texts, mapping_texts, symbol_texts, trimmed, no_start6}
+use Rattle.symbology_format.proofs.PrintLaws.{list_texts, mapping_texts, symbol_texts, trimmed, no_start6}
 use Rattle.symbology_format.specs.RowParts.{rows-parts}
 use Rattle.columns_check.specs.Tree.{kind_of, start_of, len_of, x_of, y_of, owner_of, text_of, filled, symbol_of, interval_of, symbols_from, intervals_from, mappings_from, run, symbol_rows, partial_rows, not_found_rows, symbology_of}
 use Rattle.columns_check.specs.Check.{well_formed}

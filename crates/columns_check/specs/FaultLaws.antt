@@ -16,7 +16,7 @@ use Rattle.text.specs.Utf8Laws.{utf8-padded}
 use Rattle.text.specs.Trim.{trimmed_len}
 use Rattle.text.specs.TrimLaws.{trimmed-le, padded-trimmed}
 use Rattle.padded.specs.Padded.{nul_padded}
-use Rattle.padded.specs.PaddedLaws.{trimmed-no_nul}
+use Rattle.padded.proofs.PaddedLaws.{trimmed-no_nul}
 use Rattle.dates.specs.Date.{is_date}
 use Rattle.dates.specs.DayLaws.{day-dated}
 use Rattle.symbology_format.specs.SymbologyFaults.{symbol_fault, list_fault, interval_fault, mapping_fault, symbology_fault}

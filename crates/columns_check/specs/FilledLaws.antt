@@ -4,7 +4,7 @@ use Rattle.std.proofs.Common.{arith, length-append}
 use Rattle.std.proofs.lemmas.List.{length-replicate}
 use Rattle.std.proofs.Math.Seq.{take-append_seam}
 use Rattle.codec.specs.Codec.{Bytes}
-use Rattle.codec.specs.Laws.{bytes-append}
+use Rattle.codec.proofs.Laws.{bytes-append}
 use Rattle.text.specs.Trim.{trimmed_len}
 use Rattle.text.specs.TrimLaws.{after_kept, zeros-trimmed, padded-trimmed}
 use Rattle.columns_check.specs.Tree.{filled}

@@ -4,7 +4,7 @@ use Rattle.std.specs.Prelude.{ℕ, suc, ◌+◌, ◌-◌, ◌/◌, ◌≤◌, �
 use Rattle.std.proofs.Common.{arith, ◌∙◌, length-drop, length-take-le, leb-true, eqb-true, ne_eqb}
 use Rattle.codec.specs.CaseLaws.{both_true}
 use Rattle.codec.specs.Codec.{Bytes}
-use Rattle.codec.specs.Laws.{bytes_take, bytes_drop}
+use Rattle.codec.proofs.Laws.{bytes_take, bytes_drop}
 use Rattle.text.specs.Trim.{trimmed_len}
 use Rattle.columns_check.specs.Tree.{kind_of, start_of, len_of, x_of, y_of, owner_of, text_of, filled, list_rows}
 use Rattle.columns_check.specs.Check.{every, numbers_fit, row_fits, well_formed, narrow}

@@ -2,7 +2,7 @@
 use Rattle.std.specs.Prelude.{ℕ, zero, suc, ◌+◌, ◌-◌, ◌*◌, ◌<◌, ◌≡◌, true, List, ◌++◌, length}
 use Rattle.std.proofs.Common.{mul-zero, mul-suc, mul-add, arith, sym, ap, ◌∙◌, length-append}
 use Rattle.codec.specs.Codec.{little}
-use Rattle.codec.specs.Laws.{length-little}
+use Rattle.codec.proofs.Laws.{length-little}
 use Rattle.text.specs.Utf8.{utf8}
 use Rattle.padded.specs.Padded.{nul_padded}
 use Rattle.dates.specs.Date.{is_date}

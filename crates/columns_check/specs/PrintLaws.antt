@@ -9,7 +9,7 @@ use Rattle.dates.specs.Date.{is_date}
 use Rattle.dates.specs.Day.{date_of_day}
 use Rattle.table.specs.Table.{flat}
 use Rattle.symbology_format.specs.Symbology.{symbology}
-use Rattle.symbology_format.specs.PrintLaws.{printed_interval, printed_mapping, printed_list, symbology-print}
+use Rattle.symbology_format.proofs.PrintLaws.{printed_interval, printed_mapping, printed_list, symbology-print}
 use Rattle.columns_check.specs.Tree.{kind_of, x_of, y_of, text_of, filled, symbol_of, interval_of, symbols_from, mappings_from, run, symbol_rows, partial_rows, not_found_rows, list_rows, symbology_of}
 use Rattle.columns_check.specs.Check.{well_formed}
 use Rattle.columns_check.specs.RowLaws.{Placed, symbols-count, run-kind}

@@ -28,7 +28,7 @@ use Rattle.writer.specs.Write.{out_after, Writes}
 use Rattle.writer.specs.RoundTripLaws.{Accepts, accepted, reads-back, out_written}
 use Rattle.writer.specs.declared.Written.TheVariants.{Length}
 use Rattle.feed.specs.Feeding.{Feeding}
-use Rattle.feed.specs.PieceLaws.{Lent, Handed, any_cutting, any_cutting_handed}
+use Rattle.feed.proofs.PieceLaws.{Lent, Handed, any_cutting, any_cutting_handed}
 use Rattle.feed.specs.Single.{Same}
 use Rattle.feed.specs.declared.Fed.{Fed}
 use Rattle.demands.specs.PublicNames.{LayoutNamed, names_same, ruled-named, formed-named}

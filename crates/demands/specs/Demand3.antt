@@ -8,7 +8,7 @@ use Rattle.std.proofs.Math.Path.{refl, sym, ap, ap₂, path_j}
 use Rattle.std.proofs.Math.ListN.{length, length-append}
 use borrow.Author.Tests.{le-leb}
 use Rattle.codec.specs.Codec.{ok, Bytes, raw, skip, num, named, checked, judged, whole, boxed, ◌then◌, ◌on◌}
-use Rattle.codec.specs.Laws.{whole-reads}
+use Rattle.codec.proofs.Laws.{whole-reads}
 use Rattle.codec.specs.Edits.{Marked, bytes_of, Edit, put}
 use Rattle.text.specs.Utf8.{utf8}
 use Rattle.wire.specs.Reader.{all_tests}

@@ -10,13 +10,13 @@ use Rattle.table.specs.Columns.{columns}
 use Rattle.layout.specs.ReadLaws.{rows-nine}
 use Rattle.symbology_format.specs.WidthLaws.{rows-of-six}
 use Rattle.names.specs.declared.Span.TheVariants.{Part}
-use Rattle.names.specs.NameLaws.{symbol-no_field, item-no_field}
+use Rattle.names.proofs.SpanLaws.{symbol-no_field, item-no_field}
 use Rattle.names.specs.Names.{symbol_text, item_text, symbology_span, layout_span, part_in}
 use Rattle.metadata_lengths.specs.Lengths.{lengths}
 use Rattle.block_format.specs.Block.{Block, block_of}
 use Rattle.block_format.specs.Fields.{fields_of}
 use Rattle.block_format.specs.Read.{sixes, nines, over, block_answer, block_symbology, block_layout, Promise}
-use Rattle.block_format.specs.ReadLaws.{held}
+use Rattle.block_format.proofs.ReadLaws.{held}
 use Rattle.block_format.specs.declared.BlockAnswer.{BlockAnswer}
 use Rattle.block_format.specs.declared.BlockAnswer.TheVariants.{Read}
 use Rattle.demands.specs.LayoutRows.{move_row}

@@ -9,9 +9,9 @@ use mathlib.Core.List.{List, [], ◌++◌, map, append-nil, append_assoc}
 use Rattle.std.proofs.Math.ListN.{length, take, drop}
 use Rattle.std.proofs.Math.Seq.{take_at, drop_at, take-append_seam}
 use Rattle.codec.specs.Codec.{ok, Bytes, Codec, value, raw, skip, little, num, named, checked, judged, boxed, full, ◌then◌, ◌on◌}
-use Rattle.codec.specs.Laws.{Law, Here, Whole, whole_back, left-part, part-take, length-little, value-little}
+use Rattle.codec.proofs.Laws.{Law, Here, Whole, whole_back, left-part, part-take, length-little, value-little}
 use Rattle.codec.specs.Edits.{Marked, kept, ◌and◌, bytes_of, Edit, put}
-use Rattle.codec.specs.EditLaws.{Inside, inside, put_all, put-kept, edits-kept, edits-then, edits-on, edits-named, edits-judged, edits-asks, edits-apart}
+use Rattle.codec.proofs.EditLaws.{Inside, inside, put_all, put-kept, edits-kept, edits-then, edits-on, edits-named, edits-judged, edits-asks, edits-apart}
 use Rattle.text.specs.Utf8.{utf8}
 use Rattle.wire.specs.Reader.{all_tests}
 use Rattle.padded.specs.Padded.{nul_padded}
@@ -21,12 +21,12 @@ use Rattle.layout.specs.Layout.{parts, to_layout, from_layout, print_layout, loc
 use Rattle.layout.specs.LayoutLaws.{parse-print, layout-octets}
 use Rattle.layout.specs.TextLaws.{row_text, texts, texts-bare, row-texts}
 use Rattle.layout.specs.Rows.{rows}
-use Rattle.symbology_format.specs.NameLaws.{Stands}
+use Rattle.symbology_format.proofs.NameLaws.{Stands}
 use Rattle.symbology_format.specs.Symbology.{Symbology, symbology}
 use Rattle.symbology_format.specs.SymbologyRows.{symbology_rows}
 use Rattle.table.specs.EachLaws.{Each, RowInside}
 use Rattle.layout.specs.SpanLaws.{read-lies}
-use Rattle.block_format.specs.SpanLaws.{block-whole}
+use Rattle.block_format.proofs.SpanLaws.{block-whole}
 use Rattle.metadata_lengths.specs.Lengths.{v4, lengths}
 use Rattle.block_format.specs.Block.{Header, Block, header, width_of, layout_part, symbology_part, block, block_of}
 use Rattle.block_format.specs.Read.{sixes, nines}

@@ -11,7 +11,7 @@ use Rattle.std.proofs.Math.Seq.{take-append_seam, drop-append_seam}
 use Rattle.std.proofs.Math.Dec.{eqb-suc-zero}
 use borrow.Author.Tests.{leb-true, le-leb, eq-eqb}
 use Rattle.codec.specs.Codec.{ok, Bytes, named, num, raw, judged, TimesLegal, times, ◌then◌}
-use Rattle.codec.specs.Laws.{Here, bytes-append, bytes_take, bytes_drop}
+use Rattle.codec.proofs.Laws.{Here, bytes-append, bytes_take, bytes_drop}
 use Rattle.codec.specs.CaseLaws.{both_true, no_true}
 use Rattle.codec.specs.Faults.{first}
 use Rattle.sums.specs.SumLaws.{a-below, b-below}

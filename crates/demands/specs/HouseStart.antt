@@ -14,16 +14,16 @@ use Rattle.prelude.specs.Prelude.{prelude_of}
 use Rattle.prelude.specs.declared.Stage.{Stage}
 use Rattle.prelude.specs.declared.Stage.TheVariants as Stage'
 use Rattle.held.specs.Held.{within}
-use Rattle.held.specs.StageLaws.{bounded-whole, stage_in}
+use Rattle.held.proofs.StageLaws.{bounded-whole, stage_in}
 use Rattle.held.specs.declared.Holding.{Holding}
 use Rattle.held.specs.declared.Holding.TheVariants.{Needs, Refused, Whole}
 use Rattle.feed.specs.Feeding.{start, announced, stage_of, answer_at, block_in, block_says, feed_numbers}
-use Rattle.feed.specs.RefusalLaws.{answer-refused, answer_anyway}
+use Rattle.feed.proofs.RefusalLaws.{answer-refused, answer_anyway}
 use Rattle.block_format.specs.Read.{block_answer}
 use Rattle.block_format.specs.declared.BlockAnswer.{BlockAnswer}
 use Rattle.block_format.specs.declared.BlockAnswer.TheVariants as BlockAnswer'
 use Rattle.block_format.specs.declared.Fields.{Fields}
-use Rattle.feed.specs.HeldLaws.{block_held}
+use Rattle.feed.proofs.HeldLaws.{block_held}
 use Rattle.feed.specs.AnswerLaws.{answer-whole}
 use Rattle.feed.specs.declared.Answer.{Answer}
 use Rattle.feed.specs.declared.Answer.TheVariants as Answer'

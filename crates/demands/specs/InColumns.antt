@@ -3,10 +3,10 @@ use Rattle.std.specs.Prelude.{ℕ, ◌*◌, ◌/◌, ◌≤◌, ◌<◌, ◌≡�
 use Rattle.std.proofs.Common.{arith, ap, ◌∙◌}
 use Rattle.codec.specs.Codec.{ok}
 use Rattle.table.specs.Columns.{cell}
-use Rattle.table.specs.ColumnLaws.{columns-length, cell_row, cell-kept, after_kept}
+use Rattle.table.proofs.ColumnLaws.{columns-length, cell_row, cell-kept, after_kept}
 use Rattle.block_format.specs.Block.{Block, block_of}
 use Rattle.block_format.specs.Read.{sixes, nines, Promise}
-use Rattle.block_format.specs.ReadLaws.{held}
+use Rattle.block_format.proofs.ReadLaws.{held}
 use Rattle.block_format.specs.declared.BlockAnswer.{BlockAnswer}
 
 -- the table s' has the rows rs, and else what s had

@@ -5,9 +5,9 @@ use Rattle.std.proofs.Common.{arith, ◌∙◌}
 use Rattle.std.proofs.Math.Path.{sym, ap, ap₂}
 use mathlib.Core.List.{List, [], ◌∷◌, ◌++◌, map, map-append}
 use Rattle.std.proofs.Math.ListN.{length}
-use Rattle.codec.specs.Format.{Format, tail-one, raw-edits, num-edits}
+use Rattle.codec.proofs.Format.{Format, tail-one, raw-edits, num-edits}
 use Rattle.wire.specs.Formats.{Tests}
-use Rattle.codec.specs.EditLaws.{edits-still, edits-padded, edits-then, edits-named, edits-checked, edits-placed, edits-sized, TimesMoves, edits-times, edits-distinct, edits-boxed}
+use Rattle.codec.proofs.EditLaws.{edits-still, edits-padded, edits-then, edits-named, edits-checked, edits-placed, edits-sized, TimesMoves, edits-times, edits-distinct, edits-boxed}
 use Rattle.wire.specs.Formats.{section, Name, text_of, text, name}
 use Rattle.table.specs.Table.{flat}
 use Rattle.layout.specs.Layout.{Entry, Fields, RecordL, StructL, Label, LabelDef, Parts, to_layout, entry, fields, record_l, struct_l, label, label_def, parts, groups}

@@ -11,17 +11,17 @@ use Rattle.std.proofs.Math.Seq.{drop-append-le, drop-drop, paste, paste-zero}
 use Rattle.codec.specs.Codec.{refusal}
 use Rattle.codec.specs.CaseLaws.{by_le, by_bool}
 use Rattle.held.specs.Held.{need_of}
-use Rattle.held.specs.StageLaws.{stage-head, stage-small, taken-most, after-length}
-use Rattle.held.specs.PieceLaws.{taken_none, both-taken, both-store, taken-some, needs_all}
+use Rattle.held.proofs.StageLaws.{stage-head, stage-small, taken-most, after-length}
+use Rattle.held.proofs.PieceLaws.{taken_none, both-taken, both-store, taken-some, needs_all}
 use Rattle.held.specs.declared.Holding.{Holding}
 use Rattle.held.specs.declared.Holding.TheVariants.{Needs, Refused, Whole}
 use Rattle.feed.specs.Feeding.{start, stage_of, block_in, block_says, answer_at, symbology_at, layout_at, taken_of, held_after, store_after}
-use Rattle.feed.specs.StageLaws.{start-law}
+use Rattle.feed.proofs.StageLaws.{start-law}
 use Rattle.feed.specs.declared.Answer.TheVariants as Answer'
 use Rattle.block_format.specs.Read.{block_answer}
 use Rattle.block_format.specs.declared.BlockAnswer.{BlockAnswer}
 use Rattle.count.specs.Count.{counted_all}
-use Rattle.frames.specs.CutLaws.{joined}
+use Rattle.frames.proofs.CutLaws.{joined}
 use Rattle.night.specs.Night.{kept, Night, judged, turned, turns, through}
 use Rattle.night.specs.TurnLaws.{turns-none, turns-over, turns_turn}
 

@@ -9,32 +9,32 @@ use borrow.Author.Tests.{leb-true, eq-eqb, ne_eqb}
 use Rattle.refusal.specs.declared.Refusal.{Refusal}
 use Rattle.codec.specs.Codec.{Res, ok, refuse, among}
 use Rattle.codec.specs.CaseLaws.{by_le, by_bool, both_true, no_true}
-use Rattle.codec.specs.RefusalLaws.{in_more, in_pass}
-use Rattle.table.specs.ColumnLaws.{columns-length}
+use Rattle.codec.proofs.RefusalLaws.{in_more, in_pass}
+use Rattle.table.proofs.ColumnLaws.{columns-length}
 use Rattle.layout.specs.ReadLaws.{rows-flat}
 use Rattle.prelude.specs.Prelude.{is_version, prelude_of, prelude_numbers}
-use Rattle.prelude.specs.PreludeLaws.{is_magic, length_of, tests, prelude-few, prelude-is}
-use Rattle.prelude.specs.RefusalLaws.{prelude-refuses}
+use Rattle.prelude.proofs.PreludeLaws.{is_magic, length_of, tests, prelude-few, prelude-is}
+use Rattle.prelude.proofs.RefusalLaws.{prelude-refuses}
 use Rattle.prelude.specs.declared.Stage.{Stage}
 use Rattle.prelude.specs.declared.Stage.TheVariants as Stage'
 use Rattle.held.specs.Held.{first_of}
-use Rattle.held.specs.StageLaws.{is_whole, after-length}
-use Rattle.held.specs.PieceLaws.{needs_all}
-use Rattle.held.specs.StreamLaws.{Long, first-whole, Count, Found, finds_first}
-use Rattle.held.specs.RefusalLaws as why
+use Rattle.held.proofs.StageLaws.{is_whole, after-length}
+use Rattle.held.proofs.PieceLaws.{needs_all}
+use Rattle.held.proofs.StreamLaws.{Long, first-whole, Count, Found, finds_first}
+use Rattle.held.proofs.RefusalLaws as why
 use Rattle.held.specs.declared.Holding.{Holding}
 use Rattle.held.specs.declared.Holding.TheVariants.{Needs, Refused, Whole}
 use Rattle.block_format.specs.Block.{Block, block_of}
 use Rattle.block_format.specs.Read.{sixes, nines, roomy, body_numbers, symbology_after, layout_after, block_answer, block_symbology, block_layout}
-use Rattle.block_format.specs.RefusalLaws.{answer-body}
+use Rattle.block_format.proofs.RefusalLaws.{answer-body}
 use Rattle.block_format.specs.declared.BlockAnswer.{BlockAnswer}
 use Rattle.feed.specs.Feeding.{announced, start, stage_of, block_in, block_says, answer_at, symbology_at, layout_at, taken_of, held_after, store_after}
-use Rattle.feed.specs.StageLaws.{start-law, whole-prelude}
+use Rattle.feed.proofs.StageLaws.{start-law, whole-prelude}
 use Rattle.count.specs.Count.{History, counted, counted_all, counted_end}
 use Rattle.count.specs.CountLaws.{all_none, all_one}
 use Rattle.count.specs.declared.Outcome.{Outcome}
 use Rattle.count.specs.declared.Outcome.TheVariants as Outcome'
-use Rattle.frames.specs.CutLaws.{joined}
+use Rattle.frames.proofs.CutLaws.{joined}
 use Rattle.night.specs.Night.{after_block, goes_on, history_in, history_of, end_numbers, Night, met, turned, turns, through}
 use Rattle.night.specs.TurnLaws.{turns-none, turns-over, turns_turn}
 use Rattle.demands.specs.NightCut.{turned_needs, left-none, passed, any_cutting}

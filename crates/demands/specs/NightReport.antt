@@ -9,19 +9,19 @@ use mathlib.Core.List.{List, []}
 use Rattle.std.proofs.lemmas.List.{length-replicate}
 use Rattle.std.proofs.Math.Dec.{leb}
 use Rattle.refusal.specs.declared.Refusal.{Refusal}
-use Rattle.codec.specs.RefusalLaws.{in_pass}
+use Rattle.codec.proofs.RefusalLaws.{in_pass}
 use Rattle.held.specs.Held.{first_of}
-use Rattle.held.specs.StreamLaws.{finds_first}
+use Rattle.held.proofs.StreamLaws.{finds_first}
 use Rattle.held.specs.declared.Holding.{Holding}
 use Rattle.held.specs.declared.Holding.TheVariants.{Needs, Refused, Whole}
 use Rattle.block_format.specs.Read.{block_numbers, block_answer}
-use Rattle.block_format.specs.RefusalLaws.{answer-refuses}
+use Rattle.block_format.proofs.RefusalLaws.{answer-refuses}
 use Rattle.block_format.specs.declared.BlockAnswer.{BlockAnswer}
 use Rattle.feed.specs.Feeding.{start, block_in}
-use Rattle.feed.specs.StageLaws.{start-law}
+use Rattle.feed.proofs.StageLaws.{start-law}
 use Rattle.count.specs.Count.{accepted, cuts, total, refused_below, Below}
 use Rattle.count.specs.CountLaws.{sums}
-use Rattle.frames.specs.CutLaws.{joined}
+use Rattle.frames.proofs.CutLaws.{joined}
 use Rattle.night.specs.Night.{after_block, goes_on, history_in, history_of, end_numbers}
 use Rattle.report.specs.Report.{report, report_of}
 use Rattle.report.specs.ReportLaws.{report_history}

@@ -14,8 +14,8 @@ use Rattle.rules.specs.Rules.{rules_of}
 use Rattle.metadata_lengths.specs.Lengths.{lengths}
 use Rattle.block_format.specs.Block.{Block, header, layout_part, symbology_part, block, block_of}
 use Rattle.block_format.specs.Read.{sixes, nines}
-use Rattle.block_format.specs.ReadLaws.{given}
-use Rattle.block_format.specs.Examples.{listed, P10, wide}
+use Rattle.block_format.proofs.ReadLaws.{given}
+use Rattle.block_format.proofs.Examples.{listed, P10, wide}
 use Rattle.block_format.specs.declared.Fields.{Fields}
 
 -- the rows of what was read, or the refusal

@@ -9,7 +9,7 @@ use Rattle.std.proofs.Math.ListN.{length, drop, length-append}
 use Rattle.std.proofs.Math.Seq.{drop-append_seam}
 use borrow.Author.Tests.{le-leb}
 use Rattle.codec.specs.Codec.{ok, refuse, refusal, Bytes, little, raw, skip, num, named, checked, judged, whole, boxed, is_nil, full, ◌then◌, ◌on◌}
-use Rattle.codec.specs.Laws.{Here, length-little, law-boxed}
+use Rattle.codec.proofs.Laws.{Here, length-little, law-boxed}
 use Rattle.text.specs.Utf8.{utf8}
 use Rattle.wire.specs.Reader.{all_tests}
 use Rattle.padded.specs.Padded.{nul_padded}

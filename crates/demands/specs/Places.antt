@@ -6,7 +6,7 @@ use Rattle.std.proofs.Common.{sym, ap, ◌∙◌}
 use Rattle.refusal.specs.declared.Refusal.{Refusal}
 use Rattle.codec.specs.Codec.{refusal}
 use Rattle.prelude.specs.Prelude.{prelude_of}
-use Rattle.prelude.specs.RefusalLaws.{prelude-place}
+use Rattle.prelude.proofs.RefusalLaws.{prelude-place}
 use Rattle.prelude.specs.declared.Stage.TheVariants as Stage'
 use Rattle.layout.specs.Answers.{judge}
 use Rattle.layout.specs.AnswerLaws.{judge-no}
@@ -17,12 +17,12 @@ use Rattle.rules.specs.Rules.{ruled_of}
 use Rattle.given_layout.specs.Ruled.{Ruled}
 use Rattle.given_layout.specs.RuledLaws.{ruled-layout-within}
 use Rattle.block_format.specs.Read.{Promise}
-use Rattle.block_format.specs.RefusalLaws.{answer-within, refused_anyway}
+use Rattle.block_format.proofs.RefusalLaws.{answer-within, refused_anyway}
 use Rattle.block_format.specs.declared.BlockAnswer.{BlockAnswer}
 use Rattle.block_format.specs.declared.BlockAnswer.TheVariants as BlockAnswer'
 use Rattle.feed.specs.Feeding.{Feeding}
-use Rattle.feed.specs.RefusalLaws.{feed_place, feed_anyway}
-use Rattle.feed.specs.PieceLaws.{Lent, any_cutting}
+use Rattle.feed.proofs.RefusalLaws.{feed_place, feed_anyway}
+use Rattle.feed.proofs.PieceLaws.{Lent, any_cutting}
 use Rattle.feed.specs.declared.Answer.{Answer as FeedAnswer}
 use Rattle.feed.specs.declared.Answer.TheVariants as Feed'
 use Rattle.feed.specs.declared.Fed.{Fed}

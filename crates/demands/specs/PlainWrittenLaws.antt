@@ -2,7 +2,7 @@
 use Rattle.std.specs.Prelude.{ℕ, ◌≤◌, ◌≡◌, List, length, eqb}
 use Rattle.std.proofs.Common.{sym, ap, ◌∙◌, eqb-true}
 use Rattle.codec.specs.Codec.{Bytes, ok}
-use Rattle.codec.specs.Laws.{need-ok}
+use Rattle.codec.proofs.Laws.{need-ok}
 use Rattle.table.specs.Table.{flat}
 use Rattle.layout.specs.Layout.{Layout, from_layout}
 use Rattle.layout.specs.Rows.{rows}

@@ -8,8 +8,8 @@ use Rattle.std.proofs.lemmas.List.{length-map}
 use Rattle.codec.specs.Codec.{refusal, ok, Bytes}
 use Rattle.table.specs.Table.{flat}
 use Rattle.table.specs.Columns.{columns, cell, row_cell}
-use Rattle.table.specs.ColumnLaws.{columns-length, cell_row}
-use Rattle.table.specs.TableLaws.{Wide, flat-length}
+use Rattle.table.proofs.ColumnLaws.{columns-length, cell_row}
+use Rattle.table.proofs.TableLaws.{Wide, flat-length}
 use Rattle.table.specs.EachLaws.{Each, each_at, row_number, RowInside}
 use Rattle.layout.specs.Layout.{Layout}
 use Rattle.layout.specs.LayoutOf.{layout_of}
@@ -18,7 +18,7 @@ use Rattle.layout.specs.ReadLaws.{rows-nine}
 use Rattle.layout.specs.SpanLaws.{layout-lies}
 use Rattle.layout.specs.TextLaws.{row_text}
 use Rattle.names.specs.Names.{no_text, symbol_text, item_text, span_of, symbology_span, layout_span, part_in}
-use Rattle.names.specs.NameLaws.{span-part, span_none, part_bytes, part_none, symbol-text, symbol-kinds, item-kinds}
+use Rattle.names.proofs.SpanLaws.{span-part, span_none, part_bytes, part_none, symbol-text, symbol-kinds, item-kinds}
 use Rattle.names.specs.declared.Span.{Span}
 use Rattle.names.specs.declared.Span.TheVariants.{Part}
 use Rattle.rules.specs.Rules.{ruled_of}
@@ -29,9 +29,9 @@ use Rattle.rows_check.specs.TreeLaws.{tree-rows, tree-flat}
 use Rattle.rows_check.specs.SpanLaws.{rows_in_lie}
 use Rattle.block_format.specs.Block.{Block, block_of}
 use Rattle.block_format.specs.Read.{sixes, nines, over}
-use Rattle.block_format.specs.ReadLaws.{Held}
+use Rattle.block_format.proofs.ReadLaws.{Held}
 use Rattle.block_format.specs.declared.BlockAnswer.{BlockAnswer}
-use Rattle.block_format.specs.SpanLaws.{sixes_lie}
+use Rattle.block_format.proofs.SpanLaws.{sixes_lie}
 use Rattle.demands.specs.LayoutRows.{move_row, move_kind, move_length, move_start}
 use Rattle.demands.specs.Edited.{layout_in, nines_lie}
 

@@ -7,7 +7,7 @@ use Rattle.std.proofs.Math.Path.{refl, ap₂}
 use mathlib.Core.List.{List, [], ◌∷◌, ◌++◌, map}
 use Rattle.std.proofs.Math.ListN.{length-append, length-map}
 use Rattle.codec.specs.Codec.{Bytes, Codec, ok, TimesLegal, TimesEach, named, sized, times, distinct, ◌then◌}
-use Rattle.codec.specs.Laws.{part-take, left-part}
+use Rattle.codec.proofs.Laws.{part-take, left-part}
 use Rattle.entry.specs.Entry.{cut_bytes, row_bytes}
 use Rattle.wire.specs.Reader.{all_tests, name}
 use Rattle.wire.specs.Formats.{Name}

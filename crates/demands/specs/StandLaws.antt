@@ -5,7 +5,7 @@ use Rattle.std.proofs.Math.Path.{refl, ap, subst}
 use Rattle.std.proofs.Common.{sym, ap₂, ◌∙◌}
 use mathlib.Core.List.{List, [], ◌∷◌, ◌++◌, map, append-nil}
 use Rattle.table.specs.Table.{flat, all_rows}
-use Rattle.table.specs.TableLaws.{Wide}
+use Rattle.table.proofs.TableLaws.{Wide}
 use Rattle.table.specs.EachLaws.{row_number}
 use Rattle.rows_check.specs.Tree.{cell, cells, from, after, count_kind}
 

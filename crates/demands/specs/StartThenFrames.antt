@@ -7,13 +7,13 @@ use Rattle.block_format.specs.declared.Fields.{Fields}
 use Rattle.prelude.specs.Prelude.{prelude_of}
 use Rattle.prelude.specs.declared.Stage.TheVariants as Stage'
 use Rattle.feed.specs.Feeding.{Feeding}
-use Rattle.feed.specs.PieceLaws.{Lent, lent_is-one}
-use Rattle.feed.specs.NeverPastLaws.{settled, done-whole}
+use Rattle.feed.proofs.PieceLaws.{Lent, lent_is-one}
+use Rattle.feed.proofs.NeverPastLaws.{settled, done-whole}
 use Rattle.feed.specs.Single.{Same}
 use Rattle.feed.specs.declared.Answer.TheVariants.{Done}
 use Rattle.feed.specs.declared.Fed.{Fed}
 use Rattle.frames.specs.Frames.{Frames, frames_of}
-use Rattle.frames.specs.CutLaws.{Reading, any_cutting}
+use Rattle.frames.proofs.CutLaws.{Reading, any_cutting}
 
 -- what both come to, for the stream s: the prelude announces a block of len bytes; the feeds, x, took it and no more, and gave what one
 -- feed of the whole stream, y, gives; the frames are those of the bytes after the block, for a store of `room`

@@ -4,15 +4,15 @@ use Rattle.std.specs.Prelude.{ℕ, ◌+◌, ◌/◌, ◌≤◌, ◌≡◌, refl,
 use Rattle.std.proofs.Common.{arith, sym, ap, ◌∙◌, length-drop}
 use Rattle.codec.specs.Codec.{Bytes}
 use Rattle.prelude.specs.Prelude.{prelude_of}
-use Rattle.prelude.specs.PreludeLaws.{prelude-first}
+use Rattle.prelude.proofs.PreludeLaws.{prelude-first}
 use Rattle.prelude.specs.declared.Stage.TheVariants as Stage'
 use Rattle.table.specs.Columns.{columns}
 use Rattle.rows_check.specs.Tree.{rows_in}
 use Rattle.writer.specs.declared.Written.TheVariants.{Length}
 use Rattle.block_format.specs.Read.{sixes, nines, over, block_answer, block_symbology, block_layout, Promise}
 use Rattle.block_format.specs.declared.BlockAnswer.TheVariants.{Read}
-use Rattle.feed.specs.Examples.{Leaves, fed_read}
-use Rattle.feed.specs.PieceLaws.{Lent, lent_is-one}
+use Rattle.feed.proofs.Examples.{Leaves, fed_read}
+use Rattle.feed.proofs.PieceLaws.{Lent, lent_is-one}
 use Rattle.feed.specs.declared.Answer.TheVariants.{Done}
 use Rattle.feed.specs.declared.Fed.{Fed}
 use Rattle.block_writer.specs.Write.{WritesBlock}

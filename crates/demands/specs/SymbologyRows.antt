@@ -17,7 +17,7 @@ use Rattle.table.specs.Table.{flat, From, ◌and_then◌, each_from}
 use Rattle.layout.specs.TextLaws.{row_text}
 use Rattle.symbology_format.specs.Symbology
 use Rattle.symbology_format.specs.Symbology.{Symbol, Interval, Mapping, Symbology, symbol, date, list, interval, mapping, symbology}
-use Rattle.symbology_format.specs.NameLaws.{Stands}
+use Rattle.symbology_format.proofs.NameLaws.{Stands}
 use Rattle.symbology_format.specs.SymbologyRows.{symbol_row, interval_row, mapping_rows, list_row, list_rows, symbology_rows}
 use Rattle.demands.specs.LayoutRows.{move_row}
 

@@ -26,15 +26,15 @@ use Rattle.given_layout.specs.RuledLaws
 use Rattle.given_layout.specs.Single.{read-layout_single}
 use Rattle.block_format.specs.Block.{block_of}
 use Rattle.block_format.specs.Read.{Promise}
-use Rattle.block_format.specs.ReadLaws.{given, read-given, refused-given}
+use Rattle.block_format.proofs.ReadLaws.{given, read-given, refused-given}
 use Rattle.block.specs.Single.{read-block_single}
-use Rattle.block_format.specs.Examples.{listed, zero_fields, P10, P11}
+use Rattle.block_format.proofs.Examples.{listed, zero_fields, P10, P11}
 use Rattle.block_format.specs.declared.Fields.{Fields}
 use Rattle.block_format.specs.declared.BlockAnswer.{BlockAnswer}
 use Rattle.block_format.specs.declared.BlockAnswer.TheVariants.{Read}
 use Rattle.block_format.specs.declared.BlockAnswer.TheVariants as Block'
 use Rattle.table.specs.Columns.{columns}
-use Rattle.feed.specs.Examples.{Gives, p1, p2, p3, p4, p5}
+use Rattle.feed.proofs.Examples.{Gives, p1, p2, p3, p4, p5}
 use Rattle.feed.specs.declared.Answer.TheVariants.{Needs, Refused}
 
 -- the layout b, with any sheet, any width and any table with room for the rows: version and row count are answered, the rows stand at

@@ -7,8 +7,8 @@ use Rattle.std.proofs.lemmas.List.{length-replicate}
 use Rattle.codec.specs.Codec.{Bytes, ok, raw, padded, skip, num, fixed, named, checked, judged, placed, asks, sized, limited, times, distinct, whole, boxed, full, ◌then◌, ◌on◌, remainder}
 use Rattle.codec.specs.CaseLaws.{both_true}
 use Rattle.codec.specs.Edits.{Marked, kept, free, ◌and◌, box, bytes_of, Edit, keep, fill, pair, grow, put}
-use Rattle.codec.specs.Format.{raw-edits, num-edits, fixed-edits}
-use Rattle.codec.specs.EditLaws.{edits-kept, edits-still, edits-skip, edits-padded, edits-then, edits-on, edits-named, edits-checked, edits-judged, edits-asks, edits-placed, edits-sized, edits-times, edits-distinct, edits-apart, edits-boxed}
+use Rattle.codec.proofs.Format.{raw-edits, num-edits, fixed-edits}
+use Rattle.codec.proofs.EditLaws.{edits-kept, edits-still, edits-skip, edits-padded, edits-then, edits-on, edits-named, edits-checked, edits-judged, edits-asks, edits-placed, edits-sized, edits-times, edits-distinct, edits-apart, edits-boxed}
 use Rattle.text.specs.Utf8.{utf8}
 use Rattle.dates.specs.Date.{is_date, is_day, days_in, is_leap}
 use Rattle.dates.specs.Day.{day_of, day_number, days_to, days_before, days_of_year}
@@ -27,13 +27,13 @@ use Rattle.metadata_lengths.specs.Lengths.{lengths}
 use Rattle.block_format.specs.Block.{Block, header, layout_part, symbology_part, block, block_of}
 use Rattle.block_format.specs.Fields.{fields_with, fields_of}
 use Rattle.block_format.specs.Read.{Promise}
-use Rattle.block_format.specs.ReadLaws.{gist, given, read-given}
+use Rattle.block_format.proofs.ReadLaws.{gist, given, read-given}
 use Rattle.block_format.specs.declared.BlockAnswer.TheVariants.{Read}
-use Rattle.table.specs.ColumnLaws.{columns-none}
-use Rattle.block_format.specs.Examples.{zero_fields}
+use Rattle.table.proofs.ColumnLaws.{columns-none}
+use Rattle.block_format.proofs.Examples.{zero_fields}
 use Rattle.block_format.specs.declared.Fields.{Fields}
 use Rattle.block_format.specs.declared.Optional.TheVariants.{Absent, Present}
-use Rattle.feed.specs.Examples.{Gives, fed_done}
+use Rattle.feed.proofs.Examples.{Gives, fed_done}
 use Rattle.feed.specs.declared.Answer.TheVariants.{Done}
 use Rattle.demands.specs.LayoutRows.{move_row}
 use Rattle.demands.specs.Demand3.{marking, SameRead, demand3}

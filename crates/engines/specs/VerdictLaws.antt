@@ -2,7 +2,7 @@
 use Rattle.std.specs.Prelude.{ℕ, ◌≡◌, List, eqb}
 use Rattle.std.proofs.Common.{sym, ap, ◌∙◌}
 use Rattle.codec.specs.Codec.{ok}
-use Rattle.codec.specs.Laws.{bind_ok, need-ok}
+use Rattle.codec.proofs.Laws.{bind_ok, need-ok}
 use Rattle.layout.specs.Layout.{Layout, from_layout}
 use Rattle.layout.specs.LayoutOf.{layout_of}
 use Rattle.rules.specs.Rules.{rules_of, ruled_of}

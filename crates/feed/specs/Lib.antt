@@ -1,10 +1,3 @@
 pub mod Feeding
-pub mod StageLaws
-pub mod HeldLaws
-pub mod RefusalLaws
 pub mod Single
-pub mod LeastLaws
-pub mod PieceLaws
-pub mod NeverPastLaws
-pub mod Examples
 pub mod AnswerLaws

@@ -2,7 +2,7 @@
 -- Assumes nothing.
 use Rattle.std.specs.Prelude.{ℕ, zero, suc, ◌-◌, ◌*◌, Bool, false, cond, ◌≡◌, refl, List, [], ◌∷◌, length, take, drop, leb, ltb}
 use Rattle.codec.specs.Codec.{Res, ok, refuse}
-use Rattle.codec.specs.Format.{Format, num, num_test, ◌then◌, named}
+use Rattle.codec.proofs.Format.{Format, num, num_test, ◌then◌, named}
 use Rattle.held.specs.Held.{Head, held_of, taken_of, held_after, store_after, first_of, refused_at}
 use Rattle.held.specs.declared.Holding.{Holding}
 use Rattle.held.specs.declared.Holding.TheVariants.{Needs, Refused, Whole}

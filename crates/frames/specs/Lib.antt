@@ -1,9 +1,2 @@
 pub mod Frames
-pub mod HeaderLaws
-pub mod FramingLaws
 pub mod AtOnceLaws
-pub mod RefusalLaws
-pub mod Single
-pub mod StreamLaws
-pub mod CutLaws
-pub mod Examples

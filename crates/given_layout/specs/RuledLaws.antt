@@ -4,7 +4,7 @@ use Rattle.std.proofs.Common.{arith, sym, ap, ◌∙◌, le-leb}
 use Rattle.refusal.specs.declared.Refusal.{Refusal}
 use Rattle.codec.specs.Codec.{Res, ok, refuse, ◌>>=◌}
 use Rattle.codec.specs.Refusals.{In}
-use Rattle.codec.specs.RefusalLaws.{gives_is}
+use Rattle.codec.proofs.RefusalLaws.{gives_is}
 use Rattle.table.specs.Table.{flat}
 use Rattle.layout.specs.Layout.{Layout}
 use Rattle.layout.specs.Rows.{rows}
@@ -16,7 +16,7 @@ use Rattle.layout.specs.declared.Verdict.TheVariants as Verdict'
 use Rattle.layout.specs.declared.Answer.{Answer}
 use Rattle.layout.specs.declared.Answer.TheVariants as Answer'
 use Rattle.rules.specs.Rules.{ruled_numbers, ruled_of}
-use Rattle.rules.specs.RefusalLaws.{ruled_gives, ruled-within}
+use Rattle.rules.proofs.RefusalLaws.{ruled_gives, ruled-within}
 use Rattle.layout.specs.RefusalLaws.{judge-refused}
 use Rattle.layout.specs.AnswerLaws.{verdict-ok, verdict-no, judge-ok, judge-no, judge_anywhere, leave-ok, leave_anywhere, leave-no}
 use Rattle.engines.specs.VerdictLaws.{ruled-layout}

@@ -7,7 +7,7 @@ use Rattle.std.proofs.lemmas.List.{length-replicate}
 use Rattle.std.proofs.lemmas.Bool.{lt-leb}
 use Rattle.codec.specs.Codec.{little}
 use Rattle.codec.specs.CaseLaws.{by_bool}
-use Rattle.codec.specs.Laws.{length-little}
+use Rattle.codec.proofs.Laws.{length-little}
 use Rattle.put.specs.Output.{RoomFor, Wrote, Stored}
 use Rattle.put.specs.OutputLaws.{wrote_stored, stored_is, stored_short, stored_none}
 use Rattle.metadata_lengths.specs.Lengths.{lengths}
@@ -15,7 +15,7 @@ use Rattle.block_format.specs.Block.{Header, header}
 use Rattle.metadata_lengths.specs.declared.MetadataLengths.{MetadataLengths}
 use Rattle.block_format.specs.BlockFaults.{SizedHeader, header-length}
 use Rattle.block_format.specs.LengthsLaws.{lengths-width}
-use Rattle.block_format.specs.PrintLaws.{header-print}
+use Rattle.block_format.proofs.PrintLaws.{header-print}
 use Rattle.columns_check.specs.Tree.{filled}
 use Rattle.columns_check.specs.FilledLaws.{nuls-bytes, filled_is, filled-length}
 use Rattle.header_bytes.specs.Numbers.{schema, start, end, limit, stype_in, stype_out, ts_out, width, has}

@@ -1,11 +1,2 @@
 pub mod Held
-pub mod StageLaws
-pub mod RefusalLaws
-pub mod NeededLaws
-pub mod BytewiseLaws
-pub mod PieceLaws
-pub mod AloneLaws
-pub mod StreamLaws
-pub mod LeastLaws
-pub mod NeverPastLaws
 pub mod Single

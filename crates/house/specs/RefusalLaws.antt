@@ -5,21 +5,21 @@ use Rattle.refusal.specs.declared.Refusal.{Refusal}
 use Rattle.codec.specs.Codec.{refusal}
 use Rattle.codec.specs.CaseLaws.{by_eqb}
 use Rattle.codec.specs.Refusals.{In, Fault}
-use Rattle.codec.specs.RefusalLaws.{in_more}
+use Rattle.codec.proofs.RefusalLaws.{in_more}
 use Rattle.prelude.specs.Prelude.{prelude_numbers, prelude_of}
-use Rattle.prelude.specs.RefusalLaws.{prelude-refuses}
+use Rattle.prelude.proofs.RefusalLaws.{prelude-refuses}
 use Rattle.prelude.specs.declared.Stage.{Stage}
 use Rattle.prelude.specs.declared.Stage.TheVariants as Stage'
 use Rattle.block_format.specs.Read.{block_numbers, block_answer}
-use Rattle.block_format.specs.RefusalLaws.{answer-refuses}
+use Rattle.block_format.proofs.RefusalLaws.{answer-refuses}
 use Rattle.block_format.specs.declared.BlockAnswer.{BlockAnswer}
 use Rattle.block_format.specs.declared.BlockAnswer.TheVariants as BlockAnswer'
-use Rattle.held.specs.StageLaws.{by-bound, bounded_beyond, bounded-rest, bounded-whole}
+use Rattle.held.proofs.StageLaws.{by-bound, bounded_beyond, bounded-rest, bounded-whole}
 use Rattle.held.specs.declared.Holding.{Holding}
 use Rattle.held.specs.declared.Holding.TheVariants.{Needs, Refused, Whole}
 use Rattle.feed.specs.Feeding.{announced, stage_of, block_in, answer_at, feed_numbers}
 use Rattle.feed.specs.AnswerLaws.{says-read, says-refused, says-short}
-use Rattle.feed.specs.RefusalLaws.{answer-refused}
+use Rattle.feed.proofs.RefusalLaws.{answer-refused}
 use Rattle.feed.specs.declared.Answer.{Answer}
 use Rattle.feed.specs.declared.Answer.TheVariants as Answer'
 use Rattle.house_file.specs.House.{blocks_of, unpacked_in, packed_in}

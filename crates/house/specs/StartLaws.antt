@@ -11,15 +11,15 @@ use Rattle.block_format.specs.Read.{block_answer}
 use Rattle.block_format.specs.declared.BlockAnswer.{BlockAnswer}
 use Rattle.codec.specs.CaseLaws.{by_le}
 use Rattle.prelude.specs.Prelude.{prelude_of}
-use Rattle.prelude.specs.PreludeLaws.{prelude-few}
+use Rattle.prelude.proofs.PreludeLaws.{prelude-few}
 use Rattle.prelude.specs.declared.Stage.{Stage}
 use Rattle.prelude.specs.declared.Stage.TheVariants as Stage'
 use Rattle.held.specs.Held as held
-use Rattle.held.specs.StageLaws.{refused-whole, by-bound, bounded_beyond, bounded-rest, bounded-whole, taken-most}
+use Rattle.held.proofs.StageLaws.{refused-whole, by-bound, bounded_beyond, bounded-rest, bounded-whole, taken-most}
 use Rattle.held.specs.declared.Holding.TheVariants.{Needs, Refused, Whole}
 use Rattle.feed.specs.Feeding.{start, announced, stage_of, block_in, block_says, answer_at, symbology_at, layout_at, taken_of, held_after, store_after, Judgement, Feeding}
 use Rattle.feed.specs.AnswerLaws.{answer_needs, answer-kept, answer-whole}
-use Rattle.feed.specs.StageLaws.{start-law}
+use Rattle.feed.proofs.StageLaws.{start-law}
 use Rattle.feed.specs.declared.Fed.{Fed}
 use Rattle.house_file.specs.House.{blocks_of, store_in, Unpacking, Packing}
 use Rattle.house_file.specs.declared.Unpacked.{Unpacked}

@@ -4,7 +4,7 @@ use Rattle.std.proofs.Common.{arith, ap, ◌∙◌, append_assoc, length-take, l
 use Rattle.std.proofs.Math.Nat.{add_assoc}
 use Rattle.std.proofs.Math.Dec.{eqb-zero-suc}
 use Rattle.codec.specs.Codec.{ok, refuse, refusal, Bytes, value, little, named, num, raw, judged, times_parse, times, ◌then◌}
-use Rattle.codec.specs.StepLaws.{num_got, raw_got}
+use Rattle.codec.proofs.StepLaws.{num_got, raw_got}
 use Rattle.codec.specs.CaseLaws.{both_true}
 use Rattle.sums.specs.Sums.{words}
 use Rattle.house_file.specs.House.{Block, block, before, file_fault, file, is_length, blocks_of}

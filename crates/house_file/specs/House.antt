@@ -5,7 +5,7 @@ use Rattle.std.proofs.Common.{ap}
 use Rattle.codec.specs.Codec as Codec
 use Rattle.codec.specs.Codec.{Res, ok, refuse, ◌>>=◌, need, little}
 use Rattle.codec.specs.Faults.{unless, first}
-use Rattle.codec.specs.Format.{Format, num, raw, ◌then◌, named, judged, times}
+use Rattle.codec.proofs.Format.{Format, num, raw, ◌then◌, named, judged, times}
 use Rattle.sums.specs.Sums.{words, check_a, check_b}
 use Rattle.house_file.specs.declared.Unpacked.{Unpacked}
 use Rattle.house_file.specs.declared.Unpacked.TheVariants.{Payload}

@@ -4,7 +4,7 @@ use Rattle.std.proofs.Common.{arith, sym, subst}
 use Rattle.codec.specs.Codec.{Res, ok, refuse}
 use Rattle.codec.specs.Faults.{unless, first, first_some}
 use Rattle.codec.specs.Refusals.{In, Gives, Fault}
-use Rattle.codec.specs.RefusalLaws.{in_more, gives_test}
+use Rattle.codec.proofs.RefusalLaws.{in_more, gives_test}
 use Rattle.house_file.specs.House.{Block, block, sound, filled, block_fault, file_fault, file, is_length, blocks_of, payload_of, unpacked_in, count, is_count, packed_in}
 use Rattle.house_file.specs.declared.Unpacked.{Unpacked}
 use Rattle.house_file.specs.declared.Packed.{Packed}

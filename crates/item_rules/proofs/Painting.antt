@@ -9,9 +9,9 @@ use Rattle.fields.specs.Field.{differs}
 use Rattle.plain_tiling.specs.Tile.{Span}
 use Rattle.plain_tiling.specs.Plain.{taken, paint}
 use Rattle.plain_tiling.specs.Places.{Unowned, Enough}
-use Rattle.plain_tiling.specs.MarkingLaws as spans-of
+use Rattle.plain_tiling.proofs.MarkingLaws as spans-of
 use Rattle.plain_tiling.specs.Marking.{Marked, Marking}
-use Rattle.plain_tiling.specs.MarkingLaws.{marking}
+use Rattle.plain_tiling.proofs.MarkingLaws.{marking}
 use Rattle.item_rules.specs.declared.Source.{Source}
 use Rattle.item_rules.specs.Rules.{spans}
 use Rattle.item_rules.specs.Engines.{EndBelow}

@@ -11,8 +11,8 @@ use Rattle.fields.specs.Field.{field_fault}
 use Rattle.fields.specs.FieldLaws.{fault-sized, fault-small, fault-within, past-from}
 use Rattle.plain_tiling.specs.Plain.{base_by_marks, ext_by_marks}
 use Rattle.plain_tiling.specs.Owners.{owners, Tiled, Placed}
-use Rattle.plain_tiling.specs.MarkingLaws.{placed-wide}
-use Rattle.plain_tiling.specs.PlainLaws.{base-walk, ext_walk, base_means, ext_means}
+use Rattle.plain_tiling.proofs.MarkingLaws.{placed-wide}
+use Rattle.plain_tiling.proofs.PlainLaws.{base-walk, ext_walk, base_means, ext_means}
 use Rattle.item_rules.specs.Rules.{Seq, first, noted, spans, base_fault, ext_fault, tiling_fault, fields_fault, seq_fault}
 use Rattle.item_rules.specs.RuleLaws.{halves}
 use Rattle.item_rules.specs.Engines.{Passed, Markable, EndBelow, Tiles, seq_by_marks}

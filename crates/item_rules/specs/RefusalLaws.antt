@@ -8,7 +8,7 @@ use mathlib.Core.List.{List, [], ◌∷◌}
 use Rattle.std.proofs.Math.Dec.{leb}
 use Rattle.codec.specs.Codec.{among}
 use Rattle.codec.specs.Refusals.{In, Fault}
-use Rattle.codec.specs.RefusalLaws.{in_more, fault-by}
+use Rattle.codec.proofs.RefusalLaws.{in_more, fault-by}
 use Rattle.numbers.specs.Numbers.{le16}
 use Rattle.fields.specs.Field.{field_numbers, field_fault}
 use Rattle.fields.specs.RefusalLaws.{field_fault_lem}

@@ -14,7 +14,7 @@ use Rattle.numbers.specs.Numbers.{le16, u16_at}
 use Rattle.wire.specs.Formats.{Tests}
 use Rattle.wire.specs.Reader.{name_at}
 use Rattle.numbers.specs.NumberLaws.{u16-value}
-use Rattle.wire.specs.NameLaws.{name-place}
+use Rattle.wire.proofs.NameLaws.{name-place}
 use Rattle.table.specs.ReadingLaws.{Going}
 use Rattle.numbers.specs.declared.Got.{Got}
 use Rattle.numbers.specs.declared.Got.TheVariants.{Value, Refused}

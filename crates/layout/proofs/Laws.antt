@@ -10,21 +10,21 @@ use native.Mathlib.Omega.{arith}
 use borrow.Author.Tests.{eq-eqb, ne_eqb}
 use Rattle.refusal.specs.declared.Refusal.{Refusal}
 use Rattle.codec.specs.Codec.{Codec, Res, ok, refuse, refusal, shifted, ◌>>=◌, padded, num, named, ◌then◌, sized, times, times_parse, among, distinct, distinct_parse, counted}
-use Rattle.codec.specs.Laws.{bind_ok}
-use Rattle.codec.specs.StepLaws.{raw_got, raw-bad, num_got, num-bad, times-length, distinct-length}
+use Rattle.codec.proofs.Laws.{bind_ok}
+use Rattle.codec.proofs.StepLaws.{raw_got, raw-bad, num_got, num-bad, times-length, distinct-length}
 use Rattle.codec.specs.CaseLaws.{by_bool, by_le}
-use Rattle.codec.specs.Format.{Format}
+use Rattle.codec.proofs.Format.{Format}
 use Rattle.codec.specs.Refusals.{Within, ends}
-use Rattle.codec.specs.PlaceLaws.{within-is, within-then}
+use Rattle.codec.proofs.PlaceLaws.{within-is, within-then}
 use Rattle.wire.specs.Formats
 use Rattle.wire.specs.Formats.{Name, Tests}
 use Rattle.wire.specs.Reader.{tests_of, name_by, name_at, section_at}
 use Rattle.numbers.specs.Numbers.{take_at, u16_at, part, le16, le32, le64}
 use Rattle.numbers.specs.NumberLaws.{take-value, take-refused, num-is, u16-is, u64-is}
-use Rattle.wire.specs.NameLaws.{name-ok, name-no}
+use Rattle.wire.proofs.NameLaws.{name-ok, name-no}
 use Rattle.table.specs.Table.{Out, said, row, seq, on_got, all_rows}
 use Rattle.table.specs.StepLaws.{items_end, items_row, items_no, both, both-seq, said-named, count-row, said-num, seq-same}
-use Rattle.wire.specs.StepLaws.{said-name, parts-end, parts-run, parts-no}
+use Rattle.wire.proofs.StepLaws.{said-name, parts-end, parts-run, parts-no}
 use Rattle.numbers.specs.declared.Got.{Got}
 use Rattle.numbers.specs.declared.Got.TheVariants.{Value, Refused}
 use Rattle.layout.specs.Layout

@@ -14,7 +14,7 @@ use Rattle.wire.specs.Reader.{tests_of}
 use Rattle.numbers.specs.Numbers.{u16_at}
 use Rattle.numbers.specs.NumberLaws.{num-is, u16-value}
 use Rattle.table.specs.Table.{put_row, said, answer, fill, Fills, Ran, all_rows}
-use Rattle.table.specs.TableLaws.{fill-rows}
+use Rattle.table.proofs.TableLaws.{fill-rows}
 use Rattle.numbers.specs.declared.Got.{Got}
 use Rattle.numbers.specs.declared.Got.TheVariants.{Value}
 use Rattle.numbers.specs.declared.Got.TheVariants as Got'

@@ -4,7 +4,7 @@ use Rattle.std.proofs.Math.Path.{refl}
 use mathlib.Core.List.{List, [], ◌++◌}
 use Rattle.std.proofs.Common.{le-leb}
 use Rattle.codec.specs.Codec.{ok, ◌then◌, Bytes, little, padded, num, named, sized, times, times_print, TimesLegal, distinct}
-use Rattle.codec.specs.Laws.{distinct-all}
+use Rattle.codec.proofs.Laws.{distinct-all}
 use Rattle.wire.specs.Formats.{Tests, name}
 use Rattle.wire.specs.Reader.{all_tests}
 use Rattle.wire.specs.FormatLaws.{section-bytes, section-lawful}

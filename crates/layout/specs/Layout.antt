@@ -5,7 +5,7 @@ use Rattle.std.proofs.Math.Path.{refl}
 use Rattle.codec.specs.Codec
 use Rattle.wire.specs.Formats.{Tests}
 use Rattle.codec.specs.Codec.{Res, ok, ◌>>=◌, Bytes, whole}
-use Rattle.codec.specs.Format.{Format, ◌then◌, named, padded, counted, keyed, counted_both}
+use Rattle.codec.proofs.Format.{Format, ◌then◌, named, padded, counted, keyed, counted_both}
 use Rattle.wire.specs.Formats.{Name, u16, u64, section, name}
 
 -- ---- the tree

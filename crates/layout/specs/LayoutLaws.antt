@@ -7,7 +7,7 @@ use Rattle.std.proofs.Common.{◌∙◌}
 use Rattle.std.proofs.Math.ListN.{take}
 use Rattle.codec.specs.Codec.{ok, Bytes, ◌then◌, num, whole}
 use Rattle.wire.specs.Formats.{Tests}
-use Rattle.codec.specs.Laws.{bind_ok, left-part, part-take, bytes-append, whole-reads, whole_back}
+use Rattle.codec.proofs.Laws.{bind_ok, left-part, part-take, bytes-append, whole-reads, whole_back}
 use Rattle.layout.specs.Layout.{Layout, Parts, parts, to_layout, from_layout, read_layout, print_layout, locate_layout, LegalLayout, bare_layout, FitsLayout, EachName}
 
 module _ (tests : Tests) (D : ℕ) where

@@ -3,12 +3,12 @@ use Rattle.std.specs.Prelude.{ℕ, ◌≡◌, refl, Bool, true, false, cond, Lis
 use Rattle.std.proofs.Math.ListN.{length}
 use Rattle.codec.specs.Codec.{Res, ok, refuse, refusal, ◌>>=◌, num, padded, whole}
 use Rattle.codec.specs.CaseLaws.{by_bool}
-use Rattle.codec.specs.Laws.{bind_ok}
+use Rattle.codec.proofs.Laws.{bind_ok}
 use Rattle.codec.specs.Lenient.{Lenient, lax}
-use Rattle.codec.specs.LenientLaws.{lenient_same, lenient_named, lenient_then, lenient_times, lenient_keys, lenient_sized, lenient_counted, lenient_whole}
+use Rattle.codec.proofs.LenientLaws.{lenient_same, lenient_named, lenient_then, lenient_times, lenient_keys, lenient_sized, lenient_counted, lenient_whole}
 use Rattle.wire.specs.Formats.{Tests}
 use Rattle.wire.specs.Reader.{all_tests, tests_of}
-use Rattle.wire.specs.LenientLaws.{Looser, lenient_name, lenient_section}
+use Rattle.wire.proofs.LenientLaws.{Looser, lenient_name, lenient_section}
 use Rattle.layout.specs.Layout.{Layout, label, label_body, label_def, entry, fields, record_body, record_l, struct_body, struct_l, groups, parts, read_layout, to_layout}
 use Rattle.layout.specs.LayoutOf.{D, layout_by, layout_of}
 

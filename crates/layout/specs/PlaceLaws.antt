@@ -8,18 +8,18 @@ use Rattle.std.proofs.Math.Path.{refl, ap, ap₂}
 use mathlib.Core.List.{List, [], ◌∷◌, ◌++◌, map, append_assoc}
 use Rattle.std.proofs.lemmas.Bool.{lt-leb}
 use Rattle.codec.specs.Codec.{Res, ok, refuse, refusal, shifted, ◌>>=◌, Codec, num, padded, named, ◌then◌, sized, times, times_parse, counted, whole, times_bare}
-use Rattle.codec.specs.Laws.{shifted-ok, bind_ok, length-bare}
-use Rattle.codec.specs.StepLaws.{raw_got, raw-bad, times-length}
+use Rattle.codec.proofs.Laws.{shifted-ok, bind_ok, length-bare}
+use Rattle.codec.proofs.StepLaws.{raw_got, raw-bad, times-length}
 use Rattle.codec.specs.CaseLaws.{by_le}
 use Rattle.wire.specs.Reader.{all_tests}
-use Rattle.codec.specs.Format.{Format}
+use Rattle.codec.proofs.Format.{Format}
 use Rattle.wire.specs.Formats
 use Rattle.wire.specs.Formats.{Name, section}
 use Rattle.wire.specs.FormatLaws.{section-bare}
 use Rattle.numbers.specs.Numbers.{num_at, u16_at, part, le16}
 use Rattle.wire.specs.Reader.{name, name_at, section_at}
 use Rattle.numbers.specs.NumberLaws.{num_of, num-is, num-value, u16-value}
-use Rattle.wire.specs.NameLaws.{name_of, name-is, name-place}
+use Rattle.wire.proofs.NameLaws.{name_of, name-is, name-place}
 use Rattle.wire.specs.SectionLaws.{section_got, section-bad, section-of}
 use Rattle.numbers.specs.declared.Got.{Got}
 use Rattle.numbers.specs.declared.Got.TheVariants.{Value, Refused}

@@ -4,7 +4,7 @@ use Rattle.std.proofs.Common.{le-leb}
 use Rattle.codec.specs.Codec.{ok, ◌>>=◌, whole}
 use Rattle.wire.specs.Reader.{all_tests}
 use Rattle.table.specs.Table.{flat, all_rows}
-use Rattle.table.specs.TableLaws.{Wide, wide-append, wide-map, wide-all, flat-length}
+use Rattle.table.proofs.TableLaws.{Wide, wide-append, wide-map, wide-all, flat-length}
 use Rattle.layout.specs.Layout
 use Rattle.layout.specs.Layout.{Layout, Fields, to_layout}
 use Rattle.layout.specs.LayoutOf.{D, layout_of, layout_by}

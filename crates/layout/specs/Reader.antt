@@ -3,7 +3,7 @@
 -- Assumes nothing.
 use Rattle.std.specs.Prelude.{Bool, cond, ℕ, List, [], ◌++◌, map, eqb}
 use Rattle.codec.specs.Codec.{times_parse, distinct_parse}
-use Rattle.codec.specs.Format.{◌then◌}
+use Rattle.codec.proofs.Format.{◌then◌}
 use Rattle.wire.specs.Formats.{u16, u64}
 use Rattle.wire.specs.Reader.{tests_of, name_by}
 use Rattle.numbers.specs.Numbers.{got_of, u16_at}

@@ -6,12 +6,12 @@ use Rattle.std.proofs.Math.Path.{refl}
 use Rattle.refusal.specs.declared.Refusal.{Refusal}
 use Rattle.codec.specs.Codec.{Res, ok, refuse, refusal, ◌>>=◌, whole}
 use Rattle.codec.specs.Refusals.{Gives, In, Within, ends, tells}
-use Rattle.codec.specs.PlaceLaws.{within-is, within-then, within-whole}
-use Rattle.codec.specs.RefusalLaws.{in_more, gives_is, gives_then, gives_by, gives_whole}
+use Rattle.codec.proofs.PlaceLaws.{within-is, within-then, within-whole}
+use Rattle.codec.proofs.RefusalLaws.{in_more, gives_is, gives_then, gives_by, gives_whole}
 use Rattle.wire.specs.Formats.{Tests}
 use Rattle.wire.specs.Formats
 use Rattle.wire.specs.Reader.{all_tests, tests_of, name_numbers, section_numbers}
-use Rattle.wire.specs.RefusalLaws.{name-numbers, section-numbers}
+use Rattle.wire.proofs.RefusalLaws.{name-numbers, section-numbers}
 use Rattle.layout.specs.Layout.{Layout, label, label_body, label_def, entry, fields, record_body, record_l, struct_body, struct_l, groups, parts, to_layout, read_layout}
 use Rattle.layout.specs.LayoutOf.{D, layout_of, layout_by}
 use Rattle.layout.specs.Rows.{rows}

@@ -6,7 +6,7 @@ use mathlib.Core.List.{List, [], ◌∷◌, ◌++◌, map, map-append}
 use Rattle.std.proofs.Math.ListN.{length}
 use Rattle.codec.specs.Codec.{◌then◌, ok, Bytes, Codec, padded, num, named, sized, times, times_bare, distinct}
 use Rattle.wire.specs.Formats.{Tests}
-use Rattle.codec.specs.Laws.{length-bare}
+use Rattle.codec.proofs.Laws.{length-bare}
 use Rattle.wire.specs.Formats.{name}
 use Rattle.wire.specs.FormatLaws.{section-bare, name-bare}
 use Rattle.layout.specs.Layout.{Fields, RecordL, StructL, LabelDef, Layout, entry, fields, record_l, struct_l, label, label_def, parts, groups, read_layout, locate_layout, bare_layout, FitsLayout}

@@ -1,1 +1,2 @@
+pub mod SpanLaws
 pub mod NameLaws

@@ -1,4 +1,3 @@
 pub mod Names
-pub mod NameLaws
 pub mod RefusalLaws
 pub mod Single

@@ -6,12 +6,12 @@ use Rattle.std.proofs.Math.Path.{refl}
 use Rattle.std.proofs.Math.Bool.{true, false, cond}
 use Rattle.refusal.specs.declared.Refusal.{Refusal}
 use Rattle.codec.specs.Codec.{among}
-use Rattle.codec.specs.RefusalLaws.{in_pass}
+use Rattle.codec.proofs.RefusalLaws.{in_pass}
 use Rattle.block_format.specs.declared.Fields.{Fields}
-use Rattle.held.specs.StageLaws as held
+use Rattle.held.proofs.StageLaws as held
 use Rattle.feed.specs.Feeding.{start, stage_of, answer_at, taken_of, held_after, store_after, feed_numbers, Feeding}
-use Rattle.feed.specs.StageLaws.{start-law}
-use Rattle.feed.specs.RefusalLaws.{feed_refuses}
+use Rattle.feed.proofs.StageLaws.{start-law}
+use Rattle.feed.proofs.RefusalLaws.{feed_refuses}
 use Rattle.feed.specs.declared.Fed.{Fed}
 use Rattle.feed.specs.declared.Answer.{Answer}
 use Rattle.feed.specs.declared.Answer.TheVariants.{Needs, Done, Refused, Short}

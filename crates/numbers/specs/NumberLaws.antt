@@ -3,7 +3,7 @@ use Rattle.std.specs.Prelude.{ℕ, zero, suc, ◌+◌, ◌-◌, ◌*◌, ◌^◌
 use Rattle.std.proofs.Common.{zero-le, sym, ap, ◌∙◌, add-zero, zero-add, suc-add, mul_comm, mul_assoc, pow-suc, add-one, arith, length-take, length-drop, take_all}
 use Rattle.refusal.specs.declared.Refusal.{Refusal}
 use Rattle.codec.specs.Codec.{Res, ok, refuse, refusal, raw, value, num}
-use Rattle.codec.specs.StepLaws.{raw_got, raw-bad, num_got, num-bad}
+use Rattle.codec.proofs.StepLaws.{raw_got, raw-bad, num_got, num-bad}
 use Rattle.codec.specs.CaseLaws.{by_le}
 use Rattle.numbers.specs.Numbers.{got_of, Past, past, take_at, num_at, u16_at, part, le16, le32, le64}
 use Rattle.numbers.specs.declared.Got.{Got}

@@ -6,7 +6,7 @@ use Rattle.std.proofs.Math.Path.{refl}
 use Rattle.refusal.specs.declared.Refusal.{Refusal}
 use Rattle.codec.specs.Codec.{Res, ok, refuse, raw, num}
 use Rattle.codec.specs.Refusals.{Gives}
-use Rattle.codec.specs.RefusalLaws.{only-raw, only-num}
+use Rattle.codec.proofs.RefusalLaws.{only-raw, only-num}
 use Rattle.numbers.specs.Numbers.{got_of, take_at, num_at}
 use Rattle.numbers.specs.declared.Got.TheVariants.{Refused}
 

@@ -1,1 +1,2 @@
+pub mod PaddedLaws
 pub mod PaddedWalk

@@ -4,5 +4,4 @@ pub mod EachPaddedLaws
 pub mod Pairs
 pub mod PaddedAnswer
 pub mod PaddedAnswerLaws
-pub mod PaddedLaws
 pub mod Single

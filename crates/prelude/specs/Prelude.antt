@@ -2,7 +2,7 @@
 -- Assumes nothing.
 use Rattle.std.specs.Prelude.{ℕ, ◌-◌, refl, Bool, false, ◌&&◌, cond, List, [], ◌∷◌, length, leb, ltb}
 use Rattle.codec.specs.Codec.{Res, ok, refuse, value}
-use Rattle.codec.specs.Format.{Format, fixed, num_test, ◌then◌, named}
+use Rattle.codec.proofs.Format.{Format, fixed, num_test, ◌then◌, named}
 use Rattle.prelude.specs.declared.Stage.{Stage}
 use Rattle.prelude.specs.declared.Stage.TheVariants.{Needs, Refused, Whole}
 

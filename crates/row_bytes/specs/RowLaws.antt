@@ -4,7 +4,7 @@ use Rattle.std.proofs.Common.{arith, sym, ap, subst, ◌∙◌, length-append, l
 use borrow.Author.Tests.{leb-true, ltb-true, le-leb, lt-leb, lt-ltb, eq-eqb, ne_eqb}
 use Rattle.codec.specs.Codec.{little}
 use Rattle.codec.specs.CaseLaws.{both_true, by_eqb}
-use Rattle.codec.specs.Laws.{length-little}
+use Rattle.codec.proofs.Laws.{length-little}
 use Rattle.dates.specs.Day.{date_of_day}
 use Rattle.put.specs.Output.{RoomFor, Wrote, Stored}
 use Rattle.put.specs.OutputLaws.{Left, left-start, left-room, left_step, left_stored, left-last, room-told, wrote_stored, stored_is, stored_short, stored_none}

@@ -10,7 +10,7 @@ use Rattle.codec.specs.CaseLaws.{by_order}
 use Rattle.text.specs.AndLaws.{and_true}
 use Rattle.plain_text.specs.Plain.{plain}
 use Rattle.plain_text.specs.PlainLaws.{plain-utf8}
-use Rattle.wire.specs.NameLaws.{plain_nul}
+use Rattle.wire.proofs.NameLaws.{plain_nul}
 use Rattle.rows_check.specs.Tree.{cell, row_count, names_from, next_section, skip, kinds, structs_from, labels_from}
 use Rattle.rows_check.specs.Check.{both, every, clean, name_kind, section_in_place, walk, rises_at}
 use Rattle.rows_check.specs.CheckLaws.{every-none, every-next, every-all, InPlace, Places, Formed, next_more}

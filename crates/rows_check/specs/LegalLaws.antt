@@ -8,7 +8,7 @@ use Rattle.std.proofs.Math.ListN.{length}
 use Rattle.std.proofs.lemmas.List.{length-replicate}
 use Rattle.std.proofs.Math.Dec.{leb}
 use borrow.Author.Tests.{ne_eqb, leb-true, ltb-true, le-leb}
-use Rattle.codec.specs.Laws.{bytes_take}
+use Rattle.codec.proofs.Laws.{bytes_take}
 use Rattle.codec.specs.Codec.{Bytes, Codec, TimesLegal}
 use Rattle.text.specs.Utf8.{utf8}
 use Rattle.wire.specs.Reader.{all_tests}

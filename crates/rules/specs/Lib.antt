@@ -4,5 +4,4 @@ pub mod RowRules
 pub mod RowRuleLaws
 pub mod LayoutRules
 pub mod LayoutRuleLaws
-pub mod RefusalLaws
 pub mod Single

@@ -6,8 +6,8 @@ use Rattle.std.proofs.Math.Bool.{true, false}
 use Rattle.refusal.specs.declared.Refusal.{Refusal}
 use Rattle.codec.specs.Codec.{ok, refuse, ◌>>=◌, need, is_nil}
 use Rattle.codec.specs.Refusals.{Gives, In, Within, ends}
-use Rattle.codec.specs.PlaceLaws.{within-is, within-then, within_test}
-use Rattle.codec.specs.RefusalLaws.{in_more, gives_more, gives_is, gives_then, gives_test}
+use Rattle.codec.proofs.PlaceLaws.{within-is, within-then, within_test}
+use Rattle.codec.proofs.RefusalLaws.{in_more, gives_more, gives_is, gives_then, gives_test}
 use Rattle.symbology_format.specs.Symbology.{unspanned}
 use Rattle.symbology_rows.specs.Reader.{symbology_of}
 use Rattle.symbology_rows.specs.RefusalLaws.{rows_numbers, symbology_gives, symbology-within}

@@ -3,11 +3,6 @@ pub mod SymbologyRows
 pub mod ParseLaws
 pub mod Contents
 pub mod DateLaws
-pub mod LenientLaws
 pub mod SymbologyFaults
-pub mod EachRowLaws
-pub mod SpanLaws
-pub mod NameLaws
-pub mod PrintLaws
 pub mod RowParts
 pub mod WidthLaws

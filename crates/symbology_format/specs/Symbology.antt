@@ -3,8 +3,8 @@
 use Rattle.std.specs.Prelude.{ℕ, ◌+◌, ◌≤◌, refl, Bool, true, List, length}
 use Rattle.std.proofs.Common.{arith, length-append}
 use Rattle.codec.specs.Codec
-use Rattle.codec.specs.Laws.{length-little}
-use Rattle.codec.specs.Format.{Format, ◌then◌, named, placed, raw_tests, num_test, asks, limited}
+use Rattle.codec.proofs.Laws.{length-little}
+use Rattle.codec.proofs.Format.{Format, ◌then◌, named, placed, raw_tests, num_test, asks, limited}
 
 -- what refuses a section that its contents do not span
 abbrev pub unspanned : ℕ

@@ -1,6 +1,6 @@
 -- The rows of a symbology have six numbers each. Assumes nothing.
 use Rattle.std.specs.Prelude.{ℕ, refl, List, [], ◌∷◌, ◌++◌}
-use Rattle.table.specs.TableLaws.{Wide, wide-append, wide-map, wide_from}
+use Rattle.table.proofs.TableLaws.{Wide, wide-append, wide-map, wide_from}
 use Rattle.symbology_format.specs.Symbology.{Symbol, Symbology}
 use Rattle.symbology_format.specs.SymbologyRows.{symbology_rows, list_row, list_rows, mapping_rows, interval_row}
 

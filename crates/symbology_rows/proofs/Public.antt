@@ -14,7 +14,7 @@ use Rattle.text.specs.Utf8.{utf8}
 use Rattle.padded.specs.Padded.{nul_padded}
 use Rattle.dates.specs.Date.{is_date}
 use Rattle.table.specs.Table.{put_columns, said, answer, fill, Fills, Ran}
-use Rattle.table.specs.ColumnLaws.{fill-columns}
+use Rattle.table.proofs.ColumnLaws.{fill-columns}
 use Rattle.numbers.specs.declared.Got.{Got}
 use Rattle.numbers.specs.declared.Got.TheVariants.{Value}
 use Rattle.numbers.specs.declared.Got.TheVariants as Got'
@@ -23,7 +23,7 @@ use Rattle.symbology_format.specs.Symbology.{Symbology}
 use Rattle.symbology_format.specs.SymbologyRows.{symbology_rows}
 use Rattle.symbology_rows.specs.Reader.{symbology_at, symbology_of}
 use Rattle.symbology_rows.specs.Answers.{found, rows_answer, rows_table, RowsPromise}
-use Rattle.symbology_format.specs.LenientLaws.{no-tests}
+use Rattle.symbology_format.proofs.LenientLaws.{no-tests}
 use Rattle.symbology_rows.specs.ReadLaws.{symbology-parse}
 use Rattle.symbology_format.specs.WidthLaws.{rows-of-six}
 use Rattle.symbology_rows.specs.declared.Found.TheVariants as Found'

@@ -12,7 +12,7 @@ use borrow.Author.Tests.{le-leb, lt-leb, leb-true}
 use Rattle.codec.specs.Lenient.{lax}
 use Rattle.refusal.specs.declared.Refusal.{Refusal}
 use Rattle.codec.specs.Codec.{Res, ok, refuse, refusal, ◌>>=◌, need, num, named, checked, placed, limited, asks, ◌then◌, times_parse}
-use Rattle.codec.specs.StepLaws.{raw_got, raw-bad, times-length}
+use Rattle.codec.proofs.StepLaws.{raw_got, raw-bad, times-length}
 use Rattle.codec.specs.CaseLaws.{by_bool, by_le}
 use Rattle.text.specs.Utf8.{utf8}
 use Rattle.text.specs.Ascii.{ascii}

@@ -7,7 +7,7 @@ use Rattle.refusal.specs.declared.Refusal.{Refusal}
 use Rattle.codec.specs.Codec.{refuse, refusal}
 use Rattle.codec.specs.CaseLaws.{by_bool}
 use Rattle.codec.specs.Refusals.{Gives, In, Within, tells}
-use Rattle.codec.specs.RefusalLaws.{in_more, gives_is, gives_by}
+use Rattle.codec.proofs.RefusalLaws.{in_more, gives_is, gives_by}
 use Rattle.text.specs.Utf8.{utf8}
 use Rattle.padded.specs.Padded.{nul_padded}
 use Rattle.dates.specs.Date.{is_date}

@@ -3,7 +3,7 @@ use Rattle.std.specs.Prelude.{ℕ, zero, suc, ◌+◌, ◌*◌, ◌≤◌, ◌<�
 use Rattle.std.proofs.Common.{mul-zero, mul-suc, arith, ap, ◌∙◌, append_assoc, length-append, get_or-append-add}
 use Rattle.std.proofs.Math.ListN.{get_or-append}
 use Rattle.codec.specs.Codec.{Codec, TimesEach}
-use Rattle.codec.specs.Laws.{Part}
+use Rattle.codec.proofs.Laws.{Part}
 use Rattle.table.specs.Table.{flat, all_rows, From, each_from}
 
 -- Q holds of every row

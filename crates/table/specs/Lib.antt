@@ -1,9 +1,7 @@
 pub mod Table
 pub mod ReadingLaws
 pub mod EachLaws
-pub mod TableLaws
 pub mod Columns
-pub mod ColumnLaws
 pub mod PartLaws
 pub mod FromLaws
 pub mod StepLaws

@@ -4,12 +4,12 @@ use Rattle.std.proofs.Common.{subst, arith}
 use Rattle.refusal.specs.declared.Refusal.{Refusal}
 use Rattle.codec.specs.Codec.{Res, ok, refuse, refusal, Codec}
 use Rattle.codec.specs.Refusals.{In, Gives}
-use Rattle.codec.specs.RefusalLaws.{in_more}
+use Rattle.codec.proofs.RefusalLaws.{in_more}
 use Rattle.layout.specs.Layout.{Fields, Label, Layout}
 use Rattle.layout.specs.LayoutOf.{entry, label, record_l, struct_l, label_def}
 use Rattle.layout.specs.NameCountLaws.{AllOf}
 use Rattle.rules.specs.Rules.{ruled_numbers, ruled_of}
-use Rattle.rules.specs.RefusalLaws.{ruled_gives}
+use Rattle.rules.proofs.RefusalLaws.{ruled_gives}
 use Rattle.tidy.specs.declared.Tidy.TheVariants.{Refused}
 use Rattle.tidy.specs.Tidy.{leftover, nonzero, each_from, in_entry, in_fields, in_labels, in_record, in_struct, in_label_def, structs_at, labels_at, untidy, first_of, told, tidy_of, untidy_numbers, tidy_numbers}
 

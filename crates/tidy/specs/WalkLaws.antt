@@ -9,7 +9,7 @@ use Rattle.std.proofs.Math.ListN.{length, get_or, length-append}
 use Rattle.std.proofs.lemmas.Bool.{lt-leb}
 use Rattle.refusal.specs.declared.Refusal.{Refusal}
 use Rattle.codec.specs.Codec.{refusal, Bytes, Codec, little, times_print, TimesLegal}
-use Rattle.codec.specs.Laws.{Here, here-left, here-right}
+use Rattle.codec.proofs.Laws.{Here, here-left, here-right}
 use Rattle.codec.specs.CaseLaws.{by_bool}
 use Rattle.numbers.specs.Numbers.{le16}
 use Rattle.wire.specs.Formats.{Name}

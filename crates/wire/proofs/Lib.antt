@@ -1,1 +1,5 @@
+pub mod NameLaws
+pub mod StepLaws
+pub mod LenientLaws
+pub mod RefusalLaws
 pub mod Scan

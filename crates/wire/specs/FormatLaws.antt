@@ -4,7 +4,7 @@ use Rattle.std.proofs.Common.{arith, ◌∙◌}
 use Rattle.std.proofs.Math.Path.{refl}
 use mathlib.Core.List.{List, [], ◌∷◌, ◌++◌, append-nil}
 use Rattle.codec.specs.Codec.{Bytes, little, raw, fixed, named, checked, placed, sized, boxed, ◌then◌}
-use Rattle.codec.specs.Format.{Format}
+use Rattle.codec.proofs.Format.{Format}
 use Rattle.wire.specs.Formats.{Name, Tests, section, text_of, text, name}
 
 module _ {A : Type 0} (F : Format A false) where

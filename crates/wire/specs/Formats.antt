@@ -4,7 +4,7 @@ use Rattle.std.specs.Prelude.{ℕ, refl, Bool, true, false, not, List}
 use Rattle.std.proofs.Math.ListN.{length}
 use Rattle.codec.specs.Codec
 use Rattle.codec.specs.Codec.{among}
-use Rattle.codec.specs.Format.{Format, raw, num, closed, named, checked, placed, sized, boxed}
+use Rattle.codec.proofs.Format.{Format, raw, num, closed, named, checked, placed, sized, boxed}
 
 -- `start` is the place of the first byte of the text, counted from the layout
 pub record Name : Type 0 where

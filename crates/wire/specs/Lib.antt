@@ -1,9 +1,5 @@
 pub mod Formats
 pub mod FormatLaws
 pub mod Reader
-pub mod NameLaws
 pub mod SectionLaws
-pub mod StepLaws
-pub mod LenientLaws
-pub mod RefusalLaws
 pub mod Single

@@ -4,7 +4,7 @@ use Rattle.std.specs.Prelude.{ℕ, ◌+◌, ◌≤◌, Bool, List, [], ◌∷◌
 use Rattle.refusal.specs.declared.Refusal.{Refusal}
 use Rattle.codec.specs.Codec.{fault_of, Codec}
 use Rattle.codec.specs.Lenient.{lax}
-use Rattle.codec.specs.Format.{raw}
+use Rattle.codec.proofs.Format.{raw}
 use Rattle.text.specs.Utf8.{utf8}
 use Rattle.numbers.specs.Numbers.{got_of}
 use Rattle.wire.specs.Formats

@@ -8,9 +8,9 @@ use Rattle.std.proofs.Math.ListN.{drop}
 use borrow.Author.Tests.{le-leb, lt-leb}
 use Rattle.refusal.specs.declared.Refusal.{Refusal}
 use Rattle.codec.specs.Codec.{Res, ok, refuse, refusal, shifted, ◌>>=◌, raw, whole, boxed}
-use Rattle.codec.specs.Format as format
-use Rattle.codec.specs.Format.{Format}
-use Rattle.codec.specs.StepLaws.{raw_got, raw-bad}
+use Rattle.codec.proofs.Format as format
+use Rattle.codec.proofs.Format.{Format}
+use Rattle.codec.proofs.StepLaws.{raw_got, raw-bad}
 use Rattle.codec.specs.CaseLaws.{by_le}
 use Rattle.numbers.specs.Numbers.{u16_at, part}
 use Rattle.numbers.specs.NumberLaws.{num-is, u16-value}

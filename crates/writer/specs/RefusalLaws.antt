@@ -8,9 +8,9 @@ use Rattle.std.proofs.lemmas.Bool.{eqb-false}
 use Rattle.refusal.specs.declared.Refusal.{Refusal}
 use Rattle.codec.specs.Codec.{refusal}
 use Rattle.codec.specs.Refusals.{In, Fault}
-use Rattle.codec.specs.RefusalLaws.{in_more}
+use Rattle.codec.proofs.RefusalLaws.{in_more}
 use Rattle.rules.specs.RowRules.{row_rule_numbers, rows_fault}
-use Rattle.rules.specs.RefusalLaws.{rows-refuse}
+use Rattle.rules.proofs.RefusalLaws.{rows-refuse}
 use Rattle.rows_check.specs.Check.{printed}
 use Rattle.writer.specs.Write.{roomy, write_numbers, write_layout, Writes}
 use Rattle.writer.specs.declared.Written.{Written}

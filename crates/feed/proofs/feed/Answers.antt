@@ -2,9 +2,9 @@
 -- Assumes nothing.
 use borrow.Author.Rules.{rules}
 use native.Mathlib.Omega.{arith}
-use Rattle.held.specs.StageLaws.{pour_fits, two_pours}
+use Rattle.held.proofs.StageLaws.{pour_fits, two_pours}
 use Rattle.feed.specs.Feeding.{start}
-use Rattle.feed.specs.StageLaws.{start-law, fed}
+use Rattle.feed.proofs.StageLaws.{start-law, fed}
 use Rattle.feed.proofs.feed.Goals as goal
 
 pub overflow_add-first : goal.overflow_add-first

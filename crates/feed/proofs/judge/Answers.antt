@@ -3,9 +3,9 @@
 use borrow.Author.Rules.{rules}
 use native.Mathlib.Omega.{arith}
 use mathlib.Core.Path.{sym, ap, ◌∙◌}
-use Rattle.held.specs.StageLaws.{is_whole}
+use Rattle.held.proofs.StageLaws.{is_whole}
 use Rattle.feed.specs.Feeding.{start, block_says, answer_at, symbology_at, layout_at}
-use Rattle.feed.specs.StageLaws.{start-law, judged-whole}
+use Rattle.feed.proofs.StageLaws.{start-law, judged-whole}
 use Rattle.feed.proofs.judge.Goals as goal
 
 pub slice_bounds-read_block-count : goal.slice_bounds-read_block-count

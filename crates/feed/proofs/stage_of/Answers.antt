@@ -7,7 +7,7 @@ use mathlib.Core.Path.{sym, ap, ◌∙◌}
 use lib.ListN.{length}
 use lib.Seq.{length-take-le}
 use Rattle.held.specs.Held.{within}
-use Rattle.held.specs.StageLaws.{stage_beyond, stage-small, stage_in, bounded-short}
+use Rattle.held.proofs.StageLaws.{stage_beyond, stage-small, stage_in, bounded-short}
 use Rattle.feed.specs.Feeding.{announced, start}
 use Rattle.feed.proofs.stage_of.Goals as goal
 

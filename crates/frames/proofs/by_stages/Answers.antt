@@ -2,10 +2,10 @@
 -- Assumes nothing.
 use borrow.Author.Rules.{rules}
 use native.Mathlib.Omega.{arith}
-use Rattle.held.specs.StageLaws.{pour_fits, two_pours}
+use Rattle.held.proofs.StageLaws.{pour_fits, two_pours}
 use Rattle.frames.specs.Frames.{frame}
-use Rattle.frames.specs.HeaderLaws.{frame-law}
-use Rattle.frames.specs.FramingLaws.{framed}
+use Rattle.frames.proofs.HeaderLaws.{frame-law}
+use Rattle.frames.proofs.FramingLaws.{framed}
 use Rattle.frames.proofs.by_stages.Goals as goal
 
 pub overflow_add-first : goal.overflow_add-first

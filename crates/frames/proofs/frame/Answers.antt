@@ -4,8 +4,8 @@ use borrow.Author.Rules.{rules}
 use native.Mathlib.Omega.{arith}
 use mathlib.Core.Path.{sym, subst, ◌∙◌}
 use lib.ListN.{length}
-use Rattle.frames.specs.AtOnceLaws.{AtOnce, at_once, put-at-once}
-use Rattle.frames.specs.FramingLaws.{framed-at-once}
+use Rattle.frames.proofs.AtOnceLaws.{AtOnce, at_once, put-at-once}
+use Rattle.frames.proofs.FramingLaws.{framed-at-once}
 use Rattle.frames.proofs.frame.Goals as goal
 
 pub bounds-piece-1 : goal.bounds-piece-1

@@ -3,9 +3,9 @@
 use borrow.Author.Rules.{rules}
 use native.Mathlib.Omega.{arith}
 use mathlib.Core.Path.{sym, ◌∙◌}
-use Rattle.held.specs.StageLaws.{stage_beyond, stage-small, stage-head}
+use Rattle.held.proofs.StageLaws.{stage_beyond, stage-small, stage-head}
 use Rattle.frames.specs.Frames.{frame}
-use Rattle.frames.specs.HeaderLaws.{frame-law, bad-held, good-held}
+use Rattle.frames.proofs.HeaderLaws.{frame-law, bad-held, good-held}
 use Rattle.frames.proofs.stage_of.Goals as goal
 
 pub returns-then-room-held : goal.returns-then-room-held

@@ -3,7 +3,7 @@
 use borrow.Author.Rules.{rules}
 use native.Mathlib.Omega.{arith}
 use mathlib.Core.Path.{sym}
-use Rattle.frames.specs.AtOnceLaws.{none-header, none-length, none-frame, none-room, some-frame}
+use Rattle.frames.proofs.AtOnceLaws.{none-header, none-length, none-frame, none-room, some-frame}
 use Rattle.frames.proofs.whole_in.Goals as goal
 
 pub returns-then-there-lt-RECORD_HEADER_LEN : goal.returns-then-there-lt-RECORD_HEADER_LEN

@@ -3,7 +3,7 @@
 use borrow.Author.Rules.{rules}
 use native.Mathlib.Omega.{arith}
 use mathlib.Core.Path.{sym, ◌∙◌}
-use Rattle.held.specs.StageLaws.{bounded-short, bounded_beyond, bounded-rest, bounded-whole}
+use Rattle.held.proofs.StageLaws.{bounded-short, bounded_beyond, bounded-rest, bounded-whole}
 use Rattle.held.proofs.bounded.Goals as goal
 
 pub returns-then-room-len : goal.returns-then-room-len

@@ -6,7 +6,7 @@ use lib.Seq.{length-take-le}
 use Rattle.codec.specs.Codec.{among}
 use Rattle.text.specs.Utf8.{utf8}
 use Rattle.text.specs.Utf8Laws.{utf8-trimmed}
-use Rattle.padded.specs.PaddedLaws.{trimmed-no_nul}
+use Rattle.padded.proofs.PaddedLaws.{trimmed-no_nul}
 use Rattle.padded.specs.PaddedAnswer.{told}
 use Rattle.padded.specs.PaddedAnswerLaws.{padded-ascii}
 use Rattle.text.specs.TrimLaws.{trimmed-le}

@@ -6,7 +6,7 @@ use mathlib.Core.Path.{refl, sym, ap, ◌∙◌}
 use borrow.Author.Rules.{rules}
 use borrow.Author.Tests.{le-leb, lt-leb}
 use lib.ListN.{get_or}
-use Rattle.prelude.specs.PreludeLaws.{length_of, magic_yes, magic-no, prelude-few, prelude-is}
+use Rattle.prelude.proofs.PreludeLaws.{length_of, magic_yes, magic-no, prelude-few, prelude-is}
 use Rattle.prelude.specs.declared.Stage.TheVariants.{Whole}
 use Rattle.prelude.proofs.prelude.Goals as goal
 

@@ -1,7 +1,7 @@
 -- Stored where there is room.
 -- Assumes nothing.
 use mathlib.Core.Path.{sym, ◌∙◌}
-use Rattle.codec.specs.Laws.{length-little}
+use Rattle.codec.proofs.Laws.{length-little}
 use Rattle.put.specs.OutputLaws.{room-told, wrote_stored, stored_short}
 use borrow.Author.Rules.{rules}
 use Rattle.put.proofs.put_little.Goals as goal

@@ -3,7 +3,7 @@ use Prim.Native.Nat.{◌-◌}
 use native.Mathlib.Omega.{arith}
 use mathlib.Core.Path.{refl}
 use Rattle.table.specs.ReadingLaws.{put-not, put-none}
-use Rattle.table.specs.TableLaws.{row_fits_lem}
+use Rattle.table.proofs.TableLaws.{row_fits_lem}
 use Rattle.table.proofs.Putting.{Putting, put_next, put-done}
 use Rattle.table.proofs.put_row.Given as goal
 

@@ -2,7 +2,7 @@
 use native.Mathlib.Omega.{arith}
 use Rattle.numbers.specs.Numbers.{refused}
 use Rattle.numbers.specs.NumberLaws.{past-mk}
-use Rattle.wire.specs.NameLaws.{name-none-at, name-cut-at, name-bad-at, name-end-at, name_open_at, name_got_at}
+use Rattle.wire.proofs.NameLaws.{name-none-at, name-cut-at, name-bad-at, name-end-at, name_open_at, name_got_at}
 use borrow.Author.Rules.{rules}
 use Rattle.wire.proofs.name_in.Goals as goal
 

@@ -4,7 +4,7 @@ use mathlib.Core.Path.{◌≡◌, sym, ap, ◌∙◌}
 use mathlib.Core.Bool.{Bool, false}
 use mathlib.Core.List.{List}
 use Rattle.wire.specs.Reader.{all_tests, tests_of, text_fault}
-use Rattle.wire.specs.NameLaws.{text_52, text_53, text-fine, text-plain, text_light}
+use Rattle.wire.proofs.NameLaws.{text_52, text_53, text-fine, text-plain, text_light}
 use borrow.Author.Rules.{rules}
 use Rattle.wire.proofs.text_fault.Goals as goal
 

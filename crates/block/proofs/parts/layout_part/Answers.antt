@@ -3,7 +3,7 @@ use mathlib.Core.Path.{sym, ◌∙◌}
 use native.Mathlib.Omega.{arith}
 use Rattle.numbers.specs.NumberLaws.{part-place}
 use Rattle.layout.specs.AnswerLaws.{verdict-no}
-use Rattle.rules.specs.RefusalLaws.{ruled-within}
+use Rattle.rules.proofs.RefusalLaws.{ruled-within}
 use Rattle.block.specs.Parts.{lays-no}
 use Rattle.block.proofs.PartLaws.{within-at, layout-cut, lays_26, lays_25, lays-none, lays-bad, lays-ok}
 use borrow.Author.Rules.{rules}

@@ -1,7 +1,7 @@
 -- 81 and 82 by marks. Assumes nothing.
 use mathlib.Core.Path.{ap}
 use lib.ListN.{length}
-use Rattle.plain_tiling.specs.MarkingLaws.{base_81, base_82, base_0}
+use Rattle.plain_tiling.proofs.MarkingLaws.{base_81, base_82, base_0}
 use Rattle.item_rules.proofs.by_marks.base_by_marks.Goals as goal
 
 pub side_end-end-requires : goal.side_end-end-requires

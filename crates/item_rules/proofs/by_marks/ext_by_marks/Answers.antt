@@ -1,7 +1,7 @@
 -- 83 by marks. Assumes nothing.
 use mathlib.Core.Path.{ap}
 use lib.ListN.{length}
-use Rattle.plain_tiling.specs.MarkingLaws.{ext_83, ext_0}
+use Rattle.plain_tiling.proofs.MarkingLaws.{ext_83, ext_0}
 use Rattle.item_rules.proofs.by_marks.ext_by_marks.Goals as goal
 
 pub side_end-end-requires : goal.side_end-end-requires

@@ -2,7 +2,7 @@
 use mathlib.Core.Path.{ap, ◌∙◌}
 use lib.ListN.{length}
 use borrow.Author.Rules.{rules}
-use Rattle.plain_tiling.specs.MarkingLaws.{marked-back, end-clash, end_gap, end-fine}
+use Rattle.plain_tiling.proofs.MarkingLaws.{marked-back, end-clash, end_gap, end-fine}
 use Rattle.item_rules.proofs.by_marks.side_end.Goals as goal
 
 pub shape_of-owners-then-m : goal.shape_of-owners-then-m

@@ -4,7 +4,7 @@ use lib.ListN.{length-replicate}
 use lib.Dec.{lit≤}
 use mathlib.Core.Path.{sym}
 use borrow.Author.Rules.{rules}
-use Rattle.plain_tiling.specs.MarkingLaws.{unowned}
+use Rattle.plain_tiling.proofs.MarkingLaws.{unowned}
 use Rattle.item_rules.specs.TriedLaws.{tried-all}
 use Rattle.item_rules.proofs.items.rules_marked.Goals as goal
 

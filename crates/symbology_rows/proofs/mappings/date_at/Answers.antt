@@ -2,7 +2,7 @@
 use native.Mathlib.Omega.{arith}
 use mathlib.Core.Path.{sym, subst, ◌∙◌}
 use borrow.Author.Rules.{rules}
-use Rattle.codec.specs.LenientLaws.{lax-out, lax_in}
+use Rattle.codec.proofs.LenientLaws.{lax-out, lax_in}
 use Rattle.dates.specs.Date.{is_date}
 use Rattle.dates.specs.Months.{Right}
 use Rattle.dates.specs.MonthLaws.{date-right, right_tested}

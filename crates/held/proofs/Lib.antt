@@ -1,0 +1,9 @@
+pub mod StageLaws
+pub mod AloneLaws
+pub mod NeededLaws
+pub mod BytewiseLaws
+pub mod LeastLaws
+pub mod NeverPastLaws
+pub mod PieceLaws
+pub mod RefusalLaws
+pub mod StreamLaws

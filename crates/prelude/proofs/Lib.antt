@@ -1,0 +1,3 @@
+pub mod PreludeLaws
+pub mod PrintLaws
+pub mod RefusalLaws
