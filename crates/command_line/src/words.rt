@@ -1,11 +1,14 @@
 // Texts by number: before each entry of a text stand a line's end and the entry's two digits.
 ghost use Rattle.std.specs.Prelude.{◌≤◌, length};
 
+use std::io;
+use std::io::Write;
+
 // Writes the entry of number n up to its line's end; nothing where there is none.
-pub fn say(fd: i32, text: &[u8], n: u64) {
+pub fn say(out: &mut impl Write, text: &[u8], n: u64) -> io::Result<()> {
     let start = find(text, n);
     let end = line_end(text, start);
-    io::write_all(fd, &text[start..end]);
+    out.write_all(&text[start..end])
 }
 
 // The place of the entry of number n, or the text's end. Two digits count 48 each as ASCII, 528 in all.
