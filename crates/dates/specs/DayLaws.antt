@@ -450,9 +450,9 @@ module _ (n : ℕ) (e : is_date n ≡ true) where
 
   pub day-after : day_of (date_after n) ≡ day_of n + 1
   unfolding day_of
-  day-after = ap day_of after.written-so ∙ written_day after.year after.month after.day after.small.0 after.small.1 ∙ after.more
+  day-after = ap day_of after.written_so ∙ written_day after.year after.month after.day after.small.0 after.small.1 ∙ after.more
 
   pub after-dated : n < 99991231 → is_date (date_after n) ≡ true
   after-dated h =
-      ap is_date after.written-so ∙ written after.year after.month after.day after.small.0 after.small.1
+      ap is_date after.written_so ∙ written after.year after.month after.day after.small.0 after.small.1
       ∙ is-dated after.year after.month after.day (after.dated h)

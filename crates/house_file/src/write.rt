@@ -7,8 +7,8 @@ ghost use Rattle.house_file.specs.PackLaws.{body};
 
 // Stores the bytes of s as n blocks, and answers how long they are.
 pub(crate) fn put_blocks(out: &mut [u8], s: &[u8], n: usize) -> usize
-    requires n_in_bounds { (504 * n < length s.now + 504) × (length s.now ≤ 504 * n) × (n ≤ 65536) }
-    requires n_in_bounds_2 { 512 * n ≤ length out.old }
+    requires blocks { (504 * n < length s.now + 504) × (length s.now ≤ 504 * n) × (n ≤ 65536) }
+    requires room { 512 * n ≤ length out.old }
     ensures { Wrote 0 (times_print block.codec (blocks_from n 0 s.now)) out.old out.new result }
 {
     let mut at = 0;

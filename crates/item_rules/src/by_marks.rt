@@ -126,7 +126,7 @@ pub(crate) fn too_few(layout: &[u8], rows: &[u32], src: Source, frame: Frame, n:
     requires in_slice { InSlice layout.now rows.now src }
     requires passed { Passed frame.is_record frame.base (entries_of layout.now rows.now src) }
     ensures markable { result ≡ false → Markable n frame.is_record frame.base (entries_of layout.now rows.now src) }
-    ensures fact { result ≡ true → n ≡ 65536 → ⊥ }
+    ensures below_65536 { result ≡ true → n ≡ 65536 → ⊥ }
 {
     if n == 65536 {
         return false;

@@ -159,7 +159,7 @@ fn base_fault(layout: &[u8], rows: &[u32], src: Source, frame: Frame, k: usize, 
     requires in_slice { InSlice layout.now rows.now src }
     requires proper { Proper (spans frame.is_record frame.base false (entries_of layout.now rows.now src)) }
     requires none { None (spans frame.is_record frame.base false (entries_of layout.now rows.now src)) frame.base }
-    requires k_value { k ≡ length (spans frame.is_record frame.base false (entries_of layout.now rows.now src)) }
+    requires count { k ≡ length (spans frame.is_record frame.base false (entries_of layout.now rows.now src)) }
     ensures { Tried [] (base_fault frame.is_record frame.base (entries_of layout.now rows.now src)) result }
 {
     let c = chase(layout, rows, src, frame, false, 0, frame.base, spare);
@@ -180,7 +180,7 @@ fn ext_fault(layout: &[u8], rows: &[u32], src: Source, frame: Frame, k: usize, s
     requires in_slice { InSlice layout.now rows.now src }
     requires proper { Proper (spans frame.is_record frame.base true (entries_of layout.now rows.now src)) }
     requires base_bound { frame.base < 65536 }
-    requires k_value { k ≡ length (spans frame.is_record frame.base true (entries_of layout.now rows.now src)) }
+    requires count { k ≡ length (spans frame.is_record frame.base true (entries_of layout.now rows.now src)) }
     ensures { Tried [] (ext_fault frame.is_record frame.base (entries_of layout.now rows.now src)) result }
 {
     if k == 0 {

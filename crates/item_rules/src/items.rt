@@ -179,7 +179,7 @@ fn rules_in(
     owners: &mut [u16],
 ) -> u32
     requires good { Good layout.now rows.now false task.structs }
-    requires good_2 { Good layout.now rows.now true task.records }
+    requires good_records { Good layout.now rows.now true task.records }
     requires aligns_len { length aligns.old ≡ min task.structs.left 65536 }
     requires unowned { Unowned owners.old }
     ensures { Tried owners.old (task_fault sheet.now layout.now rows.now task) result }

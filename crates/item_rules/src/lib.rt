@@ -199,7 +199,7 @@ fn counted_rules(
     records: Place,
     how: How,
 ) -> u32
-    requires records_value { stands layout.now rows.now true records ≡ true }
+    requires records_stand { stands layout.now rows.now true records ≡ true }
     requires left_bound { structs.left < 65536 }
     ensures { result ≡ counted_fault sheet.now how.width layout.now rows.now structs records }
 {

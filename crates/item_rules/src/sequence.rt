@@ -88,7 +88,7 @@ fn fields_fault(
 ) -> Walked
     requires in_slice { InSlice layout.now rows.now src }
     requires marks { Marks marks.old [] }
-    ensures fault_value { result.fault ≡ fields_fault sheet.now frame.width frame.labels aligns.now frame.is_record frame.base [] (entries_of layout.now rows.now src) }
+    ensures fault { result.fault ≡ fields_fault sheet.now frame.width frame.labels aligns.now frame.is_record frame.base [] (entries_of layout.now rows.now src) }
     ensures only_ids { OnlyIds result.fault (entries_of layout.now rows.now src) marks.new }
     ensures in_turn { result.in_order ≡ true → InTurn frame.is_record frame.base 0 frame.base (entries_of layout.now rows.now src) result.end }
 {

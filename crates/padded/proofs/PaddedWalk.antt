@@ -4,7 +4,7 @@ use native.Mathlib.Nat.{zero-add, suc-add, add-zero, sub-zero, div-eq_of_lt, div
 use native.Mathlib.Numerals.{add-one}
 use native.Mathlib.Omega.{arith}
 use mathlib.Core.Path.{◌≡◌, refl, sym, ap, ◌∙◌}
-use mathlib.Core.Bool.{Bool, true, false, ◌&&◌, ◌||◌, or_assoc, or_false}
+use mathlib.Core.Bool.{Bool, true, false, ◌&&◌, ◌||◌, or_assoc, or-false}
 use mathlib.Core.List.{List, [], ◌∷◌}
 use lib.Dec.{ltb, eqb, eqb-suc-zero, eqb-zero-suc}
 use lib.ListN.{length, get_or, take, drop, length-drop, drop_of_length-le}
@@ -166,4 +166,4 @@ pub nul_next : (x : Bool) (s : List ℕ) (j : ℕ) → j < length s
 nul_next x s j h = rw (add-one, drop-cons s j 0, same-zero (get_or s j 0)) (sym (or_assoc x (eqb 0 (get_or s j 0)) (among 0 (drop (suc j) s))))
 
 pub nul_end : (x : Bool) (s : List ℕ) (j : ℕ) → length s ≤ j → (x || among 0 (drop j s)) ≡ x
-nul_end x s j h = rw (drop_of_length-le s h) (or_false x)
+nul_end x s j h = rw (drop_of_length-le s h) (or-false x)

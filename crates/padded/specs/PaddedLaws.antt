@@ -23,20 +23,20 @@ nuls-of (suc n) = nuls-of n
 -- n is the name of s: s without the NULs at its end; it holds no NUL; filled up with NULs it is s again
 pub record Name (s n : List ℕ) : Type 0 where
   pub is : take (trimmed_len s) s ≡ n
-  pub no_nul_lem : among 0 n ≡ false
+  pub no_nul : among 0 n ≡ false
   pub filled : n ++ replicate (length s - length n) 0 ≡ s
 
 -- the name is the bytes before the first NUL
 pub padded-name : (s : List ℕ) → nul_padded s ≡ true → Name s (before_nul s)
-padded-name [] e = record { is = refl; no_nul_lem = refl; filled = refl }
+padded-name [] e = record { is = refl; no_nul = refl; filled = refl }
 padded-name (zero ∷ s) e =
     let same = nuls-are (zero ∷ s) e in
-    record { is = ap (λ t. take (trimmed_len t) (0 ∷ s)) same ∙ ap (λ n. take n (0 ∷ s)) (zeros-trimmed (suc (length s))); no_nul_lem = refl; filled = rw (sub-zero (suc (length s))) (sym same) }
+    record { is = ap (λ t. take (trimmed_len t) (0 ∷ s)) same ∙ ap (λ n. take n (0 ∷ s)) (zeros-trimmed (suc (length s))); no_nul = refl; filled = rw (sub-zero (suc (length s))) (sym same) }
 padded-name (suc b ∷ s) e =
     let rest = padded-name s e in
     record {
       is = first (trimmed_len s) ∙ ap (λ t. suc b ∷ t) rest.is;
-      no_nul_lem = rw (eqb-zero-suc b) rest.no_nul;
+      no_nul = rw (eqb-zero-suc b) rest.no_nul;
       filled = ap (λ t. suc b ∷ t) (shift (length s) (length (before_nul s)) ∙ rest.filled);
     }
   where

@@ -53,7 +53,7 @@ fn all_within(table: &[u32; 54], rows: &[u32], text: &[u8]) -> bool
 
 // 90 to 93, of one row.
 fn row_good(table: &[u32; 54], rows: &[u32], text: &[u8], q: usize) -> bool
-    requires table_value { table.now ≡ limits }
+    requires limits_of { table.now ≡ limits }
     requires q_in_bounds { 9 * (q + 1) ≤ length rows.now }
     ensures { result ≡ row_good rows.now text.now q }
 {
@@ -108,7 +108,7 @@ fn row_test(which: usize, rows: &[u32], text: &[u8], q: usize) -> bool
 
 // 90: the row is of a kind, its numbers fit, and its span lies in the text.
 fn row_fits(table: &[u32; 54], rows: &[u32], text: &[u8], q: usize) -> bool
-    requires table_value { table.now ≡ limits }
+    requires limits_of { table.now ≡ limits }
     requires q_in_bounds { 9 * (q + 1) ≤ length rows.now }
     ensures { result ≡ row_fits rows.now text.now q }
 {
@@ -129,7 +129,7 @@ fn row_fits(table: &[u32; 54], rows: &[u32], text: &[u8], q: usize) -> bool
 }
 
 fn limit_of(table: &[u32; 54], kind: usize, j: usize) -> usize
-    requires table_value { table.now ≡ limits }
+    requires limits_of { table.now ≡ limits }
     requires le_kind { (10 ≤ kind) × ((kind ≤ 15) × (j < 9)) }
     ensures { result ≡ limit_of kind j }
 {
@@ -138,7 +138,7 @@ fn limit_of(table: &[u32; 54], kind: usize, j: usize) -> usize
 
 // Each of the row's numbers is within its limit: the eight are compared without a branch.
 fn numbers_fit(table: &[u32; 54], rows: &[u32], q: usize, kind: usize) -> bool
-    requires table_value { table.now ≡ limits }
+    requires limits_of { table.now ≡ limits }
     requires le_kind { (10 ≤ kind) × (kind ≤ 15) }
     requires q_in_bounds { 9 * (q + 1) ≤ length rows.now }
     ensures { result ≡ every (number_fits rows.now q kind) 1 8 }

@@ -53,9 +53,9 @@ pub fn layout_size(rows: &[u32], text: &[u8], whole: bool) -> Sized
 
 // How long the layout is that well-formed rows make; or 91 to 95.
 fn whole_size(good: bool, rows: &[u32], text: &[u8], r: usize, s: usize, l: usize) -> Sized
-    requires r_value { (r ≡ kinds rows.now 10) × ((s ≡ kinds rows.now 13) × (l ≡ kinds rows.now 14)) }
-    requires good_value { good ≡ every (row_good rows.now text.now) 0 (row_count rows.now) }
-    requires text_value { well_formed rows.now text.now ≡ true }
+    requires counts { (r ≡ kinds rows.now 10) × ((s ≡ kinds rows.now 13) × (l ≡ kinds rows.now 14)) }
+    requires judged { good ≡ every (row_good rows.now text.now) 0 (row_count rows.now) }
+    requires formed { well_formed rows.now text.now ≡ true }
     ensures { result ≡ sized_of true rows.now text.now }
 {
     if !order::counts_fit(good, rows, text, r, s, l) {

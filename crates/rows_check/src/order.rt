@@ -119,7 +119,7 @@ pub(crate) fn counts_fit(
     s: usize,
     l: usize,
 ) -> bool
-    requires r_value { (r ≡ kinds rows.now 10) × ((s ≡ kinds rows.now 13) × (l ≡ kinds rows.now 14)) }
+    requires counts { (r ≡ kinds rows.now 10) × ((s ≡ kinds rows.now 13) × (l ≡ kinds rows.now 14)) }
     requires all_good { AllGood good 91 rows.now text.now }
     ensures { result ≡ counts_fit rows.now text.now }
 {
@@ -144,7 +144,7 @@ fn groups_fit(r: usize, s: usize, l: usize) -> bool
 // 95: of two labels one after the other the second has the larger code. Before row `from` this is known.
 pub(crate) fn labels_rise(rows: &[u32], from: usize) -> bool
     requires from_bound { from ≤ row_count rows.now }
-    requires from_value { every (rises_at rows.now) 0 from ≡ true }
+    requires risen { every (rises_at rows.now) 0 from ≡ true }
     ensures { result ≡ every (rises_at rows.now) 0 (row_count rows.now - 1) }
 {
     let mut p: usize = from;

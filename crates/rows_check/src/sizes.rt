@@ -19,10 +19,10 @@ pub(crate) struct Counted {
 
 // The length of the layout, or 2^32 where it or a section is too long; and the row of the first label def.
 pub(crate) fn total_size(rows: &[u32], text: &[u8], r: usize, s: usize, l: usize) -> Counted
-    requires r_value { (r ≡ kinds rows.now 10) × ((s ≡ kinds rows.now 13) × (l ≡ kinds rows.now 14)) }
+    requires counts { (r ≡ kinds rows.now 10) × ((s ≡ kinds rows.now 13) × (l ≡ kinds rows.now 14)) }
     requires sections { Sections 10 rows.now text.now 0 (kinds rows.now 10) }
-    requires sections_2 { Sections 13 rows.now text.now (structs_from rows.now) (kinds rows.now 13) }
-    requires sections_3 { Sections 14 rows.now text.now (labels_from rows.now) (kinds rows.now 14) }
+    requires struct_sections { Sections 13 rows.now text.now (structs_from rows.now) (kinds rows.now 13) }
+    requires label_sections { Sections 14 rows.now text.now (labels_from rows.now) (kinds rows.now 14) }
     ensures { (result.size ≡ size_of (sections_fit rows.now text.now) (size rows.now text.now)) × (result.row ≡ labels_from rows.now) }
 {
     let a = sections_size(kinds::RECORD, rows, text, 0, r, 8);

@@ -105,8 +105,8 @@ fn layout_rules(layout: &[u8], sheet: &[u16; 520], width: usize, by_marks: bool)
 
 // The rules of well-formed rows with so many records, structs and label defs: the first number that they give, or 0.
 fn formed_rules(rows: &[u32], text: &[u8], sheet: &[u16; 520], r: usize, s: usize, how: How) -> u32
-    requires text_value { well_formed rows.now text.now ≡ true }
-    requires r_value { (r ≡ kinds rows.now 10) × ((s ≡ kinds rows.now 13) × (how.labels ≡ kinds rows.now 14)) }
+    requires formed { well_formed rows.now text.now ≡ true }
+    requires counts { (r ≡ kinds rows.now 10) × ((s ≡ kinds rows.now 13) × (how.labels ≡ kinds rows.now 14)) }
     ensures { result ≡ rows_rules sheet.now how.width rows.now text.now }
 {
     let none = [0u8; 1];

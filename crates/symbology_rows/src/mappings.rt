@@ -217,7 +217,7 @@ fn interval_name(s: &[u8], at: usize, width: usize, light: bool) -> Got
 // The date at `at`; `why` at `at` where there is none. Where `light` holds, any number is one; so is `last`, a date before it.
 fn date_at(s: &[u8], at: usize, light: bool, why: u32, months: &mut [u64; 64], last: usize) -> Got
     requires right { Right months.old }
-    requires last_value { lax light is_date last ≡ true }
+    requires last_passed { lax light is_date last ≡ true }
     ensures { (result ≡ date_at light why s.now at) × Past 4294967296 4 s.now at result × Right months.new }
 {
     match numbers::u32_at(s, at, why) {

@@ -12,7 +12,7 @@ use rows_check::kinds;
 // The name of row q: length byte, bytes, one NUL.
 pub(crate) fn put_name(out: &mut [u8], at: usize, rows: &[u32], text: &[u8], q: usize) -> usize
     requires q_in_bounds { 9 * (q + 1) ≤ length rows.now }
-    requires q_in_bounds_2 { cell rows.now q 1 + cell rows.now q 2 ≤ length text.now }
+    requires text_in_bounds { cell rows.now q 1 + cell rows.now q 2 ≤ length text.now }
     requires room_for { RoomFor at (printed_name rows.now text.now q) out.old }
     ensures { Wrote at (printed_name rows.now text.now q) out.old out.new result }
 {
@@ -115,7 +115,7 @@ pub(crate) fn put_labels(
 // Code and name.
 fn put_label(out: &mut [u8], at: usize, rows: &[u32], text: &[u8], q: usize) -> usize
     requires q_in_bounds { 9 * (q + 1) ≤ length rows.now }
-    requires q_in_bounds_2 { cell rows.now q 1 + cell rows.now q 2 ≤ length text.now }
+    requires text_in_bounds { cell rows.now q 1 + cell rows.now q 2 ≤ length text.now }
     requires room_for { RoomFor at (printed_label rows.now text.now q) out.old }
     ensures { Wrote at (printed_label rows.now text.now q) out.old out.new result }
 {

@@ -26,10 +26,10 @@ pub(crate) fn put_layout(
     s: usize,
     l: usize,
 ) -> usize
-    requires r_value { (r ≡ kinds rows.now 10) × ((s ≡ kinds rows.now 13) × (l ≡ kinds rows.now 14)) }
+    requires counts { (r ≡ kinds rows.now 10) × ((s ≡ kinds rows.now 13) × (l ≡ kinds rows.now 14)) }
     requires sections { Sections 10 rows.now text.now 0 (kinds rows.now 10) }
-    requires sections_2 { Sections 13 rows.now text.now (structs_from rows.now) (kinds rows.now 13) }
-    requires sections_3 { Sections 14 rows.now text.now (labels_from rows.now) (kinds rows.now 14) }
+    requires struct_sections { Sections 13 rows.now text.now (structs_from rows.now) (kinds rows.now 13) }
+    requires label_sections { Sections 14 rows.now text.now (labels_from rows.now) (kinds rows.now 14) }
     requires text_in_bounds { length (printed version rows.now text.now) ≤ length out.old }
     ensures { Filled (printed version rows.now text.now) out.old out.new result }
 {
@@ -99,7 +99,7 @@ fn put_section(kind: usize, out: &mut [u8], at: usize, rows: &[u32], text: &[u8]
 fn put_body(kind: usize, out: &mut [u8], rows: &[u32], text: &[u8], q: usize) -> usize
     requires q_in_bounds { 9 * (q + 1) ≤ length rows.now }
     requires section_rows { SectionRows kind rows.now text.now q }
-    requires q_in_bounds_2 { length (printed_body kind rows.now text.now q) ≤ length out.old }
+    requires room { length (printed_body kind rows.now text.now q) ≤ length out.old }
     ensures { Filled (printed_body kind rows.now text.now q) out.old out.new result }
 {
     let a = put_numbers(kind, out, rows, q);

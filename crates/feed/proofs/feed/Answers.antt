@@ -1,0 +1,29 @@
+-- Two pours and the verdict are one feed: the law `fed`.
+-- Assumes nothing.
+use borrow.Author.Rules.{rules}
+use native.Mathlib.Omega.{arith}
+use Rattle.held.specs.StageLaws.{pour_fits, two_pours}
+use Rattle.feed.specs.Feeding.{start}
+use Rattle.feed.specs.StageLaws.{start-law, fed}
+use Rattle.feed.proofs.feed.Goals as goal
+
+pub overflow_add-first : goal.overflow_add-first
+overflow_add-first c = omega (arith, pour_fits start start-law c.args.state.held c.args.store.now c.args.piece.now c.stage_of.ensures c.pour-a.ensures.0)
+
+pub slice_bounds-pour-count : goal.slice_bounds-pour-count
+slice_bounds-pour-count c = omega (arith, pour_fits start start-law c.args.state.held c.args.store.now c.args.piece.now c.stage_of.ensures c.pour-a.ensures.0)
+
+pub slice_bounds-pour-start : goal.slice_bounds-pour-start
+slice_bounds-pour-start c = omega (arith, pour_fits start start-law c.args.state.held c.args.store.now c.args.piece.now c.stage_of.ensures c.pour-a.ensures.0)
+
+pub overflow_add-second : goal.overflow_add-second
+overflow_add-second c = let w = two_pours start start-law c.args.state.held c.args.store.now c.args.piece.now c.stage_of.ensures c.pour-a.ensures c.stage_of-2.ensures c.pour-b.ensures in omega (arith, w.fits)
+
+pub overflow_add-result : goal.overflow_add-result
+overflow_add-result c = let w = two_pours start start-law c.args.state.held c.args.store.now c.args.piece.now c.stage_of.ensures c.pour-a.ensures c.stage_of-2.ensures c.pour-b.ensures in omega (arith, w.fits)
+
+pub returns : goal.returns
+returns c =
+    let a = c.args in
+    fed a.state.held a.store.now a.piece.now a.sheet.now a.symbology.now a.layout.now c.pour-a.result c.pour-b.result _ _ _ _
+    (two_pours start start-law c.args.state.held c.args.store.now c.args.piece.now c.stage_of.ensures c.pour-a.ensures c.stage_of-2.ensures c.pour-b.ensures) c.judge-answer.ensures

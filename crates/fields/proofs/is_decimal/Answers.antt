@@ -1,0 +1,8 @@
+-- The type is compared with the sheet's. Assumes nothing.
+use borrow.Author.Rules.{rules}
+use Rattle.fields.specs.Sheet.{is_decimal}
+use Rattle.fields.proofs.is_decimal.Goals as goal
+
+pub returns : goal.returns
+unfolding is_decimal
+returns c = rw (c.wide16.ensures.0, c.type_of.ensures.0)

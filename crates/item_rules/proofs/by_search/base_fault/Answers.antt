@@ -1,0 +1,27 @@
+-- 81 and 82 by the chase. Assumes nothing.
+use mathlib.Core.Path.{refl}
+use native.Mathlib.Omega.{arith}
+use Rattle.item_rules.specs.Tried.{answered, gave_up}
+use Rattle.item_rules.proofs.Loops.{base_gap, base_short, base-fine}
+use Rattle.item_rules.proofs.by_search.base_fault.Goals as goal
+
+pub chase-c-requires : goal.chase-c-requires
+chase-c-requires c = (c.requires.in_slice, (c.requires.proper.0, (lib.Dec.lit< tt, λ _. c.requires.proper.1.0)))
+
+pub returns-then-c : goal.returns-then-c
+returns-then-c c = gave_up refl (λ h. let y : ⊥ = omega arith in y)
+
+pub returns-then-c-k : goal.returns-then-c-k
+returns-then-c-k c =
+    let pre = c.requires in
+    answered (base_gap _ _ _ pre.1.0 (c.chase-c.ensures c.if-c.false) pre.1.1.1 c.if-c-k.true)
+
+pub returns-then-c-frame : goal.returns-then-c-frame
+returns-then-c-frame c =
+    let pre = c.requires in
+    answered (base_short _ _ _ pre.1.0 (c.chase-c.ensures c.if-c.false) pre.1.1.1 c.if-c-k.false c.if-c-frame.true)
+
+pub returns : goal.returns
+returns c =
+    let pre = c.requires in
+    answered (base-fine _ _ _ pre.1.0 (c.chase-c.ensures c.if-c.false) pre.1.1.1 c.if-c-k.false c.if-c-frame.false)

@@ -1,0 +1,25 @@
+-- 83 by the chase. Assumes nothing.
+use mathlib.Core.Path.{refl}
+use native.Mathlib.Omega.{arith}
+use Rattle.item_rules.specs.Tried.{answered, gave_up}
+use Rattle.item_rules.proofs.Loops.{ext_none, ext_gap, ext_fine}
+use Rattle.item_rules.proofs.by_search.ext_fault.Goals as goal
+
+pub returns-then-k-eq0 : goal.returns-then-k-eq0
+returns-then-k-eq0 c = answered (ext_none _ _ _ c.requires.proper.0 c.requires.proper.1.1 c.if-k-eq0.true)
+
+pub chase-c-requires : goal.chase-c-requires
+chase-c-requires c = (c.requires.in_slice, (c.requires.proper.0, (omega (arith, c.requires.proper.1.0), λ h. absurd (let y : ⊥ = omega arith in y))))
+
+pub returns-then-c : goal.returns-then-c
+returns-then-c c = gave_up refl (λ h. let y : ⊥ = omega arith in y)
+
+pub returns-then-c-k : goal.returns-then-c-k
+returns-then-c-k c =
+    let pre = c.requires in
+    answered (ext_gap _ _ _ pre.1.0 (c.chase-c.ensures c.if-c.false) pre.1.1.1 c.if-c-k.true)
+
+pub returns : goal.returns
+returns c =
+    let pre = c.requires in
+    answered (ext_fine _ _ _ pre.1.0 (c.chase-c.ensures c.if-c.false) pre.1.1.1 c.if-c-k.false)

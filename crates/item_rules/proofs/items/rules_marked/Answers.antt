@@ -1,0 +1,27 @@
+-- With 65,536 owners every answer is the number. Assumes nothing.
+use Prim.Native.Nat.{ℕ}
+use lib.ListN.{length-replicate}
+use lib.Dec.{lit≤}
+use mathlib.Core.Path.{sym}
+use borrow.Author.Rules.{rules}
+use Rattle.plain_tiling.specs.MarkingLaws.{unowned}
+use Rattle.item_rules.specs.TriedLaws.{tried-all}
+use Rattle.item_rules.proofs.items.rules_marked.Goals as goal
+
+pub slice_bounds-rules_few-end : goal.slice_bounds-rules_few-end
+slice_bounds-rules_few-end c = sym (length-replicate {A = ℕ} 65536 0)
+
+pub rules_few-requires : goal.rules_few-requires
+rules_few-requires c = (c.requires, (c.if-task-le4096.true, unowned 65536 (lit≤ tt)))
+
+pub returns-then-task-le4096 : goal.returns-then-task-le4096
+returns-then-task-le4096 c = tried-all c.rules_few.ensures (length-replicate {A = ℕ} 65536 0)
+
+pub slice_bounds-rules_65536-end : goal.slice_bounds-rules_65536-end
+slice_bounds-rules_65536-end c = sym (length-replicate {A = ℕ} 65536 0)
+
+pub rules_65536-requires : goal.rules_65536-requires
+rules_65536-requires c = record { ready = c.requires; unowned = unowned 65536 (lit≤ tt) }
+
+pub returns : goal.returns
+returns c = tried-all c.rules_65536.ensures (length-replicate {A = ℕ} 65536 0)

@@ -1,0 +1,12 @@
+-- No owners are lent. Assumes nothing.
+use native.Mathlib.Omega.{arith}
+use borrow.Author.Rules.{rules}
+use Rattle.plain_tiling.specs.MarkingLaws.{unowned}
+use Rattle.item_rules.specs.TriedLaws.{tried-none}
+use Rattle.item_rules.proofs.items.rules_searched.Goals as goal
+
+pub rules_few-requires : goal.rules_few-requires
+rules_few-requires c = (c.requires.ready, (c.requires.left_bound, unowned 0 (omega arith)))
+
+pub returns : goal.returns
+returns c = tried-none c.rules_few.ensures

@@ -1,0 +1,36 @@
+-- The record's own numbers, a name, then the fields. Assumes nothing.
+use native.Mathlib.Omega.{arith}
+use borrow.Author.Rules.{rules}
+use mathlib.Core.Path.{sym, ◌∙◌}
+use Rattle.table.specs.ReadingLaws.{ran_is, ran_on, ran_on-no, ran_row, put-row_as}
+use Rattle.numbers.specs.NumberLaws.{past-at}
+use Rattle.layout.proofs.Laws.{record_is}
+use Rattle.layout.proofs.sections.record_body.Goals as goal
+
+pub overflow_add-p : goal.overflow_add-p
+overflow_add-p c = omega (arith, past-at c.name_in.ensures.1 c.in-Value-name_in.is)
+
+pub overflow_add-base : goal.overflow_add-base
+overflow_add-base c = omega (arith, past-at c.name_in.ensures.1 c.in-Value-name_in.is)
+
+pub record_row-row-requires : goal.record_row-row-requires
+record_row-row-requires c = omega (arith, past-at c.u16_at.ensures.1 c.in-Value-u16_at.is, past-at c.name_in.ensures.1 c.in-Value-name_in.is, past-at c.record_head.ensures.1 c.in-Value.is)
+
+pub fields-requires : goal.fields-requires
+fields-requires c = omega (arith, past-at c.name_in.ensures.1 c.in-Value-name_in.is, c.requires)
+
+pub returns-in-Value-u16_at : goal.returns-in-Value-u16_at
+returns-in-Value-u16_at c =
+    ran_is (record_is _ _ _) (ran_on _ (sym c.record_head.ensures.0 ∙ c.in-Value.is)
+    (ran_on _ (sym c.name_in.ensures.0 ∙ c.in-Value-name_in.is)
+    (ran_on _ (sym c.u16_at.ensures.0 ∙ c.in-Value-u16_at.is)
+    (ran_row (put-row_as c.record_row-row.ensures c.put_row.ensures) c.fields.ensures))))
+
+pub returns-in-Refused-u16_at : goal.returns-in-Refused-u16_at
+returns-in-Refused-u16_at c = ran_is (record_is _ _ _) (ran_on _ (sym c.record_head.ensures.0 ∙ c.in-Value.is) (ran_on _ (sym c.name_in.ensures.0 ∙ c.in-Value-name_in.is) (ran_on-no _ (sym c.u16_at.ensures.0 ∙ c.in-Refused-u16_at.is))))
+
+pub returns-in-Refused-name_in : goal.returns-in-Refused-name_in
+returns-in-Refused-name_in c = ran_is (record_is _ _ _) (ran_on _ (sym c.record_head.ensures.0 ∙ c.in-Value.is) (ran_on-no _ (sym c.name_in.ensures.0 ∙ c.in-Refused-name_in.is)))
+
+pub returns-in-Refused : goal.returns-in-Refused
+returns-in-Refused c = ran_is (record_is _ _ _) (ran_on-no _ (sym c.record_head.ensures.0 ∙ c.in-Refused.is))

@@ -1,0 +1,10 @@
+-- The table is the definition.
+-- Assumes nothing.
+use mathlib.Core.Path.{◌∙◌}
+use Rattle.rows_check.specs.Check.{limit_of}
+use borrow.Author.Rules.{rules}
+use Rattle.rows_check.proofs.fits.limit_of.Goals as goal
+
+pub returns : goal.returns
+unfolding limit_of
+returns c = c.wide.ensures.0 ∙ rw c.requires.limits_of

@@ -1,0 +1,8 @@
+-- The records and structs of well-formed rows stand where they are looked for. Assumes nothing.
+use Rattle.rows_check.specs.CheckLaws.{formed}
+use Rattle.rules.specs.RowRuleLaws.{rows_are}
+use borrow.Author.Rules.{rules}
+use Rattle.rules.proofs.formed_rules.Goals as goal
+
+pub returns : goal.returns
+returns c = let pre = c.requires in rows_are _ _ _ _ _ (formed _ _ pre.0) pre.1.1.1 (rw (pre.1.0, pre.1.1.0) at c.check_items.ensures)

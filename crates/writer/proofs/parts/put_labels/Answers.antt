@@ -1,0 +1,16 @@
+-- The count, the labels.
+-- Assumes nothing.
+use mathlib.Core.Path.{refl}
+use Rattle.put.specs.OutputLaws.{left-start, left_stored, left-all, left-rest}
+use Rattle.writer.specs.Write.{printed_part}
+use borrow.Author.Rules.{rules}
+use Rattle.writer.proofs.parts.put_labels.Goals as goal
+
+pub put_parts-requires : goal.put_parts-requires
+unfolding printed_part
+put_parts-requires c =
+    (c.requires.n_in_bounds, (record { spans = λ f. c.requires.spans.0 }, left-all (left_stored (left-start c.requires.spans.1) _ refl c.put_little-a.ensures)))
+
+pub returns : goal.returns
+unfolding printed_part
+returns c = left-rest (left_stored (left-start c.requires.spans.1) _ refl c.put_little-a.ensures) c.put_parts.ensures
