@@ -19,8 +19,7 @@ fn find(text: &[u8], n: u64) -> usize
         return text.len();
     }
     let digits = 528 + n as usize;
-    let mut i = 0;
-    while i < text.len() {
+    for i in 0..text.len() {
         if text[i] == b'\n' {
             if text.len() - i < 3 {
                 return text.len();
@@ -29,9 +28,8 @@ fn find(text: &[u8], n: u64) -> usize
                 return i + 3;
             }
         }
-        i += 1;
     }
-    i
+    text.len()
 }
 
 // The next line's end from a place on, or the text's end.
@@ -39,12 +37,10 @@ fn line_end(text: &[u8], from: usize) -> usize
     requires { from ≤ length text.now }
     ensures { (from ≤ result) × (result ≤ length text.now) }
 {
-    let mut i = from;
-    while i < text.len() {
+    for i in from..text.len() {
         if text[i] == b'\n' {
             return i;
         }
-        i += 1;
     }
-    i
+    text.len()
 }
