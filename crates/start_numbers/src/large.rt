@@ -96,10 +96,8 @@ fn layout(out: &mut impl Write, words: &[u8], rows: &[u32]) -> io::Result<()> {
 
 // Puts every number of a table.
 fn fill(with: u8, table: &mut [u32]) {
-    let mut i = 0;
-    while i < table.len() {
+    for i in 0..table.len() {
         table[i] = number(with, i);
-        i += 1;
     }
 }
 
