@@ -8,7 +8,7 @@ use mathlib.Core.List.{List}
 use lib.ListN.{length}
 use borrow.Author.Tests.{le-leb, lt-leb}
 use Rattle.columns_check.specs.Tree.{run, symbol_rows, partial_rows, not_found_rows, list_rows, symbology_of}
-use Rattle.columns_check.specs.Check.{Every, row_fits, mapped, well_formed, narrow, columns_of}
+use Rattle.columns_check.specs.Check.{every, row_fits, mapped, well_formed, narrow, columns_of}
 use Rattle.columns_check.specs.RowFaults.{heads, rows_fault}
 use Rattle.columns_check.specs.RowLaws.{symbols-count, mappings-count}
 use Rattle.columns_check.specs.FaultLaws.{symbology-fault}
@@ -42,11 +42,11 @@ module _ (t : List ℕ) (n : ℕ) (text : List ℕ) where
   too_large h l = rw (le-leb n (length t / 6) h, lt-leb n 4294967295 l)
 
   module _ (h : n ≤ length t / 6) (l : n ≤ 4294967295) where
-    pub unfit : Every (row_fits t text) 0 n ≡ false → well_formed t n text ≡ false
+    pub unfit : every (row_fits t text) 0 n ≡ false → well_formed t n text ≡ false
     unfolding well_formed
     unfit e = rw (le-leb n (length t / 6) h, le-leb n 4294967295 l, e)
 
-    pub formed : {one two lists : ℕ} → Every (row_fits t text) 0 n ≡ true → Ends t n one two lists → well_formed t n text ≡ mapped t lists (n - lists) 0 0
+    pub formed : {one two lists : ℕ} → every (row_fits t text) 0 n ≡ true → Ends t n one two lists → well_formed t n text ≡ mapped t lists (n - lists) 0 0
     unfolding well_formed
     formed e at = rw (le-leb n (length t / 6) h, le-leb n 4294967295 l, e, at.all)
 

@@ -9,7 +9,7 @@ use lib.ListN.{take, drop}
 use lib.Dec.{eqb}
 use borrow.Author.Tests.{eq-eqb, ne_eqb}
 use Rattle.columns_check.specs.Tree.{kind_of, x_of, owner_of, run}
-use Rattle.columns_check.specs.Check.{Every, mapped}
+use Rattle.columns_check.specs.Check.{every, mapped}
 use Rattle.columns_check.specs.RowFaults.{head, heads, row_fault, rows_fault}
 
 -- ---- what is left
@@ -30,14 +30,14 @@ part-is start len text = let e : start + len - start ≡ len = omega arith in rw
 -- ---- a test of every row
 
 module _ (f : ℕ → Bool) (r n : ℕ) where
-  pub every_yes : r < n → f r ≡ true → Every f r (n - r) ≡ Every f (r + 1) (n - (r + 1))
-  every_yes h e = left-more (Every f r) r n h ∙ rw e
+  pub every_yes : r < n → f r ≡ true → every f r (n - r) ≡ every f (r + 1) (n - (r + 1))
+  every_yes h e = left-more (every f r) r n h ∙ rw e
 
-  pub every-no : r < n → f r ≡ false → Every f r (n - r) ≡ false
-  every-no h e = left-more (Every f r) r n h ∙ rw e
+  pub every-no : r < n → f r ≡ false → every f r (n - r) ≡ false
+  every-no h e = left-more (every f r) r n h ∙ rw e
 
-  pub every-none : n ≤ r → Every f r (n - r) ≡ true
-  every-none h = left-none (Every f r) r n h
+  pub every-none : n ≤ r → every f r (n - r) ≡ true
+  every-none h = left-none (every f r) r n h
 
 -- ---- rows of one kind
 

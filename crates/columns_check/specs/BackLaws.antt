@@ -68,7 +68,7 @@ module _ (width : ℕ) (t text : List ℕ) where
   mappings-back {r} q e (mapping {n = n} k p) f =
       let e' : q ≡ r = omega arith in
       let c = intervals-count width t text p in
-      rw (k, e') (ap₂ ◌∷◌ (rw k at (mapping-back r (length (intervals_from width t text (r + 1) n)) k c (first-of n f)))
+      rw (e', k) (ap₂ ◌∷◌ (rw k at (mapping-back r (length (intervals_from width t text (r + 1) n)) k c (first-of n f)))
       (mappings-back (r + suc (length (map (interval_row r) (intervals_from width t text (r + 1) n)))) (omega (arith, length-map (intervals_from width t text (r + 1) n) (interval_row r))) p (next_of n f)))
   mappings-back {r} {owner = owner} q e (interval {n = n} k o p) f =
       rw k (ap₂ ◌∷◌ (rw k at (interval-back r owner k o (first-of n f))) (mappings-back q (omega arith) p (next_of n f)))

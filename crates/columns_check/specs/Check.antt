@@ -11,9 +11,9 @@ use Rattle.columns_check.specs.declared.Columns.{Columns}
 use Rattle.columns_check.specs.declared.Columns.TheVariants.{Malformed, Wide, Rows}
 
 -- f holds of n rows from row r on
-abbrev pub Every : (ℕ → Bool) → ℕ → ℕ → Bool
-Every f r zero = true
-Every f r (suc n) = f r && Every f (r + 1) n
+abbrev pub every : (ℕ → Bool) → ℕ → ℕ → Bool
+every f r zero = true
+every f r (suc n) = f r && every f (r + 1) n
 
 -- ---- 110, of one row
 
@@ -50,13 +50,13 @@ mapped t r (suc n) owner (suc due) = eqb (kind_of t r) 4 && (eqb (owner_of t r) 
 -- a count within the table's height, which four bytes hold; rows that fit; rows of kind 0, of kind 1, of kind 2, then the mappings
 unfoldable pub well_formed : List ℕ → ℕ → List ℕ → Bool
 well_formed t n text =
-    (leb n (length t / 6) && leb n 4294967295) && (Every (row_fits t text) 0 n && mapped t (list_rows t n) (n - list_rows t n) 0 0)
+    (leb n (length t / 6) && leb n 4294967295) && (every (row_fits t text) 0 n && mapped t (list_rows t n) (n - list_rows t n) 0 0)
 
 -- ---- 111
 
 -- no text is wider than its field
 unfoldable pub narrow : ℕ → List ℕ → ℕ → Bool
-narrow width t n = Every (λ r. leb (len_of t r) width) 0 n
+narrow width t n = every (λ r. leb (len_of t r) width) 0 n
 
 -- ---- the answer
 

@@ -21,7 +21,7 @@ use Rattle.dates.specs.Date.{is_date}
 use Rattle.dates.specs.DayLaws.{day-dated}
 use Rattle.symbology_format.specs.SymbologyFaults.{symbol_fault, list_fault, interval_fault, mapping_fault, symbology_fault}
 use Rattle.columns_check.specs.Tree.{kind_of, x_of, y_of, text_of, filled, symbol_of, interval_of, symbols_from, intervals_from, mappings_from, run, symbol_rows, partial_rows, not_found_rows, list_rows, symbology_of}
-use Rattle.columns_check.specs.Check.{Every, row_fits, mapped, well_formed}
+use Rattle.columns_check.specs.Check.{every, row_fits, mapped, well_formed}
 use Rattle.columns_check.specs.RowFaults.{text_fault, row_fault, rows_fault}
 use Rattle.columns_check.specs.RowLaws.{Placed, done, mapping, interval, placed, every-at, interval_days, run-le, run-kind, lists-le}
 
@@ -136,8 +136,8 @@ module _ (width : ℕ) (t text : List ℕ) where
   pub symbology-fault : (n : ℕ) → well_formed t n text ≡ true → symbology_fault utf8 nul_padded is_date width (symbology_of width t n text) ≡ rows_fault width t text 0 n
   unfolding well_formed symbology_of
   symbology-fault n e =
-      let (_, w) = both_true (leb n (length t / 6) && leb n 4294967295) (Every (row_fits t text) 0 n && mapped t (list_rows t n) (n - list_rows t n) 0 0) e in
-      let (f, m) = both_true (Every (row_fits t text) 0 n) (mapped t (list_rows t n) (n - list_rows t n) 0 0) w in
+      let (_, w) = both_true (leb n (length t / 6) && leb n 4294967295) (every (row_fits t text) 0 n && mapped t (list_rows t n) (n - list_rows t n) 0 0) e in
+      let (f, m) = both_true (every (row_fits t text) 0 n) (mapped t (list_rows t n) (n - list_rows t n) 0 0) w in
       let l = lists-le t n in
       ap₂ first (run-fault 0 0 n (omega arith)) (
       ap₂ first (run-fault 1 (symbol_rows t n) (n - symbol_rows t n) (omega arith)) (

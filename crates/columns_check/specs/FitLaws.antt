@@ -7,7 +7,7 @@ use Rattle.codec.specs.Codec.{Bytes}
 use Rattle.codec.specs.Laws.{bytes_take, bytes_drop}
 use Rattle.text.specs.Trim.{trimmed_len}
 use Rattle.columns_check.specs.Tree.{kind_of, start_of, len_of, x_of, y_of, owner_of, text_of, filled, list_rows}
-use Rattle.columns_check.specs.Check.{Every, numbers_fit, row_fits, well_formed, narrow}
+use Rattle.columns_check.specs.Check.{every, numbers_fit, row_fits, well_formed, narrow}
 use Rattle.columns_check.specs.FilledLaws.{filled-length}
 use Rattle.columns_check.specs.RowLaws.{Placed, placed, every-at, row-span, row_ends, interval_days}
 
@@ -77,7 +77,7 @@ pub formed : (t : List ℕ) (n : ℕ) (text : List ℕ) → well_formed t n text
 unfolding well_formed
 formed t n text e =
     let (a, b) = both_true _ _ e in
-    let (c, d) = both_true (Every (row_fits t text) 0 n) _ b in
+    let (c, d) = both_true (every (row_fits t text) 0 n) _ b in
     record {
       small = leb-true n 4294967295 (both_true (leb n (length t / 6)) _ a).1;
       rows = λ r h. fit t text r (every-at (row_fits t text) 0 n c r (omega arith) (omega arith));

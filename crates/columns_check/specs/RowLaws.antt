@@ -6,7 +6,7 @@ use borrow.Author.Tests.{eqb-true, leb-true}
 use Rattle.codec.specs.CaseLaws.{both_true, by_bool, by_order}
 use Rattle.text.specs.Trim.{trimmed_len}
 use Rattle.columns_check.specs.Tree.{kind_of, start_of, len_of, x_of, y_of, owner_of, text_of, symbols_from, intervals_from, mappings_from, run, symbol_rows, partial_rows, list_rows}
-use Rattle.columns_check.specs.Check.{Every, is_day, numbers_fit, span_fits, ends_well, row_fits, mapped}
+use Rattle.columns_check.specs.Check.{every, is_day, numbers_fit, span_fits, ends_well, row_fits, mapped}
 use Rattle.columns_check.specs.RowFaults.{heads}
 
 -- ---- the mappings' rows
@@ -59,17 +59,17 @@ module _ (width : ℕ) (t text : List ℕ) where
 
 module _ (f : ℕ → Bool) where
   -- what holds of n rows holds of each
-  pub every-at : (r n : ℕ) → Every f r n ≡ true → (j : ℕ) → r ≤ j → j < r + n → f j ≡ true
+  pub every-at : (r n : ℕ) → every f r n ≡ true → (j : ℕ) → r ≤ j → j < r + n → f j ≡ true
   every-at r zero e j a b = absurd (omega arith)
   every-at r (suc n) e j a b =
-      let (h, rest) = both_true (f r) (Every f (r + 1) n) e in
+      let (h, rest) = both_true (f r) (every f (r + 1) n) e in
       by_order r j
       (λ lt. every-at (r + 1) n rest j (omega arith) (omega arith))
       (λ eq. subst (λ (k : ℕ). f k ≡ true) eq h)
       (λ gt. absurd (omega arith))
 
   -- what holds of each of n rows holds of them
-  pub every-all : (r n : ℕ) → ((j : ℕ) → r ≤ j → j < r + n → f j ≡ true) → Every f r n ≡ true
+  pub every-all : (r n : ℕ) → ((j : ℕ) → r ≤ j → j < r + n → f j ≡ true) → every f r n ≡ true
   every-all r zero h = refl
   every-all r (suc n) h = rw (h r (omega arith) (omega arith)) (every-all (r + 1) n (λ j a b. h j (omega arith) (omega arith)))
 

@@ -17,7 +17,7 @@ use Rattle.layout.specs.Rows.{entry_row, name_row, field_rows, record_rows, stru
 use Rattle.layout.specs.NameCountLaws.{AllOf}
 use Rattle.layout.specs.LawfulLaws.{entry-lawful, fields-lawful, record_lawful, struct_lawful, label-lawful, label_def-lawful}
 use Rattle.rows_check.specs.Tree.{cells}
-use Rattle.rows_check.specs.Check.{both, Every, limit_of, number_fits, row_fits, count_fits, name_short, clean, name_clean, row_test, passes}
+use Rattle.rows_check.specs.Check.{both, every, limit_of, number_fits, row_fits, count_fits, name_short, clean, name_clean, row_test, passes}
 use Rattle.demands.specs.StandLaws.{Stand}
 use Rattle.demands.specs.RowsBackLaws.{InText, Rooted, record_rooted, struct_rooted, label_def_rooted, label_rooted, fields_rooted}
 
@@ -40,12 +40,12 @@ each_of Q R f (r ∷ rs) e = (f r e.0, each_of Q R f rs e.1)
 
 -- a test of a row is that test of the row alone
 row-alone : (which : ℕ) (table text : List ℕ) (q : ℕ) → row_test which table text q ≡ row_test which (cells table q) text 0
-unfolding row_test row_fits Every count_fits name_short name_clean
+unfolding row_test row_fits every count_fits name_short name_clean
 row-alone which table text q = refl
 
 -- where every row passes a test alone, the rows of the table pass it
 pub each-passes : (which : ℕ) (table text : List ℕ) (rs : List (List ℕ)) (q : ℕ) → Each (λ r. row_test which r text 0 ≡ true) rs → Stand table q rs → passes which table text q (length rs) ≡ true
-unfolding Every both
+unfolding every both
 each-passes which table text [] q e h = refl
 each-passes which table text (r ∷ rs) q e h = rw (row-alone which table text q, h.0, e.0) (each-passes which table text rs (q + 1) e.1 h.1)
 
@@ -59,7 +59,7 @@ pub record Fine (text r : List ℕ) : Type 0 where
 module _ (text : List ℕ) (small : length text ≤ 4294967295) where
   -- the row of an entry
   entry-fine : (e : Entry) → Rooted text entry e → Fine text (entry_row e)
-  unfolding row_test row_fits Every both limit_of count_fits name_short name_clean
+  unfolding row_test row_fits every both limit_of count_fits name_short name_clean
   entry-fine e (lg, at) =
       let b = (entry-lawful all_tests D e lg).octets in
       let w : (i j : ℕ) → leb (get_or e.head i 0 + 256 * get_or e.head j 0) 65535 ≡ true = λ i j. le-leb (get_or e.head i 0 + 256 * get_or e.head j 0) 65535 (omega (arith, b i, b j)) in
@@ -73,8 +73,8 @@ module _ (text : List ℕ) (small : length text ≤ 4294967295) where
 
     -- it is fine where its kind has a name, its other numbers are within their limits and its count fits
     name-fine : (leb 10 kind ≡ true) × (leb kind 15 ≡ true) × (eqb kind 11 ≡ false) × (limit_of kind 1 ≡ 4294967295) × (limit_of kind 2 ≡ 4294967295) → Rooted text name n
-        → Every (number_fits name_row_of 0 kind) 3 6 ≡ true → count_fits name_row_of 0 ≡ true → Fine text name_row_of
-    unfolding row_test row_fits Every both name_short name_clean clean
+        → every (number_fits name_row_of 0 kind) 3 6 ≡ true → count_fits name_row_of 0 ≡ true → Fine text name_row_of
+    unfolding row_test row_fits every both name_short name_clean clean
     name-fine k g l c =
         let i = name-start all_tests (InText text) n g.1 in
         let w = name-lawful all_tests n g.0 in
@@ -92,14 +92,14 @@ module _ (text : List ℕ) (small : length text ≤ 4294967295) where
 
   -- the row of a label
   label-fine : (l : Label) → Rooted text label l → Fine text (label_row l)
-  unfolding Every both limit_of count_fits
+  unfolding every both limit_of count_fits
   label-fine l g =
       let c = (label-lawful all_tests l g.0).0 in
       name-fine 15 l.name l.code 0 0 0 0 0 (refl, refl, refl, refl, refl) (label_rooted text l g) (rw (le-leb l.code 65535 (omega arith))) refl
 
   -- the rows of fields, of a record, of a struct, of a label def
   fields-fine : (f : Fields) → Rooted text fields f → Each (Fine text) (field_rows f)
-  unfolding Every both limit_of count_fits
+  unfolding every both limit_of count_fits
   fields-fine f g =
       let v = fields_rooted text f g in
       each_append (Fine text) (map entry_row f.entries) (map name_row f.names)
@@ -107,7 +107,7 @@ module _ (text : List ℕ) (small : length text ≤ 4294967295) where
       (each_item (Rooted text name) (Fine text) (AllOf (Rooted text name)) (λ x xs e. e) name_row (λ n g. name-fine 12 n 0 0 0 0 0 0 (refl, refl, refl, refl, refl) g refl refl) f.names v.1)
 
   pub record_fine : (r : RecordL) → Rooted text record_l r → Each (Fine text) (record_rows r)
-  unfolding Every both limit_of count_fits
+  unfolding every both limit_of count_fits
   record_fine r g =
       let b = record_lawful all_tests D r g.0 in
       let v = record_rooted text r g in
@@ -123,7 +123,7 @@ module _ (text : List ℕ) (small : length text ≤ 4294967295) where
       )
 
   pub struct_fine : (s : StructL) → Rooted text struct_l s → Each (Fine text) (struct_rows s)
-  unfolding Every both limit_of count_fits
+  unfolding every both limit_of count_fits
   struct_fine s g =
       let b = struct_lawful all_tests D s g.0 in
       let v = struct_rooted text s g in
@@ -137,7 +137,7 @@ module _ (text : List ℕ) (small : length text ≤ 4294967295) where
       )
 
   pub label_def_fine : (d : LabelDef) → Rooted text label_def d → Each (Fine text) (label_def_rows d)
-  unfolding Every both limit_of count_fits
+  unfolding every both limit_of count_fits
   label_def_fine d g =
       let v = label_def_rooted text d g in
       let few = (label_def-lawful all_tests d g.0).count in (

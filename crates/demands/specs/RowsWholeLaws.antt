@@ -20,7 +20,7 @@ use Rattle.layout.specs.NameCountLaws.{AllOf}
 use Rattle.layout.specs.PrintLaws.{Rising}
 use Rattle.layout.specs.LawfulLaws.{fields-lawful, record_bytes, record_lawful, struct_bytes, struct_lawful, label_def-bytes, label_def-lawful}
 use Rattle.rows_check.specs.Tree.{cell, row_count, has_fields, count_of, names_from, next_section, skip, kinds, structs_from, labels_from}
-use Rattle.rows_check.specs.Check.{both, Every, row_test, passes, name_kind, section_in_place, walk, in_order, well_formed, groups_fit, counts_fit, printed_section, fits_all, sections_fit, printed, size, rises_at, labels_rise, fit_fault, fault}
+use Rattle.rows_check.specs.Check.{both, every, row_test, passes, name_kind, section_in_place, walk, in_order, well_formed, groups_fit, counts_fit, printed_section, fits_all, sections_fit, printed, size, rises_at, labels_rise, fit_fault, fault}
 use Rattle.rows_check.specs.CheckLaws.{next_more}
 use Rattle.rows_check.specs.SectionLaws.{names-after, printed-length}
 use Rattle.tidy.specs.Plain.{PlainRecord, PlainStruct, PlainLabelDef, Plain}
@@ -72,7 +72,7 @@ module _ (table text : List ℕ) where
   struct_in_place s (g, p) q (h, hs) l = fields_in_place 13 q s.fields (struct_lawful all_tests D s g.0).fields hs (number h 0) l refl (number h 4) refl
 
   label_def_in_place : PlacesOf 14 label_def_rows (Settled text label_def PlainLabelDef)
-  unfolding names_from count_of name_kind row_test Every
+  unfolding names_from count_of name_kind row_test every
   label_def_in_place d g q (h, hs) l =
       let n : q + 1 - (q + 1) ≡ 0 = omega arith in
       in_place 14 q (number h 0) l (rw n) (rw (number h 3) (kind-passes 15 label_row (λ x. refl) d.labels (q + 1) hs))
@@ -141,8 +141,8 @@ rises_next true false x y e = refl
 rises_next false b x y e = refl
 
 -- rows that climb pass 95
-climb_rises : (table : List ℕ) (r : List ℕ) (rs : List (List ℕ)) (q least : ℕ) → Stand table q (r ∷ rs) → Climb least (r ∷ rs) → Every (rises_at table) q (length rs) ≡ true
-unfolding Every both rises_at
+climb_rises : (table : List ℕ) (r : List ℕ) (rs : List (List ℕ)) (q least : ℕ) → Stand table q (r ∷ rs) → Climb least (r ∷ rs) → every (rises_at table) q (length rs) ≡ true
+unfolding every both rises_at
 climb_rises table r [] q least h c = refl
 climb_rises table r (r' ∷ rs) q least h c =
     let e = rises_next (eqb (get_or r 0 0) 15) (eqb (get_or r' 0 0) 15) (get_or r 3 0) (get_or r' 3 0) c.1.0 in
@@ -234,7 +234,7 @@ module _ (s : List ℕ) (t : Layout) (p : Planted s t) where
       (climb_defs s t.labels p.labels))
 
   labels_rise_lem : labels_rise table ≡ true
-  unfolding Every
+  unfolding every
   labels_rise_lem = go (rows t) (table-stands t) (subst (Climb 0) (sym (rows-groups t)) (rows_climb 0)) (table-count t)
     where
       go : (rs : List (List ℕ)) → Stand table 0 rs → Climb 0 rs → row_count table ≡ length rs → labels_rise table ≡ true

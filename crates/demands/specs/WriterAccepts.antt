@@ -16,7 +16,7 @@ use Rattle.writer.specs.Write.{write_layout}
 use Rattle.writer.specs.RoundTripLaws.{accepts}
 use Rattle.writer.specs.declared.Written.TheVariants.{Length}
 use Rattle.rows_check.specs.Tree.{count_kind, count_of, from, names_from, skip, tree_of}
-use Rattle.rows_check.specs.Check.{fit_fault, fault, well_formed, both, Every, row_test, row_fits, limit_of, in_order, walk, section_in_place, name_kind, counts_fit, groups_fit, count_fits, name_short, name_clean, clean, sections_fit, fits_all, printed_section, printed, rises_at}
+use Rattle.rows_check.specs.Check.{fit_fault, fault, well_formed, both, every, row_test, row_fits, limit_of, in_order, walk, section_in_place, name_kind, counts_fit, groups_fit, count_fits, name_short, name_clean, clean, sections_fit, fits_all, printed_section, printed, rises_at}
 
 -- a type sheet of zeros: no type has a natural size, and type 1 is no struct, symbol, decimal or padding
 abbrev pub sheet : List ℕ
@@ -36,7 +36,7 @@ table =
 
 -- neither 90 to 95 nor a rule refuses it
 pub well_formed_lem : fault true table (65 ∷ []) ≡ 0
-unfolding fault fit_fault well_formed both Every row_test row_fits limit_of in_order walk section_in_place name_kind counts_fit groups_fit count_fits name_short name_clean clean sections_fit fits_all printed_section printed rises_at count_kind count_of from names_from skip tree_of cut_bytes row_bytes utf8 print_layout parts groups record_l struct_l label_def label fields entry padded named ◌then◌ sized times distinct num raw fixed section boxed name text text_of checked placed D
+unfolding fault fit_fault well_formed both every row_test row_fits limit_of in_order walk section_in_place name_kind counts_fit groups_fit count_fits name_short name_clean clean sections_fit fits_all printed_section printed rises_at count_kind count_of from names_from skip tree_of cut_bytes row_bytes utf8 print_layout parts groups record_l struct_l label_def label fields entry padded named ◌then◌ sized times distinct num raw fixed section boxed name text text_of checked placed D
 well_formed_lem = refl
 
 pub ruled : rows_rules sheet 71 table (65 ∷ []) ≡ 0

@@ -10,7 +10,7 @@ use borrow.Author.Tests.{leb-true, leb-false, le-leb, lt-leb, ne_eqb}
 use Rattle.codec.specs.Codec.{refusal}
 use Rattle.layout.specs.LayoutOf.{D}
 use Rattle.rows_check.specs.Tree.{cell, row_count, after, count_of, names_from, next_section, kinds, structs_from, labels_from}
-use Rattle.rows_check.specs.Check.{both, Every, passes, well_formed, counts_fit, printed_section, fits_all, sections_fit, size, rises_at, fit_fault, fault}
+use Rattle.rows_check.specs.Check.{both, every, passes, well_formed, counts_fit, printed_section, fits_all, sections_fit, size, rises_at, fit_fault, fault}
 use Rattle.rows_check.specs.Sections.{SectionRows, many, printed_name, printed_body, printed_group}
 use Rattle.rows_check.specs.SectionLaws.{many-none, many-next, section-is, layout_is, record_length, struct_length, label_def_length}
 use Rattle.rows_check.specs.Answers.{nameless_size, clip, size_of, made, sized_of}
@@ -164,11 +164,11 @@ module _ (rows text : List ℕ) where
           exit_94 h = refused true 94 (omega arith) (rw (a, b, d, e, fit-no _ _ (rw f at h)))
 
           module _ (h : n < 4294967296) where
-            pub exit_95 : Every (rises_at rows) 0 (row_count rows - 1) ≡ false → Refused (refusal 95 0) ≡ sized_of true rows text
+            pub exit_95 : every (rises_at rows) 0 (row_count rows - 1) ≡ false → Refused (refusal 95 0) ≡ sized_of true rows text
             unfolding fault fit_fault
             exit_95 g = refused true 95 (omega arith) (rw (a, b, d, e, (fit_yes _ _ (rw f at h)).0, g))
 
-            pub done : Every (rises_at rows) 0 (row_count rows - 1) ≡ true → (r s l : ℕ) → r ≡ kinds rows 10 → s ≡ kinds rows 13 → l ≡ kinds rows 14 → Length n r s l ≡ sized_of true rows text
+            pub done : every (rises_at rows) 0 (row_count rows - 1) ≡ true → (r s l : ℕ) → r ≡ kinds rows 10 → s ≡ kinds rows 13 → l ≡ kinds rows 14 → Length n r s l ≡ sized_of true rows text
             unfolding fault fit_fault sized_of made
             done g r s l er es el =
                 let z : n ≡ size rows text = f ∙ (fit_yes _ _ (rw f at h)).1 in

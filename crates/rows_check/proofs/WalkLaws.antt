@@ -12,7 +12,7 @@ use Rattle.plain_text.specs.Plain.{plain}
 use Rattle.plain_text.specs.PlainLaws.{plain-utf8}
 use Rattle.wire.specs.NameLaws.{plain_nul}
 use Rattle.rows_check.specs.Tree.{cell, row_count, names_from, next_section, skip, kinds, structs_from, labels_from}
-use Rattle.rows_check.specs.Check.{both, Every, clean, name_kind, section_in_place, walk, rises_at}
+use Rattle.rows_check.specs.Check.{both, every, clean, name_kind, section_in_place, walk, rises_at}
 use Rattle.rows_check.specs.CheckLaws.{every-none, every-next, every-all, InPlace, Places, Formed, next_more}
 
 -- ---- a plain name
@@ -30,12 +30,12 @@ and_both true false b = refl
 and_both false a b = refl
 
 module _ (f : ℕ → Bool) (j : ℕ) (x : Bool) where
-  pub fit_next : j < 9 → (x && Every f j (9 - j)) ≡ ((x && f j) && Every f (j + 1) (9 - (j + 1)))
+  pub fit_next : j < 9 → (x && every f j (9 - j)) ≡ ((x && f j) && every f (j + 1) (9 - (j + 1)))
   fit_next h =
       let e : 9 - j - 1 ≡ 9 - (j + 1) = omega arith in
-      ap (λ b. x && b) (every-next f j (9 - j) (omega arith) ∙ rw e) ∙ and_both x (f j) (Every f (j + 1) (9 - (j + 1)))
+      ap (λ b. x && b) (every-next f j (9 - j) (omega arith) ∙ rw e) ∙ and_both x (f j) (every f (j + 1) (9 - (j + 1)))
 
-  pub fit_none : 9 ≤ j → (x && Every f j (9 - j)) ≡ x
+  pub fit_none : 9 ≤ j → (x && every f j (9 - j)) ≡ x
   fit_none h = ap (λ b. x && b) (every-none f j (9 - j) (omega arith)) ∙ and_true x
 
 -- ---- walks
@@ -80,7 +80,7 @@ module _ (kind : ℕ) (rows : List ℕ) (k : ℕ) (not-field : 11 ≡ k → ⊥)
       (λ past. absurd (omega arith))
 
 -- no row before the first label def is a label, so none breaks the order of labels
-pub rises-before : (rows text : List ℕ) → Formed rows text → Every (rises_at rows) 0 (labels_from rows) ≡ true
+pub rises-before : (rows text : List ℕ) → Formed rows text → every (rises_at rows) 0 (labels_from rows) ≡ true
 unfolding rises_at name_kind
 rises-before rows text w = every-all (rises_at rows) 0 (labels_from rows) (λ j a b. rw (ne_eqb (cell rows j 0) 15 (no_label j b)))
   where

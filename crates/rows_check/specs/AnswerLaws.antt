@@ -4,7 +4,7 @@ use Rattle.std.proofs.Math.Path.{◌≡◌, refl}
 use Rattle.std.proofs.Common.{sym, ◌∙◌, arith}
 use Rattle.std.proofs.Math.Bool.{true, false, cond}
 use Rattle.rows_check.specs.Tree.{row_count, kinds}
-use Rattle.rows_check.specs.Check.{both, Every, row_test, well_formed, size, fit_fault, fault}
+use Rattle.rows_check.specs.Check.{both, every, row_test, well_formed, size, fit_fault, fault}
 use Rattle.rows_check.specs.Answers.{row_good, AllGood, made, unless, sized_of, sized_number}
 use Rattle.rows_check.specs.CheckLaws.{both_left, both_right}
 use Rattle.std.proofs.Math.Dec.{eqb}
@@ -20,14 +20,14 @@ both_of : (x y : Bool) → x ≡ true → y ≡ true → both x y ≡ true
 unfolding both
 both_of x y e d = rw (e, d)
 
-every-part : (f g : ℕ → Bool) → ((q : ℕ) → f q ≡ true → g q ≡ true) → (q n : ℕ) → Every f q n ≡ true → Every g q n ≡ true
-unfolding Every
+every-part : (f g : ℕ → Bool) → ((q : ℕ) → f q ≡ true → g q ≡ true) → (q n : ℕ) → every f q n ≡ true → every g q n ≡ true
+unfolding every
 every-part f g h q zero e = refl
 every-part f g h q (suc n) e =
-    both_of (g q) (Every g (q + 1) n) (h q (both_left (f q) (Every f (q + 1) n) e))
-    (every-part f g h (q + 1) n (both_right (f q) (Every f (q + 1) n) e))
+    both_of (g q) (every g (q + 1) n) (h q (both_left (f q) (every f (q + 1) n) e))
+    (every-part f g h (q + 1) n (both_right (f q) (every f (q + 1) n) e))
 
-module _ (rows text : List ℕ) (b : Bool) (e : b ≡ Every (row_good rows text) 0 (row_count rows)) where
+module _ (rows text : List ℕ) (b : Bool) (e : b ≡ every (row_good rows text) 0 (row_count rows)) where
   part : (which : ℕ) → ((q : ℕ) → row_good rows text q ≡ true → row_test which rows text q ≡ true) → AllGood b which rows text
   part which h = record { passed = λ t. every-part (row_good rows text) (row_test which rows text) h 0 (row_count rows) (rw e at t) }
 

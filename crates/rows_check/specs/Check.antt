@@ -13,9 +13,9 @@ both true b = b
 both false b = false
 
 -- f holds of n rows from row q on
-unfoldable pub Every : (ℕ → Bool) → ℕ → ℕ → Bool
-Every f q zero = true
-Every f q (suc k) = both (f q) (Every f (q + 1) k)
+unfoldable pub every : (ℕ → Bool) → ℕ → ℕ → Bool
+every f q zero = true
+every f q (suc k) = both (f q) (every f (q + 1) k)
 
 -- ---- 90: malformed
 
@@ -42,7 +42,7 @@ span_fits rows text q = leb (cell rows q 1 + cell rows q 2) (length text)
 unfoldable pub row_fits : List ℕ → List ℕ → ℕ → Bool
 row_fits rows text q =
     both (leb 10 (cell rows q 0)) (both (leb (cell rows q 0) 15)
-    (both (Every (number_fits rows q (cell rows q 0)) 1 8)
+    (both (every (number_fits rows q (cell rows q 0)) 1 8)
     (cond (eqb (cell rows q 0) 11) true (span_fits rows text q))))
 
 -- ---- 91, 92, 93, of one row
@@ -75,7 +75,7 @@ row_test which rows text q =
     (eqb (cell rows q 0) which))))
 
 abbrev pub passes : ℕ → List ℕ → List ℕ → ℕ → ℕ → Bool
-passes which rows text q n = Every (row_test which rows text) q n
+passes which rows text q n = every (row_test which rows text) q n
 
 -- ---- kinds in place: record sections, then struct sections, then label defs, and nothing else
 
@@ -143,7 +143,7 @@ rises_at rows q =
     cond (eqb (cell rows q 0) 15) (cond (eqb (cell rows (q + 1) 0) 15) (ltb (cell rows q 3) (cell rows (q + 1) 3)) true) true
 
 abbrev pub labels_rise : List ℕ → Bool
-labels_rise rows = Every (rises_at rows) 0 (row_count rows - 1)
+labels_rise rows = every (rises_at rows) 0 (row_count rows - 1)
 
 -- ---- the number that refuses the rows, or 0
 

@@ -8,7 +8,7 @@ use Rattle.std.proofs.Math.Bool.{true, false, cond}
 use Rattle.std.proofs.Math.ListN.{length}
 use borrow.Author.Tests.{ne_eqb, eqb-true, leb-true}
 use Rattle.rows_check.specs.Tree.{cell, row_count, names_from, next_section, skip, kinds, structs_from, labels_from}
-use Rattle.rows_check.specs.Check.{both, Every, limit_of, number_fits, span_fits, row_fits, row_test, passes, name_kind, section_in_place, walk, in_order, well_formed}
+use Rattle.rows_check.specs.Check.{both, every, limit_of, number_fits, span_fits, row_fits, row_test, passes, name_kind, section_in_place, walk, in_order, well_formed}
 
 pub both_left : (a b : Bool) → both a b ≡ true → a ≡ true
 unfolding both
@@ -21,42 +21,42 @@ both_right true b e = e
 both_right false b e = let z : ◌≡◌ {A = ℕ} 0 1 = cc in absurd (omega arith)
 
 module _ (f : ℕ → Bool) (q k : ℕ) where
-  pub every-none : k ≤ 0 → Every f q k ≡ true
-  unfolding Every
+  pub every-none : k ≤ 0 → every f q k ≡ true
+  unfolding every
   every-none h = let e : k ≡ 0 = omega arith in rw e
 
-  pub every-next : 0 < k → Every f q k ≡ both (f q) (Every f (q + 1) (k - 1))
-  unfolding Every
-  every-next h = let e : k ≡ suc (k - 1) = omega arith in ap (Every f q) e
+  pub every-next : 0 < k → every f q k ≡ both (f q) (every f (q + 1) (k - 1))
+  unfolding every
+  every-next h = let e : k ≡ suc (k - 1) = omega arith in ap (every f q) e
 
-  pub every_yes : 0 < k → f q ≡ true → Every f q k ≡ Every f (q + 1) (k - 1)
+  pub every_yes : 0 < k → f q ≡ true → every f q k ≡ every f (q + 1) (k - 1)
   unfolding both
   every_yes h e = every-next h ∙ rw e
 
-  pub every-no : 0 < k → f q ≡ false → Every f q k ≡ false
+  pub every-no : 0 < k → f q ≡ false → every f q k ≡ false
   unfolding both
   every-no h e = every-next h ∙ rw e
 
 -- what passes at every place passes at one of them
-pub every-at : (f : ℕ → Bool) (q k : ℕ) → Every f q k ≡ true → (j : ℕ) → q ≤ j → j < q + k → f j ≡ true
+pub every-at : (f : ℕ → Bool) (q k : ℕ) → every f q k ≡ true → (j : ℕ) → q ≤ j → j < q + k → f j ≡ true
 every-at f q zero e j a b = absurd (omega arith)
 every-at f q (suc k) e j a b =
     let h : 0 < suc k = omega arith in
-    let n : both (f q) (Every f (q + 1) (suc k - 1)) ≡ true = sym (every-next f q (suc k) h) ∙ e in
+    let n : both (f q) (every f (q + 1) (suc k - 1)) ≡ true = sym (every-next f q (suc k) h) ∙ e in
     let s : suc k - 1 ≡ k = omega arith in
     ⊎_elim (λ p. ap f (sym p) ∙ both_left (f q) _ n)
     (λ l. every-at f (q + 1) k (rw s at (both_right (f q) _ n)) j (omega arith) (omega arith))
     (eq-or-lt_of_le a)
 
 -- what passes at each place passes at every one
-pub every-all : (f : ℕ → Bool) (q k : ℕ) → ((j : ℕ) → q ≤ j → j < q + k → f j ≡ true) → Every f q k ≡ true
-unfolding Every both
+pub every-all : (f : ℕ → Bool) (q k : ℕ) → ((j : ℕ) → q ≤ j → j < q + k → f j ≡ true) → every f q k ≡ true
+unfolding every both
 every-all f q zero h = refl
 every-all f q (suc k) h = rw (h q (omega arith) (omega arith)) (every-all f (q + 1) k (λ j a b. h j (omega arith) (omega arith)))
 
 -- after m places at which it passes, the others are left
-pub every-past : (f : ℕ → Bool) (q m k : ℕ) → Every f q m ≡ true → Every f q k ≡ Every f (q + m) (k - m)
-unfolding Every both
+pub every-past : (f : ℕ → Bool) (q m k : ℕ) → every f q m ≡ true → every f q k ≡ every f (q + m) (k - m)
+unfolding every both
 every-past f q zero k e =
     let z : k - 0 ≡ k = omega arith in
     rw (z, add-zero q)
@@ -75,7 +75,7 @@ module _ (rows text : List ℕ) (q : ℕ) (e : row_fits rows text q ≡ true) wh
   pub number-le : (kind : ℕ) → cell rows q 0 ≡ kind → (j : ℕ) → 1 ≤ j → j < 9 → cell rows q j ≤ limit_of kind j
   unfolding row_fits
   number-le kind h j a b =
-      let r : Every (number_fits rows q (cell rows q 0)) 1 8 ≡ true = both_left _ _ (both_right _ _ (both_right _ _ e)) in
+      let r : every (number_fits rows q (cell rows q 0)) 1 8 ≡ true = both_left _ _ (both_right _ _ (both_right _ _ e)) in
       let l : cell rows q j ≤ limit_of (cell rows q 0) j = leb-true _ _ (every-at (number_fits rows q (cell rows q 0)) 1 8 r j a (omega arith)) in
       subst (λ (k : ℕ). cell rows q j ≤ limit_of k j) h l
 

@@ -20,7 +20,7 @@ use Rattle.layout.specs.Layout.{LegalLayout}
 use Rattle.wire.specs.FormatLaws.{name-legal}
 use Rattle.layout.specs.PrintLaws.{label-legal, label_def-legal, Rising, entry-legal, fields-legal, struct_legal, record_legal, layout-legal}
 use Rattle.rows_check.specs.Tree.{cell, row_count, from, after, name_of, entry_of, label_of, fields_of, record_of, struct_of, label_def_of, count_of, names_from, next_section, kinds, structs_from, labels_from, tree_of}
-use Rattle.rows_check.specs.Check.{both, Every, limit_of, count_fits, name_short, clean, name_clean, row_test, passes, name_kind, groups_fit, counts_fit, printed_section, fits_all, sections_fit, size, rises_at, fit_fault, fault}
+use Rattle.rows_check.specs.Check.{both, every, limit_of, count_fits, name_short, clean, name_clean, row_test, passes, name_kind, groups_fit, counts_fit, printed_section, fits_all, sections_fit, size, rises_at, fit_fault, fault}
 use Rattle.rows_check.specs.CheckLaws.{both_left, both_right, every-at, number-le, row-span, InPlace, Places, Formed, formed}
 use Rattle.rows_check.specs.TreeLaws.{length_from, name-len}
 
@@ -41,7 +41,7 @@ pub record Sound (rows text : List ℕ) : Type 0 where
   pub clean : passes 93 rows text 0 (row_count rows) ≡ true
   pub sections : sections_fit rows text ≡ true
   pub within : size rows text ≤ 4294967295
-  pub rises : Every (rises_at rows) 0 (row_count rows - 1) ≡ true
+  pub rises : every (rises_at rows) 0 (row_count rows - 1) ≡ true
 
 pub sound : (rows text : List ℕ) → fault true rows text ≡ 0 → Sound rows text
 unfolding fault fit_fault counts_fit

@@ -13,8 +13,7 @@ symbology_part-requires c = ((lays-at c.layout_part.ensures c.in-Accepted.is).to
 pub put_layout-requires : goal.put_layout-requires
 put_layout-requires c =
     let layout-part = c.layout_part.ensures in
-    let version = c.version-1.given in
-    ((lays-at layout-part version.1).from, (lays-at layout-part version.1).to)
+    ((lays-at layout-part c.in-Accepted.is).from, (lays-at layout-part c.in-Accepted.is).to)
 
 pub fields_of-requires : goal.fields_of-requires
 fields_of-requires c = c.requires.fixed

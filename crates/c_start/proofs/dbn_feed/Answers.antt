@@ -6,7 +6,6 @@ use Rattle.c_start.proofs.dbn_feed.Goals as goal
 
 pub returns : goal.returns
 returns c =
-    let feed = c.feed-fed in
     let a = c.args in
     fed_c a.held a.store.now a.piece.now a.sheet.now a.symbology.now a.layout.now a.out.now
-    feed.result _ _ _ _ _ feed.ensures c.put_answer.ensures.0 c.put_answer.ensures.1
+    c.feed-fed.result _ _ _ _ _ c.feed-fed.ensures c.put_answer.ensures.0 c.put_answer.ensures.1

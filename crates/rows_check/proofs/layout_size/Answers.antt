@@ -12,21 +12,18 @@ well_formed-k-requires c = good_90 _ _ _ c.all_good-good.ensures
 
 pub returns-then-not-k : goal.returns-then-not-k
 returns-then-not-k c =
-    let k = c.well-formed in
-    c.refused.ensures ∙ exit_90 _ _ _ (sym k.ensures.told ∙ not-true k.result.good c.if-not-k.taken)
+    c.refused.ensures ∙ exit_90 _ _ _ (sym c.well_formed-k.ensures.told ∙ not-true c.well_formed-k.result.good c.if-not-k.true)
 
 pub whole_size-requires : goal.whole_size-requires
 whole_size-requires c =
-    let k = c.well-formed in
-    let good = not-false k.result.good c.if-not-k.left in
-    (k.ensures.counts good, (c.all_good-good.ensures, sym k.ensures.told ∙ good))
+    let good = not-false c.well_formed-k.result.good c.if-not-k.false in
+    record { counts = c.well_formed-k.ensures.counts good; judged = c.all_good-good.ensures; formed = sym c.well_formed-k.ensures.told ∙ good }
 
 pub returns-then-whole : goal.returns-then-whole
-returns-then-whole c = rw c.if-whole.taken c.whole_size.ensures
+returns-then-whole c = rw c.if-whole.true c.whole_size.ensures
 
 pub returns : goal.returns
 returns c =
-    let k = c.well-formed in
-    let good = not-false k.result.good c.if-not-k.left in
-    let counts = k.ensures.counts good in
-    rw c.if-whole.left (formed-only _ _ (sym k.ensures.told ∙ good) counts.0 counts.1.0 counts.1.1)
+    let good = not-false c.well_formed-k.result.good c.if-not-k.false in
+    let counts = c.well_formed-k.ensures.counts good in
+    rw c.if-whole.false (formed-only _ _ (sym c.well_formed-k.ensures.told ∙ good) counts.0 counts.1.0 counts.1.1)

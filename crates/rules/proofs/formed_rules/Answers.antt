@@ -5,4 +5,4 @@ use borrow.Author.Rules.{rules}
 use Rattle.rules.proofs.formed_rules.Goals as goal
 
 pub returns : goal.returns
-returns c = let pre = c.requires in rows_are _ _ _ _ _ (formed _ _ pre.0) pre.1.1.1 (rw (pre.1.0, pre.1.1.0) at c.check_items.ensures)
+returns c = let pre = c.requires in rows_are _ _ _ _ _ (formed _ _ pre.formed) pre.counts.1.1 (rw (pre.counts.0, pre.counts.1.0) at c.check_items.ensures)

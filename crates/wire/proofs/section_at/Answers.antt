@@ -16,8 +16,7 @@ returns-then-left-n c = (section_50 _ _ (sym c.u16_at.ensures.0 ∙ c.in-Value.i
 pub returns-else-left-n : goal.returns-else-left-n
 returns-else-left-n c =
     let u16-at = c.u16_at.ensures in
-    let value = c.value-1.given in
-    (section-read _ _ (sym u16-at.0 ∙ value.1) (omega arith) (omega arith), lies-mk (past-at u16-at.1 value.1).0 (omega arith) (omega (arith, (past-at u16-at.1 value.1).1)))
+    (section-read _ _ (sym u16-at.0 ∙ c.in-Value.is) (omega arith) (omega arith), lies-mk (past-at u16-at.1 c.in-Value.is).0 (omega arith) (omega (arith, (past-at u16-at.1 c.in-Value.is).1)))
 
 pub returns-in-Refused : goal.returns-in-Refused
 returns-in-Refused c = (section-short _ _ (sym c.u16_at.ensures.0 ∙ c.in-Refused.is), outside)

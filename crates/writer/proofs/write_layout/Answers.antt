@@ -21,7 +21,7 @@ put_layout-n-requires c =
     let w = ruled-length args.sheet.now args.width true args.rows.now args.text.now _ _ _ _ e in
     let f = (sound args.rows.now args.text.now (fault-none _ _ _ _ _ w.0).0).formed in
     let h = room_for args.sheet.now args.width args.version args.rows.now args.text.now args.out.now _ _ _ _ e c.if-out-bytes.false in
-    ((w.1.records, (w.1.structs, w.1.labels)), (record_sections _ _ f, (struct_sections _ _ f, (label_def_sections _ _ f, rw c.wide.ensures h))))
+    record { counts = (w.1.records, (w.1.structs, w.1.labels)); sections = record_sections _ _ f; struct_sections = struct_sections _ _ f; label_sections = label_def_sections _ _ f; text_in_bounds = rw c.wide.ensures h }
 
 pub returns-else-out-bytes : goal.returns-else-out-bytes
 returns-else-out-bytes c =

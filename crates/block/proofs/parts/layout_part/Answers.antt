@@ -40,8 +40,7 @@ returns-then-len-eq0-2 c =
 pub returns-in-Accepted : goal.returns-in-Accepted
 returns-in-Accepted c =
     let span-at = c.span_at.ensures in
-    let start2 = c.start-1.given in
-    lays-ok c.args.sheet.now _ c.args.block.now _ (sym span-at.0 ∙ start2.1) (within-at span-at.1 start2.1) c.requires.1 c.if-has_layout.true (omega (arith, c.if-len-eq0.false)) (sym c.in-Accepted.is ∙ c.check_layout.ensures)
+    lays-ok c.args.sheet.now _ c.args.block.now _ (sym span-at.0 ∙ c.in-Part.is) (within-at span-at.1 c.in-Part.is) c.requires.1 c.if-has_layout.true (omega (arith, c.if-len-eq0.false)) (sym c.in-Accepted.is ∙ c.check_layout.ensures)
 
 pub returns-in-Refused-check_layout : goal.returns-in-Refused-check_layout
 returns-in-Refused-check_layout c =

@@ -4,13 +4,13 @@ use Prim.Native.Nat.{◌-◌}
 use native.Mathlib.Nat.{sub-zero}
 use mathlib.Core.Path.{◌≡◌, sym, ap, ◌∙◌}
 use borrow.Author.Tests.{not-true, not-false}
-use Rattle.columns_check.specs.Check.{Every, row_fits}
+use Rattle.columns_check.specs.Check.{every, row_fits}
 use Rattle.columns_check.proofs.WalkLaws.{every_yes, every-no, every-none}
 use borrow.Author.Rules.{rules}
 use Rattle.columns_check.proofs.rows.all_fit.Goals as goal
 
 pub loop-r-init : goal.loop-r-init
-loop-r-init c = let args = c.args in ap (Every (row_fits args.table.now args.text.now) 0) (sub-zero args.n)
+loop-r-init c = let args = c.args in ap (every (row_fits args.table.now args.text.now) 0) (sub-zero args.n)
 
 pub returns-then-not-row_fits : goal.returns-then-not-row_fits
 returns-then-not-row_fits c =

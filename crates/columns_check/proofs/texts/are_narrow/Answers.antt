@@ -6,14 +6,14 @@ use mathlib.Core.Path.{◌≡◌, sym, ap, ◌∙◌}
 use borrow.Author.Tests.{le-leb, lt-leb}
 use lib.Dec.{leb}
 use Rattle.columns_check.specs.Tree.{len_of}
-use Rattle.columns_check.specs.Check.{Every, narrow}
+use Rattle.columns_check.specs.Check.{every, narrow}
 use Rattle.columns_check.proofs.WalkLaws.{every_yes, every-no, every-none}
 use borrow.Author.Rules.{rules}
 use Rattle.columns_check.proofs.texts.are_narrow.Goals as goal
 
 pub loop-r-init : goal.loop-r-init
 unfolding narrow
-loop-r-init c = let args = c.args in ap (Every (λ j. leb (len_of args.table.now j) args.width) 0) (sub-zero args.n)
+loop-r-init c = let args = c.args in ap (every (λ j. leb (len_of args.table.now j) args.width) 0) (sub-zero args.n)
 
 pub returns-then-width-number_at : goal.returns-then-width-number_at
 returns-then-width-number_at c =

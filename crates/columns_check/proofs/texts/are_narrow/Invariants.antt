@@ -6,13 +6,13 @@ use mathlib.Core.Path.{◌≡◌, sym, ap, ◌∙◌}
 use borrow.Author.Tests.{le-leb, lt-leb}
 use lib.Dec.{leb}
 use Rattle.columns_check.specs.Tree.{len_of}
-use Rattle.columns_check.specs.Check.{Every, narrow}
+use Rattle.columns_check.specs.Check.{every, narrow}
 use Rattle.columns_check.proofs.WalkLaws.{every_yes, every-no, every-none}
 use borrow.Author.Rules.{rules}
 use Rattle.columns_check.proofs.texts.are_narrow.Given as goal
 
 abbrev pub invariant-loop-r : goal.invariant-loop-r
-invariant-loop-r l = Every (λ j. leb (len_of l.table j) l.width) l.r (l.n - l.r) ≡ narrow l.width l.table l.n
+invariant-loop-r l = every (λ j. leb (len_of l.table j) l.width) l.r (l.n - l.r) ≡ narrow l.width l.table l.n
 
 abbrev pub decreases-loop-r : goal.decreases-loop-r
 decreases-loop-r l = l.n - l.r

@@ -13,7 +13,7 @@ returns-in-Fine c = let (u, p) = told-fine c.args.part.now (sym c.in-Fine.is ∙
 pub returns-in-NotUtf8 : goal.returns-in-NotUtf8
 returns-in-NotUtf8 c =
     let u = told-not-utf8 c.args.part.now (sym c.in-NotUtf8.is ∙ c.check_padded.ensures) in
-    rw (u, ne_eqb c.args.not-utf8 0 (omega (arith, c.requires)))
+    rw (u, ne_eqb c.args.not_utf8 0 (omega (arith, c.requires)))
 
 pub returns-in-AfterNul : goal.returns-in-AfterNul
 returns-in-AfterNul c = let (u, p) = told-after_nul c.args.part.now (sym c.in-AfterNul.is ∙ c.check_padded.ensures) in rw (u, p)

@@ -7,7 +7,7 @@ use Rattle.item_rules.proofs.Painting.{Painting, painting, paint-skip, paint-cla
 use Rattle.item_rules.proofs.by_marks.mark_side.Goals as goal
 
 pub loop-left-init : goal.loop-left-init
-loop-left-init c = painting _ _ _ _ _ c.requires.in_slice c.requires.enough.0 c.requires.enough.1
+loop-left-init c = painting _ _ _ _ _ c.requires.in_slice c.requires.enough c.requires.unowned
 
 pub entry_at-e-requires : goal.entry_at-e-requires
 entry_at-e-requires c = record { in_slice = c.loop-left.invariant.room; count_nonzero = c.loop-left-test.true }

@@ -12,7 +12,7 @@ pub shape_of-owners-then-b-ne0 : goal.shape_of-owners-then-b-ne0
 shape_of-owners-then-b-ne0 c = ap length c.base_by_marks-b.ensures.owners_unchanged
 
 pub returns-then-b-ne0 : goal.returns-then-b-ne0
-returns-then-b-ne0 c = record { value = tiling_base _ _ _ (c.base_by_marks-b.ensures.value ∙ base_engines c.requires.passed.0) c.if-b-ne0.true; owners_unchanged = c.base_by_marks-b.ensures.owners_unchanged }
+returns-then-b-ne0 c = record { value = tiling_base _ _ _ (c.base_by_marks-b.ensures.value ∙ base_engines c.requires.passed) c.if-b-ne0.true; owners_unchanged = c.base_by_marks-b.ensures.owners_unchanged }
 
 pub ext_by_marks-requires : goal.ext_by_marks-requires
 ext_by_marks-requires c = rw c.base_by_marks-b.ensures.owners_unchanged c.requires
@@ -24,4 +24,4 @@ pub returns : goal.returns
 returns c =
     let pre = c.requires in
     let base-by-marks = c.base_by_marks-b.ensures in
-    record { value = tiling_ext _ _ _ (base-by-marks.0 ∙ base_engines pre.1.0) c.if-b-ne0.false (c.ext_by_marks.ensures.value ∙ ext_engines pre.1.0); owners_unchanged = (c.ext_by_marks.ensures.owners_unchanged ∙ base-by-marks.1) }
+    record { value = tiling_ext _ _ _ (base-by-marks.value ∙ base_engines pre.passed) c.if-b-ne0.false (c.ext_by_marks.ensures.value ∙ ext_engines pre.passed); owners_unchanged = (c.ext_by_marks.ensures.owners_unchanged ∙ base-by-marks.owners_unchanged) }

@@ -6,10 +6,10 @@ use Rattle.item_rules.proofs.Loops.{ext_none, ext_gap, ext_fine}
 use Rattle.item_rules.proofs.by_search.ext_fault.Goals as goal
 
 pub returns-then-k-eq0 : goal.returns-then-k-eq0
-returns-then-k-eq0 c = answered (ext_none _ _ _ c.requires.proper.0 c.requires.proper.1.1 c.if-k-eq0.true)
+returns-then-k-eq0 c = answered (ext_none _ _ _ c.requires.proper c.requires.count c.if-k-eq0.true)
 
 pub chase-c-requires : goal.chase-c-requires
-chase-c-requires c = (c.requires.in_slice, (c.requires.proper.0, (omega (arith, c.requires.proper.1.0), λ h. absurd (let y : ⊥ = omega arith in y))))
+chase-c-requires c = record { in_slice = c.requires.in_slice; proper = c.requires.proper; start_bound = omega (arith, c.requires.base_bound); none = λ h. absurd (let y : ⊥ = omega arith in y) }
 
 pub returns-then-c : goal.returns-then-c
 returns-then-c c = gave_up refl (λ h. let y : ⊥ = omega arith in y)
@@ -17,9 +17,9 @@ returns-then-c c = gave_up refl (λ h. let y : ⊥ = omega arith in y)
 pub returns-then-c-k : goal.returns-then-c-k
 returns-then-c-k c =
     let pre = c.requires in
-    answered (ext_gap _ _ _ pre.1.0 (c.chase-c.ensures c.if-c.false) pre.1.1.1 c.if-c-k.true)
+    answered (ext_gap _ _ _ pre.proper (c.chase-c.ensures c.if-c.false) pre.count c.if-c-k.true)
 
 pub returns : goal.returns
 returns c =
     let pre = c.requires in
-    answered (ext_fine _ _ _ pre.1.0 (c.chase-c.ensures c.if-c.false) pre.1.1.1 c.if-c-k.false)
+    answered (ext_fine _ _ _ pre.proper (c.chase-c.ensures c.if-c.false) pre.count c.if-c-k.false)

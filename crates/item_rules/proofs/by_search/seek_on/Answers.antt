@@ -5,10 +5,10 @@ use Rattle.item_rules.proofs.Loops.{near_hit, far_hit}
 use Rattle.item_rules.proofs.by_search.seek_on.Goals as goal
 
 pub returns-then-near-ne0 : goal.returns-then-near-ne0
-returns-then-near-ne0 c _ = near_hit _ _ _ _ _ c.requires.part_of.0 c.seek-near.ensures c.if-near-ne0.true
+returns-then-near-ne0 c _ = near_hit _ _ _ _ _ c.requires.part_of c.seek-near.ensures c.if-near-ne0.true
 
 pub returns-then-spare-src : goal.returns-then-spare-src
 returns-then-spare-src c e = absurd (subst lib.Dec.T e tt)
 
 pub returns : goal.returns
-returns c _ = far_hit _ _ _ _ _ c.requires.part_of.1 c.seek-far.ensures
+returns c _ = far_hit _ _ _ _ _ c.requires.proper c.seek-far.ensures

@@ -8,7 +8,7 @@ use Rattle.item_rules.proofs.Loops.{sides, low_proper, low-none, high_proper, ti
 use Rattle.item_rules.proofs.by_search.tiling_by_search.Goals as goal
 
 pub base_fault-b-requires : goal.base_fault-b-requires
-base_fault-b-requires c = (c.requires.in_slice, (low_proper c.requires.passed, (low-none c.requires.passed, c.count-k.ensures)))
+base_fault-b-requires c = record { in_slice = c.requires.in_slice; proper = low_proper c.requires.passed; none = low-none c.requires.passed; count = c.count-k.ensures }
 
 pub returns-then-b-ne0 : goal.returns-then-b-ne0
 returns-then-b-ne0 c = tried_as (λ e. tiling_base _ _ _ e c.if-b-ne0.true) c.base_fault-b.ensures
@@ -21,7 +21,7 @@ overflow_sub-src c =
 pub ext_fault-requires : goal.ext_fault-requires
 ext_fault-requires c =
     let args = c.args in
-    (c.requires.in_slice, (high_proper c.requires.passed, (omega (arith, c.requires.passed.small), omega (arith, sides args.frame.is_record args.frame.base (entries_of args.layout.now args.rows.now args.src), entries-length args.layout.now args.rows.now args.src, c.count-k.ensures))))
+    record { in_slice = c.requires.in_slice; proper = high_proper c.requires.passed; base_bound = omega (arith, c.requires.passed.small); count = omega (arith, sides args.frame.is_record args.frame.base (entries_of args.layout.now args.rows.now args.src), entries-length args.layout.now args.rows.now args.src, c.count-k.ensures) }
 
 pub returns : goal.returns
 returns c = tried_as (λ e. tiling_ext _ _ _ (tried_0 c.base_fault-b.ensures c.if-b-ne0.false) c.if-b-ne0.false e) c.ext_fault.ensures

@@ -9,22 +9,22 @@ use Rattle.item_rules.proofs.Turns.{record_61, record_62, record_63, record_64, 
 use Rattle.item_rules.proofs.items.record_fault.Goals as goal
 
 pub returns-then-twice : goal.returns-then-twice
-returns-then-twice c = (answered (record_61 _ _ _ _ _ _ c.args.item c.if-twice.true), (λ z. absurd (let y : ⊥ = omega arith in y), refl))
+returns-then-twice c = record { tried = answered (record_61 _ _ _ _ _ _ c.args.item c.if-twice.true); clean = λ z. absurd (let y : ⊥ = omega arith in y); owners_unchanged = refl }
 
 pub returns-then-item-eq78 : goal.returns-then-item-eq78
-returns-then-item-eq78 c = (answered (record_62 _ _ _ _ _ _ c.args.item c.if-twice.false c.if-item-eq78.true), (λ z. absurd (let y : ⊥ = omega arith in y), refl))
+returns-then-item-eq78 c = record { tried = answered (record_62 _ _ _ _ _ _ c.args.item c.if-twice.false c.if-item-eq78.true); clean = λ z. absurd (let y : ⊥ = omega arith in y); owners_unchanged = refl }
 
 pub returns-then-item-wide : goal.returns-then-item-wide
-returns-then-item-wide c = (answered (record_63 _ _ _ _ _ _ c.args.item c.if-twice.false c.if-item-eq78.false (rw c.wide.ensures at c.if-item-wide.true)), (λ z. absurd (let y : ⊥ = omega arith in y), refl))
+returns-then-item-wide c = record { tried = answered (record_63 _ _ _ _ _ _ c.args.item c.if-twice.false c.if-item-eq78.false (rw c.wide.ensures at c.if-item-wide.true)); clean = λ z. absurd (let y : ⊥ = omega arith in y); owners_unchanged = refl }
 
 pub returns-then-item-ne0 : goal.returns-then-item-ne0
-returns-then-item-ne0 c = (answered (record_64 _ _ _ _ _ _ c.args.item c.if-twice.false c.if-item-eq78.false (rw c.wide.ensures at c.if-item-wide.false) c.if-item-ne0.true), (λ z. absurd (let y : ⊥ = omega arith in y), refl))
+returns-then-item-ne0 c = record { tried = answered (record_64 _ _ _ _ _ _ c.args.item c.if-twice.false c.if-item-eq78.false (rw c.wide.ensures at c.if-item-wide.false) c.if-item-ne0.true); clean = λ z. absurd (let y : ⊥ = omega arith in y); owners_unchanged = refl }
 
 pub seq_fault-requires : goal.seq_fault-requires
 seq_fault-requires c = c.requires
 
 pub shape_of-owners : goal.shape_of-owners
-shape_of-owners c = ap length c.seq_fault.ensures.clean.1
+shape_of-owners c = ap length c.seq_fault.ensures.owners_unchanged
 
 pub returns : goal.returns
-returns c = (tried_as (λ e. record_is _ _ _ _ _ _ c.args.item c.if-twice.false c.if-item-eq78.false (rw c.wide.ensures at c.if-item-wide.false) c.if-item-ne0.false e) c.seq_fault.ensures.tried, c.seq_fault.ensures.clean)
+returns c = (tried_as (λ e. record_is _ _ _ _ _ _ c.args.item c.if-twice.false c.if-item-eq78.false (rw c.wide.ensures at c.if-item-wide.false) c.if-item-ne0.false e) c.seq_fault.ensures.tried, c.seq_fault.ensures.1)

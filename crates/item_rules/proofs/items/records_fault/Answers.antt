@@ -14,7 +14,7 @@ use Rattle.item_rules.proofs.items.records_fault.Goals as goal
 pub loop-item-init : goal.loop-item-init
 loop-item-init c =
     let pre = c.requires in
-    (record { good = pre.0; marks = pre.1.0; seen = []; rtypes = marks-none; same = refl }, refl)
+    (record { good = pre.good; marks = pre.marks; seen = []; rtypes = marks-none; same = refl }, refl)
 
 pub next_item-requires : goal.next_item-requires
 next_item-requires c = c.loop-item.invariant.0.good
@@ -23,10 +23,10 @@ pub record_fault-v-requires : goal.record_fault-v-requires
 record_fault-v-requires c =
     let inv = c.loop-item.invariant in
     let s = step-found c.next_item.ensures c.in-Found.is in
-    (s.room, (inv.0.marks, (s.base, rw inv.1 c.requires.marks.1)))
+    record { in_slice = s.room; marks = inv.0.marks; base_bound = s.base; unowned = rw inv.1 c.requires.unowned }
 
 pub shape_of-owners-then-v-ne0 : goal.shape_of-owners-then-v-ne0
-shape_of-owners-then-v-ne0 c = ap length (c.record_fault-v.ensures.clean.1 ∙ c.loop-item.invariant.1)
+shape_of-owners-then-v-ne0 c = ap length (c.record_fault-v.ensures.owners_unchanged ∙ c.loop-item.invariant.1)
 
 pub returns-then-v-ne0 : goal.returns-then-v-ne0
 returns-then-v-ne0 c =
@@ -40,7 +40,7 @@ pub loop-item-preserved : goal.loop-item-preserved
 loop-item-preserved c =
     let inv = c.loop-item.invariant in
     let record_fault_lem = c.record_fault-v.ensures in
-    (records-on _ _ _ _ _ _ inv.0 (step-found c.next_item.ensures c.in-Found.is) (search rules) c.is_marked-seen.ensures (tried_0 record_fault_lem.0 c.if-v-ne0.false) c.if-v-ne0.false record_fault_lem.1.0 c.mark.ensures, record_fault_lem.1.1 ∙ inv.1)
+    (records-on _ _ _ _ _ _ inv.0 (step-found c.next_item.ensures c.in-Found.is) (search rules) c.is_marked-seen.ensures (tried_0 record_fault_lem.tried c.if-v-ne0.false) c.if-v-ne0.false record_fault_lem.clean c.mark.ensures, record_fault_lem.owners_unchanged ∙ inv.1)
 
 pub shape_of-owners-in-End : goal.shape_of-owners-in-End
 shape_of-owners-in-End c = ap length c.loop-item.invariant.1

@@ -10,7 +10,7 @@ pub slice_bounds-rules_by-end : goal.slice_bounds-rules_by-end
 slice_bounds-rules_by-end c = sym (length-replicate {A = ℕ} 65536 0)
 
 pub rules_by-requires : goal.rules_by-requires
-rules_by-requires c = (c.requires.ready, (rw (length-replicate {A = ℕ} 65536 0) (omega arith), c.requires.unowned))
+rules_by-requires c = record { ready = c.requires.ready; left_in_bounds = rw (length-replicate {A = ℕ} 65536 0) (omega arith); unowned = c.requires.unowned }
 
 pub returns : goal.returns
 returns c = c.rules_by.ensures

@@ -7,12 +7,12 @@ use borrow.Author.Rules.{rules}
 use Rattle.item_rules.proofs.items.rules_by.Goals as goal
 
 pub slice_bounds-rules_in-end-2 : goal.slice_bounds-rules_in-end-2
-slice_bounds-rules_in-end-2 c = sym (length-take-le c.smaller-n.result c.args.table.now (rw (← c.smaller-n.ensures) at c.requires.left_in_bounds.0))
+slice_bounds-rules_in-end-2 c = sym (length-take-le c.smaller-n.result c.args.table.now (rw (← c.smaller-n.ensures) at c.requires.left_in_bounds))
 
 pub rules_in-requires : goal.rules_in-requires
 rules_in-requires c =
     let pre = c.requires in
-    (pre.0.structs-good, (pre.0.records-good, (simp length-take (omega (arith, pre.1.0, c.smaller-n.ensures)), pre.1.1)))
+    record { good = pre.ready.structs-good; good_records = pre.ready.records-good; aligns_len = simp length-take (omega (arith, pre.left_in_bounds, c.smaller-n.ensures)); unowned = pre.unowned }
 
 pub returns : goal.returns
 returns c = c.rules_in.ensures

@@ -6,12 +6,12 @@ use Rattle.item_rules.proofs.Turns.{all-structs, all-records}
 use Rattle.item_rules.proofs.items.rules_in.Goals as goal
 
 pub fill_aligns-requires : goal.fill_aligns-requires
-fill_aligns-requires c = let pre = c.requires in record { good = pre.0; aligns_len = pre.1.1.0 }
+fill_aligns-requires c = let pre = c.requires in record { good = pre.good; aligns_len = pre.aligns_len }
 
 pub structs_fault-v-requires : goal.structs_fault-v-requires
 structs_fault-v-requires c =
     let pre = c.requires in
-    (pre.0, (marks-none, pre.1.1.1))
+    record { good = pre.good; marks = marks-none; unowned = pre.unowned }
 
 pub returns-then-v-ne0 : goal.returns-then-v-ne0
 returns-then-v-ne0 c = tried_as (λ e. all-structs _ _ _ _ _ c.fill_aligns.ensures e c.if-v-ne0.true) c.structs_fault-v.ensures.tried
@@ -20,10 +20,10 @@ pub records_fault-requires : goal.records_fault-requires
 records_fault-requires c =
     let pre = c.requires in
     let structs-fault = c.structs_fault-v.ensures in
-    (pre.1.0, (structs-fault.1.0 c.if-v-ne0.false, rw structs-fault.1.1 pre.1.1.1))
+    record { good = pre.good_records; marks = structs-fault.clean c.if-v-ne0.false; unowned = rw structs-fault.owners_unchanged pre.unowned }
 
 pub returns : goal.returns
 returns c =
     let structs-fault = c.structs_fault-v.ensures in
     let if1 = c.if-v-ne0 in
-    tried_as (λ e. all-records _ _ _ _ _ c.fill_aligns.ensures (tried_0 structs-fault.0 if1.false) if1.false e) (tried-by structs-fault.1.1 c.records_fault.ensures)
+    tried_as (λ e. all-records _ _ _ _ _ c.fill_aligns.ensures (tried_0 structs-fault.tried if1.false) if1.false e) (tried-by structs-fault.owners_unchanged c.records_fault.ensures)

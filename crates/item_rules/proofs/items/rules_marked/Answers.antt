@@ -12,7 +12,7 @@ pub slice_bounds-rules_few-end : goal.slice_bounds-rules_few-end
 slice_bounds-rules_few-end c = sym (length-replicate {A = ℕ} 65536 0)
 
 pub rules_few-requires : goal.rules_few-requires
-rules_few-requires c = (c.requires, (c.if-task-le4096.true, unowned 65536 (lit≤ tt)))
+rules_few-requires c = record { ready = c.requires; left_bound = c.if-task-le4096.true; unowned = unowned 65536 (lit≤ tt) }
 
 pub returns-then-task-le4096 : goal.returns-then-task-le4096
 returns-then-task-le4096 c = tried-all c.rules_few.ensures (length-replicate {A = ℕ} 65536 0)

@@ -6,7 +6,7 @@ use Rattle.item_rules.specs.TriedLaws.{tried-none}
 use Rattle.item_rules.proofs.items.rules_near.Goals as goal
 
 pub rules_few-requires : goal.rules_few-requires
-rules_few-requires c = (c.requires.ready, (c.requires.left_bound, unowned 8192 (omega arith)))
+rules_few-requires c = record { ready = c.requires.ready; left_bound = c.requires.left_bound; unowned = unowned 8192 (omega arith) }
 
 pub returns : goal.returns
 returns c = tried-none c.rules_few.ensures

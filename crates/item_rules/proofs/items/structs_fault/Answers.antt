@@ -10,7 +10,7 @@ use Rattle.item_rules.proofs.Turns.{step-found, step_end, step_less, Structing, 
 use Rattle.item_rules.proofs.items.structs_fault.Goals as goal
 
 pub loop-item-init : goal.loop-item-init
-loop-item-init c = let pre = c.requires in (record { good = pre.0; marks = pre.1.0; same = refl }, refl)
+loop-item-init c = let pre = c.requires in (record { good = pre.good; marks = pre.marks; same = refl }, refl)
 
 pub next_item-requires : goal.next_item-requires
 next_item-requires c = c.loop-item.invariant.0.good
@@ -19,15 +19,15 @@ pub struct_fault-v-requires : goal.struct_fault-v-requires
 struct_fault-v-requires c =
     let inv = c.loop-item.invariant in
     let s = step-found c.next_item.ensures c.in-Found.is in
-    (s.room, (inv.0.marks, (s.base, rw inv.1 c.requires.marks.1)))
+    record { in_slice = s.room; marks = inv.0.marks; base_bound = s.base; unowned = rw inv.1 c.requires.unowned }
 
 pub shape_of-owners-then-v-ne0 : goal.shape_of-owners-then-v-ne0
-shape_of-owners-then-v-ne0 c = ap length (c.struct_fault-v.ensures.clean.1 ∙ c.loop-item.invariant.1)
+shape_of-owners-then-v-ne0 c = ap length (c.struct_fault-v.ensures.owners_unchanged ∙ c.loop-item.invariant.1)
 
 pub returns-then-v-ne0 : goal.returns-then-v-ne0
 returns-then-v-ne0 c =
     let inv = c.loop-item.invariant in
-    (tried_as (λ e. structs-stop _ _ _ _ _ _ inv.0 (step-found c.next_item.ensures c.in-Found.is) e c.if-v-ne0.true) (tried-by inv.1 c.struct_fault-v.ensures.tried), (λ z. absurd (c.if-v-ne0.true z), c.struct_fault-v.ensures.clean.1 ∙ inv.1))
+    record { tried = tried_as (λ e. structs-stop _ _ _ _ _ _ inv.0 (step-found c.next_item.ensures c.in-Found.is) e c.if-v-ne0.true) (tried-by inv.1 c.struct_fault-v.ensures.tried); clean = λ z. absurd (c.if-v-ne0.true z); owners_unchanged = c.struct_fault-v.ensures.owners_unchanged ∙ inv.1 }
 
 pub loop-item-smaller : goal.loop-item-smaller
 loop-item-smaller c = step_less (step-found c.next_item.ensures c.in-Found.is)
@@ -35,10 +35,10 @@ loop-item-smaller c = step_less (step-found c.next_item.ensures c.in-Found.is)
 pub loop-item-preserved : goal.loop-item-preserved
 loop-item-preserved c =
     let inv = c.loop-item.invariant in
-    (structs-on _ _ _ _ _ _ inv.0 (step-found c.next_item.ensures c.in-Found.is) (tried_0 c.struct_fault-v.ensures.tried c.if-v-ne0.false) c.if-v-ne0.false c.struct_fault-v.ensures.clean.0, c.struct_fault-v.ensures.clean.1 ∙ inv.1)
+    (structs-on _ _ _ _ _ _ inv.0 (step-found c.next_item.ensures c.in-Found.is) (tried_0 c.struct_fault-v.ensures.tried c.if-v-ne0.false) c.if-v-ne0.false c.struct_fault-v.ensures.clean, c.struct_fault-v.ensures.owners_unchanged ∙ inv.1)
 
 pub shape_of-owners-in-End : goal.shape_of-owners-in-End
 shape_of-owners-in-End c = ap length c.loop-item.invariant.1
 
 pub returns-in-End : goal.returns-in-End
-returns-in-End c = (answered (structs_end _ _ _ _ _ _ c.loop-item.invariant.0 (step_end c.next_item.ensures c.in-End.is)), (λ _. c.loop-item.invariant.0.marks, c.loop-item.invariant.1))
+returns-in-End c = record { tried = answered (structs_end _ _ _ _ _ _ c.loop-item.invariant.0 (step_end c.next_item.ensures c.in-End.is)); clean = λ _. c.loop-item.invariant.0.marks; owners_unchanged = c.loop-item.invariant.1 }

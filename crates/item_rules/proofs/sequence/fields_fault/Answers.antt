@@ -17,7 +17,7 @@ entry_at-e-requires c = record { in_slice = c.loop-left.invariant.0.room; count_
 pub returns-then-v-ne0 : goal.returns-then-v-ne0
 returns-then-v-ne0 c =
     let stop = fields-stop _ _ _ _ _ _ _ _ c.loop-left.invariant.0 c.loop-left-test.true c.entry_at-e.ensures c.class_of-c.ensures.id (search rules) c.is_marked-seen.ensures c.check_field-v.ensures c.if-v-ne0.true in
-    (c.walked.ensures.0 ∙ stop, (λ z. absurd (c.if-v-ne0.true (sym c.walked.ensures.0 ∙ z)), λ h. absurd (no_true (sym h ∙ c.walked.ensures.1.0))))
+    record { fault = c.walked.ensures.0 ∙ stop; only_ids = λ z. absurd (c.if-v-ne0.true (sym c.walked.ensures.0 ∙ z)); in_turn = λ h. absurd (no_true (sym h ∙ c.walked.ensures.1.0)) }
 
 pub rest-left-requires : goal.rest-left-requires
 rest-left-requires c = (c.loop-left-test.true, c.loop-left.invariant.0.room.small)
@@ -40,4 +40,4 @@ returns c =
     let inv = c.loop-left.invariant in
     let none = c.loop-left-test.false in
     let is = c.walked-2.ensures in
-    (is.0 ∙ fields-end _ _ _ _ _ _ _ _ inv.0 none, (λ _. fields-marks _ _ _ _ _ _ _ _ inv.0 none, λ h. rw is.1.1 (follow_end _ _ _ _ inv.1 none (sym is.1.0 ∙ h))))
+    record { fault = is.0 ∙ fields-end _ _ _ _ _ _ _ _ inv.0 none; only_ids = λ _. fields-marks _ _ _ _ _ _ _ _ inv.0 none; in_turn = λ h. rw is.1.1 (follow_end _ _ _ _ inv.1 none (sym is.1.0 ∙ h)) }

@@ -10,7 +10,7 @@ pub returns-then-v-ne-GAVE_UP : goal.returns-then-v-ne-GAVE_UP
 returns-then-v-ne-GAVE_UP c = record { tried = answered (tried-is c.tiling_by_search-v.ensures c.if-v-ne-GAVE_UP.true); owners_unchanged = refl }
 
 pub too_few-requires : goal.too_few-requires
-too_few-requires c = let pre = c.requires in record { in_slice = pre.0; passed = pre.1.0 }
+too_few-requires c = let pre = c.requires in record { in_slice = pre.in_slice; passed = pre.passed }
 
 pub returns-then-too_few : goal.returns-then-too_few
 returns-then-too_few c = record { tried = gave_up refl (c.too_few.ensures.below_65536 c.if-too_few.true); owners_unchanged = refl }
@@ -18,7 +18,7 @@ returns-then-too_few c = record { tried = gave_up refl (c.too_few.ensures.below_
 pub tiling_by_marks-requires : goal.tiling_by_marks-requires
 tiling_by_marks-requires c =
     let pre = c.requires in
-    (pre.0, (pre.1.0, (c.too_few.ensures.markable c.if-too_few.false, pre.1.1)))
+    record { in_slice = pre.in_slice; passed = pre.passed; markable = c.too_few.ensures.markable c.if-too_few.false; unowned = pre.unowned }
 
 pub shape_of-owners : goal.shape_of-owners
 shape_of-owners c = ap length c.tiling_by_marks.ensures.owners_unchanged

@@ -5,7 +5,7 @@ use borrow.Author.Rules.{rules}
 use Rattle.item_rules.proofs.walk.fields_in.Goals as goal
 
 pub cell-requires : goal.cell-requires
-cell-requires c = omega (arith, row-columns c.args.is-record, row_bounds c.requires, c.column.ensures)
+cell-requires c = omega (arith, row-columns c.args.is_record, row_bounds c.requires, c.column.ensures)
 
 pub returns : goal.returns
 returns c = rw c.column.ensures at c.cell.ensures

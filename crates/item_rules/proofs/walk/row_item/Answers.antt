@@ -5,7 +5,7 @@ use borrow.Author.Rules.{rules}
 use Rattle.item_rules.proofs.walk.row_item.Goals as goal
 
 pub cell-base-requires : goal.cell-base-requires
-cell-base-requires c = omega (arith, row-columns c.args.is-record, row_bounds c.requires, c.column.ensures)
+cell-base-requires c = omega (arith, row-columns c.args.is_record, row_bounds c.requires, c.column.ensures)
 
 pub overflow_mul-result : goal.overflow_mul-result
 overflow_mul-result c = omega (arith, row_bounds c.requires)

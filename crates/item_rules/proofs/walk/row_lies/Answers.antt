@@ -11,13 +11,13 @@ pub returns-then-column-gt65535 : goal.returns-then-column-gt65535
 returns-then-column-gt65535 c = row-rtype _ _ _ (rw c.cell.ensures.0 at c.column.ensures) c.if-column-gt65535.true
 
 pub cell-requires-2 : goal.cell-requires-2
-cell-requires-2 c = omega (arith, row-columns c.args.is-record, c.column-2.ensures, c.if-n-q.false)
+cell-requires-2 c = omega (arith, row-columns c.args.is_record, c.column-2.ensures, c.if-n-q.false)
 
 pub returns-then-cell-gt65535 : goal.returns-then-cell-gt65535
 returns-then-cell-gt65535 c = row-base _ _ _ (rw c.column-2.ensures at c.cell-2.ensures.0) c.if-cell-gt65535.true
 
 pub cell-k-requires : goal.cell-k-requires
-cell-k-requires c = omega (arith, row-columns c.args.is-record, c.column-3.ensures, c.if-n-q.false)
+cell-k-requires c = omega (arith, row-columns c.args.is_record, c.column-3.ensures, c.if-n-q.false)
 
 pub overflow_add-result : goal.overflow_add-result
 overflow_add-result c = omega (arith, c.if-n-q.false)

@@ -23,8 +23,7 @@ pub returns-then-is_marked : goal.returns-then-is_marked
 returns-then-is_marked c =
     let inv = c.loop-todo.invariant in
     let u16-at = c.u16_at.ensures in
-    let x = c.x-1.given in
-    record { ran = going-no inv.going (labels_55 _ _ _ _ _ _ c.loop-todo-test.true (sym u16-at.0 ∙ x.1) (sym c.name_in.ensures.0 ∙ c.in-Value-name_in.is) (sym (inv.marks.right _ (past-at u16-at.1 x.1).2) ∙ sym c.is_marked.ensures ∙ c.if-is_marked.true)); cleared = tt }
+    record { ran = going-no inv.going (labels_55 _ _ _ _ _ _ c.loop-todo-test.true (sym u16-at.0 ∙ c.in-Value.is) (sym c.name_in.ensures.0 ∙ c.in-Value-name_in.is) (sym (inv.marks.right _ (past-at u16-at.1 c.in-Value.is).2) ∙ sym c.is_marked.ensures ∙ c.if-is_marked.true)); cleared = tt }
 
 pub overflow_cast-x-in-Value-name_in : goal.overflow_cast-x-in-Value-name_in
 overflow_cast-x-in-Value-name_in c = omega (arith, past-at c.u16_at.ensures.1 c.in-Value.is)
@@ -52,17 +51,15 @@ loop-todo-preserved c =
     let inv = c.loop-todo.invariant in
     let loop-test = c.loop-todo-test in
     let u16-at = c.u16_at.ensures in
-    let x = c.x-1.given in
     let name-at = c.name_in.ensures in
-    let l = c.l-1.given in
-    let w = label-place _ _ _ (sym u16-at.0 ∙ x.1) (sym name-at.0 ∙ l.1) (past-at name-at.1 l.1).1 in
-    let free = sym (inv.marks.right _ (past-at u16-at.1 x.1).2) ∙ sym c.is_marked.ensures ∙ c.if-is_marked.false in
+    let w = label-place _ _ _ (sym u16-at.0 ∙ c.in-Value.is) (sym name-at.0 ∙ c.in-Value-name_in.is) (past-at name-at.1 c.in-Value-name_in.is).1 in
+    let free = sym (inv.marks.right _ (past-at u16-at.1 c.in-Value.is).2) ∙ sym c.is_marked.ensures ∙ c.if-is_marked.false in
     record {
       seen = _;
-      going = going-row inv.going (labels-row _ _ _ _ _ _ loop-test.true (sym u16-at.0 ∙ x.1) (sym name-at.0 ∙ l.1) free)
-          (put-row_as c.label_row-row.ensures c.put_row.ensures) c.put_row.auto.0 (omega (arith, past-at u16-at.1 x.1, past-at name-at.1 l.1, inv.going));
-      marks = rw c.mark.ensures (marks-more _ _ _ (past-at u16-at.1 x.1).2 inv.marks);
-      trail = trail-next _ inv.trail loop-test.true w.0 w.1 (past-at name-at.1 l.1).1;
+      going = going-row inv.going (labels-row _ _ _ _ _ _ loop-test.true (sym u16-at.0 ∙ c.in-Value.is) (sym name-at.0 ∙ c.in-Value-name_in.is) free)
+          (put-row_as c.label_row-row.ensures c.put_row.ensures) c.put_row.auto.table (omega (arith, past-at u16-at.1 c.in-Value.is, past-at name-at.1 c.in-Value-name_in.is, inv.going));
+      marks = rw c.mark.ensures (marks-more _ _ _ (past-at u16-at.1 c.in-Value.is).2 inv.marks);
+      trail = trail-next _ inv.trail loop-test.true w.0 w.1 (past-at name-at.1 c.in-Value-name_in.is).1;
     }
 
 pub shape_of-table-in-Refused-name_in : goal.shape_of-table-in-Refused-name_in

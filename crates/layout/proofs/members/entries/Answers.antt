@@ -22,9 +22,8 @@ overflow_add-k c = omega (arith, past-at c.take.ensures.1 c.in-Value.is)
 pub loop-todo-preserved : goal.loop-todo-preserved
 loop-todo-preserved c =
     let take = c.take.ensures in
-    let next = c.next-1.given in
-    going-row c.loop-todo.invariant (entries-row _ _ _ _ _ (sym D-is) c.loop-todo-test.true (sym take.0 ∙ next.1))
-    (put-row_as (c.entry_row-row.ensures ∙ ap (λ (b : List ℕ). head_row b) c.entry_bytes-b.ensures) c.put_row.ensures) c.put_row.auto.0 (omega (arith, past-at take.1 next.1))
+    going-row c.loop-todo.invariant (entries-row _ _ _ _ _ (sym D-is) c.loop-todo-test.true (sym take.0 ∙ c.in-Value.is))
+    (put-row_as (c.entry_row-row.ensures ∙ ap (λ (b : List ℕ). head_row b) c.entry_bytes-b.ensures) c.put_row.ensures) c.put_row.auto.table (omega (arith, past-at take.1 c.in-Value.is))
 
 pub shape_of-table-in-Refused : goal.shape_of-table-in-Refused
 shape_of-table-in-Refused c = c.loop-todo.invariant.wide

@@ -27,9 +27,8 @@ overflow_add-k c = omega (arith, past-at c.name_in.ensures.1 c.in-Value.is)
 pub loop-todo-preserved : goal.loop-todo-preserved
 loop-todo-preserved c =
     let name-at = c.name_in.ensures in
-    let value = c.value-1.given in
-    going-row c.loop-todo.invariant (names-row _ _ _ _ _ c.loop-todo-test.true (sym name-at.0 ∙ value.1))
-    (put-row_as c.name_row-row.ensures c.put_row.ensures) c.put_row.auto.0 (omega (arith, past-at name-at.1 value.1))
+    going-row c.loop-todo.invariant (names-row _ _ _ _ _ c.loop-todo-test.true (sym name-at.0 ∙ c.in-Value.is))
+    (put-row_as c.name_row-row.ensures c.put_row.ensures) c.put_row.auto.table (omega (arith, past-at name-at.1 c.in-Value.is))
 
 pub shape_of-table-in-Refused : goal.shape_of-table-in-Refused
 shape_of-table-in-Refused c = c.loop-todo.invariant.wide

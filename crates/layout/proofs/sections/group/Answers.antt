@@ -10,7 +10,7 @@ use Rattle.layout.proofs.sections.group.Goals as goal
 pub sections-requires : goal.sections-requires
 sections-requires c =
     let pre = c.requires in
-    (omega (arith, past-at c.u16_at.ensures.1 c.in-Value.is, pre.0), pre.1)
+    (omega (arith, past-at c.u16_at.ensures.1 c.in-Value.is, pre.room), pre.marks)
 
 pub returns-in-Value : goal.returns-in-Value
 unfolding group_at

@@ -12,14 +12,14 @@ group-requires c = record { room = c.requires; marks = marks-none }
 pub group-requires-in-Value : goal.group-requires-in-Value
 group-requires-in-Value c =
     let group = c.group.ensures in
-    let w = ran_at group.0 c.in-Value.is in
-    record { room = record { small = c.requires.small; few = w.0; inside = w.1 }; marks = cleared_at group.1 c.in-Value.is }
+    let w = ran_at group.ran c.in-Value.is in
+    record { room = record { small = c.requires.small; few = w.0; inside = w.1 }; marks = cleared_at group.cleared c.in-Value.is }
 
 pub group-requires-in-Value-group : goal.group-requires-in-Value-group
 group-requires-in-Value-group c =
     let group2 = c.group-in-Value.ensures in
-    let w = ran_at group2.0 c.in-Value-group.is in
-    record { room = record { small = c.requires.small; few = w.0; inside = w.1 }; marks = cleared_at group2.1 c.in-Value-group.is }
+    let w = ran_at group2.ran c.in-Value-group.is in
+    record { room = record { small = c.requires.small; few = w.0; inside = w.1 }; marks = cleared_at group2.cleared c.in-Value-group.is }
 
 pub returns-in-Value-group : goal.returns-in-Value-group
 returns-in-Value-group c = ran_is (groups-is _ _ _) (ran_seq c.group.ensures.ran _ c.in-Value.is (ran_seq c.group-in-Value.ensures.ran _ c.in-Value-group.is c.group-in-Value-group.ensures.ran))

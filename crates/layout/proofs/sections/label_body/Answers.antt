@@ -13,7 +13,7 @@ label_def_row-row-requires c = omega (arith, past-at c.u16_at.ensures.1 c.in-Val
 pub labels-requires : goal.labels-requires
 labels-requires c =
     let pre = c.requires in
-    (omega (arith, past-at c.u16_at.ensures.1 c.in-Value-u16_at.is, past-at c.name_in.ensures.1 c.in-Value.is, pre.0), pre.1)
+    (omega (arith, past-at c.u16_at.ensures.1 c.in-Value-u16_at.is, past-at c.name_in.ensures.1 c.in-Value.is, pre.room), pre.marks)
 
 pub returns-in-Value-u16_at : goal.returns-in-Value-u16_at
 returns-in-Value-u16_at c = record {

@@ -41,12 +41,10 @@ loop-todo-smaller c = omega arith
 pub loop-todo-preserved : goal.loop-todo-preserved
 loop-todo-preserved c =
     let section-at = c.section_at.ensures in
-    let b = c.b-1.given in
-    let body = c.body in
-    let w = lies_at section-at.1 b.1 in (
-      going-run c.loop-todo.invariant.0 _ (sections-run _ _ _ _ _ c.loop-todo-test.true (sym section-at.0 ∙ b.1))
-          (ran_shifted body.ensures.0 _ c.in-Value-body.is) c.in-Value-body.is body.auto.1.1.1.1.0 (part-few _ _ _ (ran_at body.ensures.0 c.in-Value-body.is) w.1 w.2),
-      cleared_at body.ensures.1 c.in-Value-body.is,
+    let w = lies_at section-at.1 c.in-Value.is in (
+      going-run c.loop-todo.invariant.0 _ (sections-run _ _ _ _ _ c.loop-todo-test.true (sym section-at.0 ∙ c.in-Value.is))
+          (ran_shifted c.body.ensures.ran _ c.in-Value-body.is) c.in-Value-body.is c.body.auto.table (part-few _ _ _ (ran_at c.body.ensures.ran c.in-Value-body.is) w.1 w.2),
+      cleared_at c.body.ensures.cleared c.in-Value-body.is,
     )
 
 pub overflow_add-result : goal.overflow_add-result
@@ -56,7 +54,7 @@ overflow_add-result c =
     omega (arith, h, c.requires.0.small)
 
 pub shape_of-table-in-Refused-body : goal.shape_of-table-in-Refused-body
-shape_of-table-in-Refused-body c = c.body.auto.1.1.1.1.0 ∙ c.loop-todo.invariant.0.wide
+shape_of-table-in-Refused-body c = c.body.auto.table ∙ c.loop-todo.invariant.0.wide
 
 pub returns-in-Refused-body : goal.returns-in-Refused-body
 returns-in-Refused-body c = record { ran = going_halt c.loop-todo.invariant.0 _ (sections-run _ _ _ _ _ c.loop-todo-test.true (sym c.section_at.ensures.0 ∙ c.in-Value.is)) (ran_moved c.body.ensures.ran _ c.in-Refused-body.is) refl; cleared = tt }

@@ -4,7 +4,7 @@ use Prim.Native.Nat.{◌+◌}
 use mathlib.Core.Path.{◌≡◌, refl, sym, ◌∙◌}
 use borrow.Author.Tests.{not-true, not-false}
 use Rattle.rows_check.specs.Tree.{row_count}
-use Rattle.rows_check.specs.Check.{Every}
+use Rattle.rows_check.specs.Check.{every}
 use Rattle.rows_check.specs.Answers.{row_good}
 use Rattle.rows_check.specs.CheckLaws.{every-none, every_yes, every-no}
 use borrow.Author.Rules.{rules}

@@ -3,7 +3,7 @@
 use Prim.Native.Nat.{◌-◌, ◌≤◌}
 use mathlib.Core.Path.{◌≡◌, refl, sym, ◌∙◌}
 use mathlib.Core.Bool.{◌&&◌}
-use Rattle.rows_check.specs.Check.{Every, number_fits}
+use Rattle.rows_check.specs.Check.{every, number_fits}
 use Rattle.rows_check.proofs.WalkLaws.{fit_next, fit_none}
 use borrow.Author.Rules.{rules}
 use Rattle.rows_check.proofs.fits.numbers_fit.Goals as goal

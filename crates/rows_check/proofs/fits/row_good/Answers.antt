@@ -18,12 +18,9 @@ returns-then-not-count_fits c = simp (sym c.row_fits.ensures ∙ c.if-not-row_fi
 pub returns-then-not-name_short : goal.returns-then-not-name_short
 unfolding row_good both
 returns-then-not-name_short c =
-    let row_fits_lem = c.row_fits in
-    simp (sym row_fits_lem.ensures ∙ c.if-not-row_fits.false, sym c.count_fits.ensures ∙ c.if-not-count_fits.false, sym c.name_short.ensures ∙ c.if-not-name_short.true)
+    simp (sym c.row_fits.ensures ∙ c.if-not-row_fits.false, sym c.count_fits.ensures ∙ c.if-not-count_fits.false, sym c.name_short.ensures ∙ c.if-not-name_short.true)
 
 pub returns : goal.returns
 unfolding row_good both
 returns c =
-    let row_fits_lem = c.row_fits in
-    let count_fits_lem = c.count_fits in
-    c.name_clean.ensures ∙ simp (sym row_fits_lem.ensures ∙ c.if-not-row_fits.false, sym count_fits_lem.ensures ∙ c.if-not-count_fits.false, sym c.name_short.ensures ∙ c.if-not-name_short.false)
+    c.name_clean.ensures ∙ simp (sym c.row_fits.ensures ∙ c.if-not-row_fits.false, sym c.count_fits.ensures ∙ c.if-not-count_fits.false, sym c.name_short.ensures ∙ c.if-not-name_short.false)

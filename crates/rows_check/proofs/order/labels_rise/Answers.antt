@@ -6,7 +6,7 @@ use native.Mathlib.Omega.{arith}
 use mathlib.Core.Path.{◌≡◌, sym, ◌∙◌}
 use borrow.Author.Tests.{not-true, not-false}
 use Rattle.rows_check.specs.Tree.{row_count}
-use Rattle.rows_check.specs.Check.{Every, rises_at}
+use Rattle.rows_check.specs.Check.{every, rises_at}
 use Rattle.rows_check.specs.CheckLaws.{every-none, every_yes, every-no, every-past}
 use borrow.Author.Rules.{rules}
 use Rattle.rows_check.proofs.order.labels_rise.Goals as goal

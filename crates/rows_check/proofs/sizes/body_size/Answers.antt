@@ -9,7 +9,7 @@ use Rattle.rows_check.proofs.sizes.body_size.Goals as goal
 pub names_size-requires : goal.names_size-requires
 names_size-requires c =
     let s = c.requires.section_rows in
-    rw (c.names_from-from.ensures.0, c.count_of-n.ensures.0) (omega arith, (s.inside, s.names))
+    rw (c.names_from-from.ensures.0, c.count_of-n.ensures.0) record { sum_bound = omega arith; n_in_bounds = s.inside; spans = s.names }
 
 pub returns : goal.returns
 returns c =

@@ -17,7 +17,7 @@ loop-todo-init c = (search rules, refl, c.requires.sum_bound, refl)
 
 pub loop-todo-preserved : goal.loop-todo-preserved
 loop-todo-preserved c =
-    let h = name-length c.args.rows.now c.args.text.now c.loop-todo.p (c.requires.n_in_bounds.1 c.loop-todo.p (omega arith) (omega arith)) in
+    let h = name-length c.args.rows.now c.args.text.now c.loop-todo.p (c.requires.spans c.loop-todo.p (omega arith) (omega arith)) in
     (search rules, search rules, omega arith, rw c.add_to-s.ensures (sizes-next _ _ _ _ _ _ c.loop-todo-test.true (omega (arith, h))) ∙ c.loop-todo.invariant.3)
 
 pub returns : goal.returns

@@ -6,15 +6,15 @@ use Rattle.rows_check.proofs.SizeLaws.{size-le, total}
 use Rattle.rows_check.proofs.sizes.total_size.Goals as goal
 
 pub sections_size-a-requires : goal.sections_size-a-requires
-sections_size-a-requires c = record { sum_bound = omega arith; sections = rw c.requires.counts.0 c.requires.sections.0 }
+sections_size-a-requires c = record { sum_bound = omega arith; sections = rw c.requires.counts.0 c.requires.sections }
 
 pub sections_size-b-requires : goal.sections_size-b-requires
-sections_size-b-requires c = record { sum_bound = rw c.sections_size-a.ensures.0 (size-le _ _); sections = rw (c.sections_size-a.ensures.1, c.requires.counts.0, c.requires.counts.1.0) c.requires.sections.1.0 }
+sections_size-b-requires c = record { sum_bound = rw c.sections_size-a.ensures.0 (size-le _ _); sections = rw (c.sections_size-a.ensures.1, c.requires.counts.0, c.requires.counts.1.0) c.requires.struct_sections }
 
 pub sections_size-d-requires : goal.sections_size-d-requires
 sections_size-d-requires c =
     let pre = c.requires in
-    record { sum_bound = rw c.sections_size-b.ensures.0 (size-le _ _); sections = rw (c.sections_size-b.ensures.1, c.sections_size-a.ensures.1, pre.0.0, pre.0.1.0, pre.0.1.1) pre.1.1.1 }
+    record { sum_bound = rw c.sections_size-b.ensures.0 (size-le _ _); sections = rw (c.sections_size-b.ensures.1, c.sections_size-a.ensures.1, pre.counts.0, pre.counts.1.0, pre.counts.1.1) pre.label_sections }
 
 pub returns : goal.returns
 returns c =

@@ -6,3 +6,7 @@ use Rattle.symbology_rows.proofs.lists.can_be.Goals as goal
 
 pub returns-then-least-eq0 : goal.returns-then-least-eq0
 returns-then-least-eq0 c = rw c.if-least-eq0.true (can_0 c.args.count c.args.room)
+
+pub returns : goal.returns
+unfolding can_be
+returns c = search rules

@@ -36,9 +36,8 @@ symbols-requires c =
 pub returns-then-can_be : goal.returns-then-can_be
 returns-then-can_be c =
     let u32-at = c.u32_at.ensures in
-    let value = c.value-1.given in
     let can = can_here _ _ c.left.ensures c.can_be.ensures c.if-can_be.true in
-    ran_is (list-ok _ _ _ _ _ _ _ (sym u32-at.0 ∙ value.1) can ∙ easy_same _ _ _ _ _ _ _ (past-at u32-at.1 value.1).1 can _ _ c.are_easy-easy.ensures) c.symbols.ensures
+    ran_is (list-ok _ _ _ _ _ _ _ (sym u32-at.0 ∙ c.in-Value.is) can ∙ easy_same _ _ _ _ _ _ _ (past-at u32-at.1 c.in-Value.is).1 can _ _ c.are_easy-easy.ensures) c.symbols.ensures
 
 pub returns-else-can_be : goal.returns-else-can_be
 returns-else-can_be c = ran_no (list_31 _ _ _ _ _ _ _ (sym c.u32_at.ensures.0 ∙ c.in-Value.is) (can_here _ _ c.left.ensures c.can_be.ensures c.if-can_be.false))

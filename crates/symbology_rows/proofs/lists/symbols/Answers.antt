@@ -50,10 +50,9 @@ pub loop-todo-preserved : goal.loop-todo-preserved
 loop-todo-preserved c =
     let inv = c.loop-todo.invariant in
     let loop-test = c.loop-todo-test in
-    let symbol-at = c.symbol_at.ensures in
-    let next = c.next-1.given in (
-      going-row inv.0 (symbols-row _ _ _ _ _ _ _ _ loop-test.true (sym symbol-at.0 ∙ next.1)) c.put_symbol.ensures c.put_symbol.auto.0
-          (omega (arith, past-at symbol-at.1 next.1, c.requires.width_bound, inv, loop-test.true)),
+    let symbol-at = c.symbol_at.ensures in (
+      going-row inv.0 (symbols-row _ _ _ _ _ _ _ _ loop-test.true (sym symbol-at.0 ∙ c.in-Value.is)) c.put_symbol.ensures c.put_symbol.auto.table
+          (omega (arith, past-at symbol-at.1 c.in-Value.is, c.requires.width_bound, inv, loop-test.true)),
       omega arith,
     )
 

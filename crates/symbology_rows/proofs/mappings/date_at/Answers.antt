@@ -35,9 +35,8 @@ overflow_cast-value c = omega (arith, past-at c.u32_at.ensures.1 c.in-Value.is)
 pub returns-then-is_date_in : goal.returns-then-is_date_in
 returns-then-is_date_in c =
     let u32-at = c.u32_at.ensures in
-    let value = c.value-1.given in
-    let small = past-at u32-at.1 value.1 in (
-      date-ok _ _ _ _ (sym u32-at.0 ∙ value.1) (sym c.if-is_date_in.true ∙ c.is_date_in.ensures.0 ∙ date-right _ c.requires.right _ (omega (arith, small)) ∙ sym (lax_in is_date _ c.if-light.false)),
+    let small = past-at u32-at.1 c.in-Value.is in (
+      date-ok _ _ _ _ (sym u32-at.0 ∙ c.in-Value.is) (sym c.if-is_date_in.true ∙ c.is_date_in.ensures.0 ∙ date-right _ c.requires.right _ (omega (arith, small)) ∙ sym (lax_in is_date _ c.if-light.false)),
       (let (x, y, z) = small in past-mk x y z),
       subst Right (sym c.is_date_in.ensures.1) (right_tested _ c.requires.right _ (omega (arith, small))),
     )
@@ -45,9 +44,8 @@ returns-then-is_date_in c =
 pub returns-else-is_date_in : goal.returns-else-is_date_in
 returns-else-is_date_in c =
     let u32-at = c.u32_at.ensures in
-    let value = c.value-1.given in
-    let small = past-at u32-at.1 value.1 in (
-      date-bad _ _ _ _ (sym u32-at.0 ∙ value.1) (sym c.if-is_date_in.false ∙ c.is_date_in.ensures.0 ∙ date-right _ c.requires.right _ (omega (arith, small)) ∙ sym (lax_in is_date _ c.if-light.false)),
+    let small = past-at u32-at.1 c.in-Value.is in (
+      date-bad _ _ _ _ (sym u32-at.0 ∙ c.in-Value.is) (sym c.if-is_date_in.false ∙ c.is_date_in.ensures.0 ∙ date-right _ c.requires.right _ (omega (arith, small)) ∙ sym (lax_in is_date _ c.if-light.false)),
       refused,
       subst Right (sym c.is_date_in.ensures.1) (right_tested _ c.requires.right _ (omega (arith, small))),
     )

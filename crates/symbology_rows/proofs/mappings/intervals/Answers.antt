@@ -50,10 +50,10 @@ overflow_cast-b c = omega (arith, past-at c.date_at-in-Value.ensures.1 c.in-Valu
 pub put_interval-requires : goal.put_interval-requires
 put_interval-requires c =
     let symbol-at = c.interval_name.ensures in
-    let e = c.e-1.given in record {
+    record {
       start_bound = (
-        omega (arith, past-at symbol-at.1 e.1, c.requires.0),
-        omega (arith, symbol-wide _ c.args.width 37 40 43 c.args.s.now _ (sym symbol-at.0 ∙ e.1) (past-at symbol-at.1 e.1).1, c.requires.1),
+        omega (arith, past-at symbol-at.1 c.in-Value-interval_name.is, c.requires.0),
+        omega (arith, symbol-wide _ c.args.width 37 40 43 c.args.s.now _ (sym symbol-at.0 ∙ c.in-Value-interval_name.is) (past-at symbol-at.1 c.in-Value-interval_name.is).1, c.requires.1),
         omega (arith, c.requires.0, c.loop-todo.invariant.0),
       );
       right = c.date_at-in-Value.ensures.2;
@@ -72,15 +72,12 @@ pub loop-todo-preserved : goal.loop-todo-preserved
 loop-todo-preserved c =
     let inv = c.loop-todo.invariant.0 in
     let date-at = c.date_at.ensures in
-    let a = c.a-1.given in
     let date-at2 = c.date_at-in-Value.ensures in
-    let b = c.b-1.given in
-    let symbol-at = c.interval_name.ensures in
-    let e = c.e-1.given in (
-      going-row inv (intervals-row _ _ _ _ _ _ _ c.loop-todo-test.true (sym date-at.0 ∙ a.1) (sym date-at2.0 ∙ b.1) (sym symbol-at.0 ∙ e.1)) c.put_interval.ensures.0 c.put_interval.auto.0
-          (omega (arith, past-at date-at.1 a.1, past-at date-at2.1 b.1, past-at symbol-at.1 e.1, inv)),
+    let symbol-at = c.interval_name.ensures in (
+      going-row inv (intervals-row _ _ _ _ _ _ _ c.loop-todo-test.true (sym date-at.0 ∙ c.in-Value.is) (sym date-at2.0 ∙ c.in-Value-date_at.is) (sym symbol-at.0 ∙ c.in-Value-interval_name.is)) c.put_interval.ensures.0 c.put_interval.auto.table
+          (omega (arith, past-at date-at.1 c.in-Value.is, past-at date-at2.1 c.in-Value-date_at.is, past-at symbol-at.1 c.in-Value-interval_name.is, inv)),
       c.put_interval.ensures.1,
-      date-passes _ 39 _ _ (sym date-at2.0 ∙ b.1),
+      date-passes _ 39 _ _ (sym date-at2.0 ∙ c.in-Value-date_at.is),
     )
 
 pub shape_of-table-in-Refused-interval_name : goal.shape_of-table-in-Refused-interval_name

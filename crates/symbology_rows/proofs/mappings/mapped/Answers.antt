@@ -10,7 +10,7 @@ use Rattle.symbology_rows.proofs.mappings.mapped.Goals as goal
 pub mappings-requires : goal.mappings-requires
 mappings-requires c =
     let pre = c.requires in
-    record { room = omega (arith, past-at c.u32_at.ensures.1 c.in-Value.is, pre.0); width_bound = pre.1 }
+    record { room = omega (arith, past-at c.u32_at.ensures.1 c.in-Value.is, pre.room); width_bound = pre.width_bound }
 
 pub returns-then-can_be : goal.returns-then-can_be
 returns-then-can_be c = ran_is (mapped-ok _ _ _ _ _ _ (sym c.u32_at.ensures.0 ∙ c.in-Value.is) (can_here _ _ c.left.ensures c.can_be.ensures c.if-can_be.true)) c.mappings.ensures

@@ -8,7 +8,7 @@ use Rattle.symbology_rows.proofs.ReaderLaws.{symbol-wide, can_here, mapping_35, 
 use Rattle.symbology_rows.proofs.mappings.mapping.Goals as goal
 
 pub returns-then-left-width : goal.returns-then-left-width
-returns-then-left-width c = (ran_no (mapping_35 _ _ _ _ _ _ (omega (arith, c.left.ensures, c.requires.room))), c.requires.width_bound.1)
+returns-then-left-width c = (ran_no (mapping_35 _ _ _ _ _ _ (omega (arith, c.left.ensures, c.requires.room))), c.requires.right)
 
 pub slice_bounds-part-count : goal.slice_bounds-part-count
 slice_bounds-part-count c = omega (arith, past-at c.raw_symbol_at.ensures.1 c.in-Value.is)
@@ -24,17 +24,16 @@ overflow_cast-count c = omega (arith, past-at c.u32_at.ensures.1 c.in-Value-u32_
 
 pub put_symbol-requires : goal.put_symbol-requires
 put_symbol-requires c =
-    let symbol-at = c.raw_symbol_at.ensures in
-    let p = c.p-1.given in (
-      omega (arith, past-at symbol-at.1 p.1, past-at c.u32_at.ensures.1 c.in-Value-u32_at.is, c.requires),
-      omega (arith, symbol-wide _ c.args.width 35 36 42 c.args.s.now _ (sym symbol-at.0 ∙ p.1) (past-at symbol-at.1 p.1).1, c.requires.width_bound.0),
+    let symbol-at = c.raw_symbol_at.ensures in (
+      omega (arith, past-at symbol-at.1 c.in-Value.is, past-at c.u32_at.ensures.1 c.in-Value-u32_at.is, c.requires),
+      omega (arith, symbol-wide _ c.args.width 35 36 42 c.args.s.now _ (sym symbol-at.0 ∙ c.in-Value.is) (past-at symbol-at.1 c.in-Value.is).1, c.requires.width_bound),
       omega (arith, c.requires.room),
     )
 
 pub intervals-requires : goal.intervals-requires
 intervals-requires c =
     let pre = c.requires in
-    (omega (arith, past-at c.raw_symbol_at.ensures.1 c.in-Value.is, past-at c.u32_at.ensures.1 c.in-Value-u32_at.is, pre.0), pre.1.0, pre.1.1)
+    (omega (arith, past-at c.raw_symbol_at.ensures.1 c.in-Value.is, past-at c.u32_at.ensures.1 c.in-Value-u32_at.is, pre.room), pre.width_bound, pre.right)
 
 pub returns-then-can_be : goal.returns-then-can_be
 returns-then-can_be c = (
@@ -44,10 +43,10 @@ returns-then-can_be c = (
 )
 
 pub returns-else-can_be : goal.returns-else-can_be
-returns-else-can_be c = (ran_is (mapping-is _ _ _ _ _ _ (omega (arith, c.left.ensures, c.if-left-width.false))) (ran_on _ (sym c.raw_symbol_at.ensures.0 ∙ c.in-Value.is) (ran_on _ (sym c.u32_at.ensures.0 ∙ c.in-Value-u32_at.is) (ran_else _ _ (can_here _ _ c.left-in-Value-u32_at.ensures c.can_be.ensures c.if-can_be.false) (ran_no refl)))), c.requires.width_bound.1)
+returns-else-can_be c = (ran_is (mapping-is _ _ _ _ _ _ (omega (arith, c.left.ensures, c.if-left-width.false))) (ran_on _ (sym c.raw_symbol_at.ensures.0 ∙ c.in-Value.is) (ran_on _ (sym c.u32_at.ensures.0 ∙ c.in-Value-u32_at.is) (ran_else _ _ (can_here _ _ c.left-in-Value-u32_at.ensures c.can_be.ensures c.if-can_be.false) (ran_no refl)))), c.requires.right)
 
 pub returns-in-Refused-u32_at : goal.returns-in-Refused-u32_at
-returns-in-Refused-u32_at c = (ran_is (mapping-is _ _ _ _ _ _ (omega (arith, c.left.ensures, c.if-left-width.false))) (ran_on _ (sym c.raw_symbol_at.ensures.0 ∙ c.in-Value.is) (ran_on-no _ (sym c.u32_at.ensures.0 ∙ c.in-Refused-u32_at.is))), c.requires.width_bound.1)
+returns-in-Refused-u32_at c = (ran_is (mapping-is _ _ _ _ _ _ (omega (arith, c.left.ensures, c.if-left-width.false))) (ran_on _ (sym c.raw_symbol_at.ensures.0 ∙ c.in-Value.is) (ran_on-no _ (sym c.u32_at.ensures.0 ∙ c.in-Refused-u32_at.is))), c.requires.right)
 
 pub returns-in-Refused : goal.returns-in-Refused
-returns-in-Refused c = (ran_is (mapping-is _ _ _ _ _ _ (omega (arith, c.left.ensures, c.if-left-width.false))) (ran_on-no _ (sym c.raw_symbol_at.ensures.0 ∙ c.in-Refused.is)), c.requires.width_bound.1)
+returns-in-Refused c = (ran_is (mapping-is _ _ _ _ _ _ (omega (arith, c.left.ensures, c.if-left-width.false))) (ran_on-no _ (sym c.raw_symbol_at.ensures.0 ∙ c.in-Refused.is)), c.requires.right)

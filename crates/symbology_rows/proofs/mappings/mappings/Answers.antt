@@ -16,7 +16,7 @@ loop-todo-init c = (going _ c.requires.room, right-none 64)
 pub mapping-requires : goal.mapping-requires
 mapping-requires c =
     let pre = c.requires in
-    (record { small = pre.0.small; few = c.loop-todo.invariant.0.few; inside = c.loop-todo.invariant.0.inside }, (pre.1, c.loop-todo.invariant.1))
+    record { room = record { small = pre.room.small; few = c.loop-todo.invariant.0.few; inside = c.loop-todo.invariant.0.inside }; width_bound = pre.width_bound; right = c.loop-todo.invariant.1 }
 
 pub overflow_sub-todo : goal.overflow_sub-todo
 overflow_sub-todo c = omega arith
@@ -25,14 +25,13 @@ pub loop-todo-smaller : goal.loop-todo-smaller
 loop-todo-smaller c = omega arith
 
 pub loop-todo-preserved : goal.loop-todo-preserved
-loop-todo-preserved c =
-    let mapping = c.mapping in (
-      going-from c.loop-todo.invariant.0 _ (mappings-run _ _ _ _ _ _ _ c.loop-todo-test.true) mapping.ensures.0 c.in-Value.is mapping.auto.1.1.1.1.1.0 (ran_at mapping.ensures.0 c.in-Value.is),
-      mapping.ensures.1,
-    )
+loop-todo-preserved c = (
+  going-from c.loop-todo.invariant.0 _ (mappings-run _ _ _ _ _ _ _ c.loop-todo-test.true) c.mapping.ensures.0 c.in-Value.is c.mapping.auto.table (ran_at c.mapping.ensures.0 c.in-Value.is),
+  c.mapping.ensures.1,
+)
 
 pub shape_of-table-in-Refused : goal.shape_of-table-in-Refused
-shape_of-table-in-Refused c = c.mapping.auto.1.1.1.1.1.0 ∙ c.loop-todo.invariant.0.wide
+shape_of-table-in-Refused c = c.mapping.auto.table ∙ c.loop-todo.invariant.0.wide
 
 pub returns-in-Refused : goal.returns-in-Refused
 returns-in-Refused c = going-from_halt c.loop-todo.invariant.0 _ (mappings-run _ _ _ _ _ _ _ c.loop-todo-test.true) c.mapping.ensures.0 c.in-Refused.is

@@ -9,8 +9,8 @@ use Rattle.writer.proofs.parts.put_labels.Goals as goal
 pub put_parts-requires : goal.put_parts-requires
 unfolding printed_part
 put_parts-requires c =
-    (c.requires.n_in_bounds, (record { spans = λ f. c.requires.spans.0 }, left-all (left_stored (left-start c.requires.spans.1) _ refl c.put_little-a.ensures)))
+    record { n_in_bounds = c.requires.n_in_bounds; texts_inside = record { spans = λ f. c.requires.spans }; room_for = left-all (left_stored (left-start c.requires.room_for) _ refl c.put_little-a.ensures) }
 
 pub returns : goal.returns
 unfolding printed_part
-returns c = left-rest (left_stored (left-start c.requires.spans.1) _ refl c.put_little-a.ensures) c.put_parts.ensures
+returns c = left-rest (left_stored (left-start c.requires.room_for) _ refl c.put_little-a.ensures) c.put_parts.ensures

@@ -19,5 +19,5 @@ name-parts rows text q {s} {l} es el h = rw (part_end text s l, es, el) (name-is
 pub returns : goal.returns
 returns c =
     let args = c.args in
-    let e = name-parts args.rows.now args.text.now args.q c.cell_of-s.ensures.0 c.cell_of-l.ensures.0 c.requires.text_in_bounds.0 in
-    left-last (left_stored (left_stored (left-start c.requires.text_in_bounds.1) _ e c.put_little-a.ensures) _ refl c.put_bytes-b.ensures) c.put_zeros.ensures
+    let e = name-parts args.rows.now args.text.now args.q c.cell_of-s.ensures.0 c.cell_of-l.ensures.0 c.requires.text_in_bounds in
+    left-last (left_stored (left_stored (left-start c.requires.room_for) _ e c.put_little-a.ensures) _ refl c.put_bytes-b.ensures) c.put_zeros.ensures

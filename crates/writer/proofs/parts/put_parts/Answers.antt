@@ -12,11 +12,11 @@ use borrow.Author.Rules.{rules}
 use Rattle.writer.proofs.parts.put_parts.Goals as goal
 
 pub loop-todo-init : goal.loop-todo-init
-loop-todo-init c = (search rules, refl, left-start c.requires.texts_inside.1)
+loop-todo-init c = (search rules, refl, left-start c.requires.room_for)
 
 pub put_part-a-requires : goal.put_part-a-requires
 put_part-a-requires c =
-    (omega arith, (record { spans = λ f k g h. c.requires.texts_inside.0.spans f k (omega arith) (omega arith) }, many-room _ _ _ _ c.loop-todo.invariant.2 c.loop-todo-test.true))
+    record { q_in_bounds = omega arith; texts_inside = record { spans = λ f k g h. c.requires.texts_inside.spans f k (omega arith) (omega arith) }; room_for = many-room _ _ _ _ c.loop-todo.invariant.2 c.loop-todo-test.true }
 
 pub loop-todo-preserved : goal.loop-todo-preserved
 loop-todo-preserved c = (search rules, search rules, many-step _ _ _ _ c.loop-todo.invariant.2 c.loop-todo-test.true c.put_part-a.ensures)

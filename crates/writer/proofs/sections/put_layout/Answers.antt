@@ -19,28 +19,28 @@ layout-parts version rows text e = rw (e.0, e.1.0, e.1.1) (layout_is version row
 pub put_group-g-requires : goal.put_group-g-requires
 put_group-g-requires c =
     let args = c.args in
-    let l = left_stored (left-start (room-front c.requires.sections.1.1.1)) _ (layout-parts args.version args.rows.now args.text.now c.requires.counts) c.put_little-a.ensures in
-    record { sections = rw c.requires.counts.0 c.requires.sections.0; room_for = left-room l _ refl }
+    let l = left_stored (left-start (room-front c.requires.text_in_bounds)) _ (layout-parts args.version args.rows.now args.text.now c.requires.counts) c.put_little-a.ensures in
+    record { sections = rw c.requires.counts.0 c.requires.sections; room_for = left-room l _ refl }
 
 pub put_group-h-requires : goal.put_group-h-requires
 put_group-h-requires c =
     let args = c.args in
-    let l = left_stored (left-start (room-front c.requires.sections.1.1.1)) _ (layout-parts args.version args.rows.now args.text.now c.requires.counts) c.put_little-a.ensures in
+    let l = left_stored (left-start (room-front c.requires.text_in_bounds)) _ (layout-parts args.version args.rows.now args.text.now c.requires.counts) c.put_little-a.ensures in
     let m = left_step l refl c.put_group-g.ensures.wrote in
-    rw c.put_group-g.ensures.row record { sections = rw (c.requires.counts.0, c.requires.counts.1.0) c.requires.sections.1.0; room_for = left-room m _ refl }
+    rw c.put_group-g.ensures.row record { sections = rw (c.requires.counts.0, c.requires.counts.1.0) c.requires.struct_sections; room_for = left-room m _ refl }
 
 pub put_group-i-requires : goal.put_group-i-requires
 put_group-i-requires c =
     let args = c.args in
-    let l = left_stored (left-start (room-front c.requires.sections.1.1.1)) _ (layout-parts args.version args.rows.now args.text.now c.requires.counts) c.put_little-a.ensures in
+    let l = left_stored (left-start (room-front c.requires.text_in_bounds)) _ (layout-parts args.version args.rows.now args.text.now c.requires.counts) c.put_little-a.ensures in
     let m = left_step l refl c.put_group-g.ensures.wrote in
     let n = left_step m refl (rw c.put_group-g.ensures.row at c.put_group-h.ensures.wrote) in
-    rw (c.put_group-h.ensures.row, c.put_group-g.ensures.row) record { sections = rw (c.requires.counts.0, c.requires.counts.1.0, c.requires.counts.1.1) c.requires.sections.1.1.0; room_for = left-all n }
+    rw (c.put_group-h.ensures.row, c.put_group-g.ensures.row) record { sections = rw (c.requires.counts.0, c.requires.counts.1.0, c.requires.counts.1.1) c.requires.label_sections; room_for = left-all n }
 
 pub returns : goal.returns
 returns c =
     let args = c.args in
-    let l = left_stored (left-start (room-front c.requires.sections.1.1.1)) _ (layout-parts args.version args.rows.now args.text.now c.requires.counts) c.put_little-a.ensures in
+    let l = left_stored (left-start (room-front c.requires.text_in_bounds)) _ (layout-parts args.version args.rows.now args.text.now c.requires.counts) c.put_little-a.ensures in
     let m = left_step l refl c.put_group-g.ensures.wrote in
     let n = left_step m refl (rw c.put_group-g.ensures.row at c.put_group-h.ensures.wrote) in
     wrote-filled (left-rest n (rw (c.put_group-h.ensures.row, c.put_group-g.ensures.row) at c.put_group-i.ensures.wrote))

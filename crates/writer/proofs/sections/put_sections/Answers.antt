@@ -17,7 +17,7 @@ pub put_section-a-requires : goal.put_section-a-requires
 put_section-a-requires c =
     let args = c.args in
     let s = sections-next args.kind args.rows.now args.text.now c.loop-todo.p c.loop-todo.todo c.loop-todo-test.true c.loop-todo.invariant.0 in
-    (own-row-inside _ _ _ _ s.0, (s.0, many-room _ _ _ _ c.loop-todo.invariant.2 c.loop-todo-test.true))
+    record { q_in_bounds = own-row-inside _ _ _ _ s.0; section_rows = s.0; room_for = many-room _ _ _ _ c.loop-todo.invariant.2 c.loop-todo-test.true }
 
 pub next_row-p-requires : goal.next_row-p-requires
 next_row-p-requires c =
