@@ -147,12 +147,7 @@ fn unfit(err: &mut impl Write, program: &[u8], name: &[u8]) -> io::Result<()> {
 }
 
 // Says on standard error why a call on the named thing failed.
-pub fn failed(
-    err: &mut impl Write,
-    program: &[u8],
-    name: &[u8],
-    why: io::Error,
-) -> io::Result<()> {
+pub fn failed(err: &mut impl Write, program: &[u8], name: &[u8], why: io::Error) -> io::Result<()> {
     let mut text = Cursor::new([0u8; 512]);
     write!(text, "{why}")?;
     let n = text.position() as usize;

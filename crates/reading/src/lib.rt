@@ -3,19 +3,15 @@
 
 ghost use Rattle.std.specs.Prelude.{◌≤◌, length, IfOk};
 
-use std::fs;
-use std::io;
 use std::io::Read;
 use std::rt::Files;
+use std::{fs, io};
 
 // Opens the file of this name for reading. A name that is not UTF-8 is refused.
 pub fn open<R: Files>(rt: &R, name: &[u8]) -> io::Result<R::File> {
     match std::str::from_utf8(name) {
         Ok(path) => fs::open(rt, path),
-        Err(_) => Err(io::Error::new(
-            io::ErrorKind::InvalidInput,
-            "the name is not UTF-8",
-        )),
+        Err(_) => Err(io::Error::new(io::ErrorKind::InvalidInput, "the name is not UTF-8")),
     }
 }
 
