@@ -92,10 +92,12 @@ chase_sorted ss (step h k) = step (has-sorted ss h) (chase_sorted ss k)
 -- ---- on sorted spans
 
 has-past : (t : List Span) {c e : ℕ} → Proper t → Has t c e → c < e
+has-past [] {c = c} {e = e} p x = elim x [ ]
 has-past (s ∷ t) {c} {e} p (here a b) = omega (arith, p.0)
 has-past (s ∷ t) p (there h) = has-past t p.1 h
 
 has_above : (t : List Span) {k c e : ℕ} → From k t → Has t c e → k ≤ c
+has_above [] {k = k} {c = c} {e = e} f x = elim x [ ]
 has_above (s ∷ t) {k} {c} f (here a b) = omega (arith, f.0)
 has_above (s ∷ t) f (there h) = has_above t f.1 h
 
@@ -115,6 +117,7 @@ chase_none t n (step {e = e} h k) = absurd (n e h)
 
 chase_most : (t : List Span) → Ordered t → Proper t → {c u l : ℕ} → Chase t c u l → u ≤ length t
 chase_most [] o p (stop n) = zero-le
+chase_most [] o p {c = c} {l = l} (step {e = e} {u = u} h k) = elim h [ ]
 chase_most (s ∷ t) o p (stop n) = zero-le
 chase_most (s ∷ t) o p {c} (step {e = e} {u = u} h k) =
     let q : c < e = has-past (s ∷ t) p h in
@@ -132,6 +135,7 @@ module _ (gap : ℕ) (last : ℕ → ℕ) where
 
   -- two spans at the cursor: the walk meets a gap, and the chase leaves one of them out
   twice : (s : Span) (t : List Span) → Ordered (s ∷ t) → Proper (s ∷ t) → {c e u l : ℕ} → s.0 ≡ c → Has t c e → Chase (s ∷ t) e u l → walk gap last s.1 t ≡ verdict (length t) u l
+  twice s [] o p {c = c} {e = e} {u = u} {l = l} q h k = elim h [ ]
   twice s (x ∷ t) o p {c} {e} {u} {l} q h k =
       let a : c < e = has-past (x ∷ t) p.1 h in
       let b : x.0 ≤ c = has_above (x ∷ t) (le_refl x.0, o.1.0) h in
@@ -146,6 +150,7 @@ module _ (gap : ℕ) (last : ℕ → ℕ) where
 
   walk_chase : (t : List Span) → Ordered t → Proper t → {c u l : ℕ} → Chase t c u l → walk gap last c t ≡ verdict (length t) u l
   walk_chase [] o p (stop n) = refl
+  walk_chase [] o p {c = c} {l = l} (step {e = e} {u = u} h k) = elim h [ ]
   walk_chase (s ∷ t) o p (stop {c = c} n) = rw (ne_eqb s.0 c n.0, eqb-zero-suc)
   walk_chase (s ∷ t) o p {c} (step {u = u} {l = l} (here a b) k) =
       rw (eq-eqb s.0 c a, eqb-suc-suc) (walk_chase t o.1 p.1 (chase_drop s t p.1 p.0 (rw (← b) at k)))

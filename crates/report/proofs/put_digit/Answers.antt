@@ -6,7 +6,6 @@ use mathlib.Core.Path.{◌≡◌, ap}
 use mathlib.Core.List.{[], ◌∷◌}
 use Rattle.codec.specs.Codec.{little}
 use Rattle.put.specs.OutputLaws.{stored_wrote, stored_is}
-use borrow.Author.Rules.{rules}
 use Rattle.report.proofs.put_digit.Goals as goal
 
 little_digit : (d : ℕ) → d < 10 → little 1 (48 + d) ≡ (48 + d) ∷ []

@@ -1,7 +1,6 @@
 -- The word, the number and the line's end, one after the other.
 -- Assumes nothing.
 use Rattle.report.proofs.PartLaws.{parts-start, part_room, part-wrote, part_stored, parts-done, line-parts}
-use borrow.Author.Rules.{rules}
 use Rattle.report.proofs.put_line.Goals as goal
 
 pub put_decimal-a-requires : goal.put_decimal-a-requires

@@ -3,7 +3,6 @@
 use mathlib.Core.Path.{◌∙◌}
 use Rattle.put.specs.OutputLaws.{left-start, left-done}
 use Rattle.report.proofs.PartLaws.{parts-start, part_room, part-wrote, part_stored, parts-done, refused-parts, none_of, some_of}
-use borrow.Author.Rules.{rules}
 use Rattle.report.proofs.put_number.Goals as goal
 
 pub returns-then-n-eq0 : goal.returns-then-n-eq0

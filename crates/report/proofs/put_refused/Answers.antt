@@ -1,9 +1,6 @@
 -- The invariant: the lines of the numbers that are left are still to be stored.
 -- Assumes nothing.
-use Prim.Native.Nat.{◌-◌, ◌≤◌}
-use lib.ListN.{get_or}
-use Rattle.put.specs.OutputLaws.{Left, left-start}
-use Rattle.report.specs.Report.{refused_lines}
+use Rattle.put.specs.OutputLaws.{left-start}
 use Rattle.report.proofs.PartLaws.{number-room, number-wrote, numbers-done}
 use borrow.Author.Rules.{rules}
 use Rattle.report.proofs.put_refused.Goals as goal

@@ -2,10 +2,8 @@
 -- Assumes nothing.
 use Prim.Native.Nat.{◌-◌, ◌≤◌}
 use lib.ListN.{get_or}
-use Rattle.put.specs.OutputLaws.{Left, left-start}
+use Rattle.put.specs.OutputLaws.{Left}
 use Rattle.report.specs.Report.{refused_lines}
-use Rattle.report.proofs.PartLaws.{number-room, number-wrote, numbers-done}
-use borrow.Author.Rules.{rules}
 use Rattle.report.proofs.put_refused.Given as goal
 
 abbrev pub invariant-loop-left : goal.invariant-loop-left

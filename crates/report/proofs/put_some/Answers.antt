@@ -3,7 +3,6 @@
 use mathlib.Core.Path.{sym}
 use Rattle.put.specs.OutputLaws.{left-start, left-done, wrote-is}
 use Rattle.report.proofs.PartLaws.{none_of, some_of, room-is}
-use borrow.Author.Rules.{rules}
 use Rattle.report.proofs.put_some.Goals as goal
 
 pub returns-then-n-eq0 : goal.returns-then-n-eq0

@@ -3,7 +3,6 @@
 use Rattle.put.specs.OutputLaws.{wrote-filled}
 use Rattle.report.proofs.PartLaws.{parts-start, part_room, part-wrote, part_stored, parts-done, report-parts, report-room}
 use native.Mathlib.Omega.{arith}
-use borrow.Author.Rules.{rules}
 use Rattle.report.proofs.write_report.Goals as goal
 
 pub put_line-at-requires : goal.put_line-at-requires

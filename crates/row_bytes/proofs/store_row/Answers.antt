@@ -24,7 +24,8 @@ pub put_text-requires : goal.put_text-requires
 put_text-requires c =
     let args = c.args in
     let k : kind_of args.table.now args.r ≡ 4 = sym c.number_at-kind.ensures ∙ c.if-kind-eq4.true in
-    text-ready (part-is args.table.now args.text.now args.r c.number_at-start.ensures c.number_at.ensures) c.requires.standing (left-all (interval-left args.width args.table.now args.text.now args.r c.requires.room_for k (c.date.ensures ∙ ap date_of_day c.number_at-x.ensures) (c.date-then-kind-eq4.ensures ∙ ap date_of_day c.number_at-then-kind-eq4.ensures) c.put_little-a.ensures c.put_little-b.ensures))
+    let ready = text-ready (part-is args.table.now args.text.now args.r c.number_at-start.ensures c.number_at.ensures) c.requires.standing (left-all (interval-left args.width args.table.now args.text.now args.r c.requires.room_for k (c.date.ensures ∙ ap date_of_day c.number_at-x.ensures) (c.date-then-kind-eq4.ensures ∙ ap date_of_day c.number_at-then-kind-eq4.ensures) c.put_little-a.ensures c.put_little-b.ensures)) in
+    record { part_len_bound = ready.0; room_for = ready.1 }
 
 pub returns-then-kind-eq4 : goal.returns-then-kind-eq4
 returns-then-kind-eq4 c =
@@ -38,7 +39,8 @@ slice_bounds-put_text-end-2 c = omega (arith, c.number_at-start.ensures, c.numbe
 pub put_text-a-requires : goal.put_text-a-requires
 put_text-a-requires c =
     let args = c.args in
-    text-ready (part-is args.table.now args.text.now args.r c.number_at-start.ensures c.number_at.ensures) c.requires.standing (other-room args.width args.table.now args.text.now args.r c.requires.room_for c.requires.standing.kind (λ e. c.if-kind-eq4.false (c.number_at-kind.ensures ∙ e)))
+    let ready = text-ready (part-is args.table.now args.text.now args.r c.number_at-start.ensures c.number_at.ensures) c.requires.standing (other-room args.width args.table.now args.text.now args.r c.requires.room_for c.requires.standing.kind (λ e. c.if-kind-eq4.false (c.number_at-kind.ensures ∙ e))) in
+    record { part_len_bound = ready.0; room_for = ready.1 }
 
 pub returns-then-kind-eq3 : goal.returns-then-kind-eq3
 returns-then-kind-eq3 c =

@@ -27,4 +27,4 @@ pub shape_of-owners : goal.shape_of-owners
 shape_of-owners c = ap length c.seq_fault.ensures.owners_unchanged
 
 pub returns : goal.returns
-returns c = (tried_as (λ e. record_is _ _ _ _ _ _ c.args.item c.if-twice.false c.if-item-eq78.false (rw c.wide.ensures at c.if-item-wide.false) c.if-item-ne0.false e) c.seq_fault.ensures.tried, c.seq_fault.ensures.1)
+returns c = record { tried = tried_as (λ e. record_is _ _ _ _ _ _ c.args.item c.if-twice.false c.if-item-eq78.false (rw c.wide.ensures at c.if-item-wide.false) c.if-item-ne0.false e) c.seq_fault.ensures.tried; clean = c.seq_fault.ensures.clean; owners_unchanged = c.seq_fault.ensures.owners_unchanged }

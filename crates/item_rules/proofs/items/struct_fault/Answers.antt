@@ -18,4 +18,4 @@ pub shape_of-owners : goal.shape_of-owners
 shape_of-owners c = ap length c.seq_fault.ensures.owners_unchanged
 
 pub returns : goal.returns
-returns c = (tried_as (λ e. struct_is _ _ _ _ _ _ c.args.item c.struct_align-a.ensures.0 c.if-item-a-ne0.false e) c.seq_fault.ensures.tried, c.seq_fault.ensures.1)
+returns c = record { tried = tried_as (λ e. struct_is _ _ _ _ _ _ c.args.item c.struct_align-a.ensures.0 c.if-item-a-ne0.false e) c.seq_fault.ensures.tried; clean = c.seq_fault.ensures.clean; owners_unchanged = c.seq_fault.ensures.owners_unchanged }

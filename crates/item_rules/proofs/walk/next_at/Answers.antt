@@ -16,7 +16,7 @@ pub overflow_add-result-then-in_rows-2 : goal.overflow_add-result-then-in_rows-2
 overflow_add-result-then-in_rows-2 c = omega (arith, row_bounds (rw c.if-in_rows.true at c.requires), c.fields_in-n.ensures.0)
 
 pub returns-then-in_rows : goal.returns-then-in_rows
-returns-then-in_rows c = let args = c.args in rw c.if-in_rows.true (row_next args.is-record args.rows.now args.at c.fields_in-n.ensures.0)
+returns-then-in_rows c = let args = c.args in rw c.if-in_rows.true (row_next args.is_record args.rows.now args.at c.fields_in-n.ensures.0)
 
 pub half-requires : goal.half-requires
 half-requires c = omega (arith, section_bounds (rw c.if-in_rows.false at c.requires))

@@ -1,0 +1,6 @@
+-- The measure is the number.
+-- Assumes nothing.
+use Rattle.report.proofs.+put_decimal.Given as goal
+
+abbrev pub decreases-put_decimal : goal.decreases-put_decimal
+decreases-put_decimal l = l.n
