@@ -9,9 +9,6 @@ use Rattle.header_bytes.proofs.store_header.Goals as goal
 pub overflow_sub-v : goal.overflow_sub-v
 overflow_sub-v c = rw c.lengths_of-v.ensures c.requires.dataset_len_bound
 
-pub shape_of-out : goal.shape_of-out
-shape_of-out c = wrote-length (returns c)
-
 pub returns : goal.returns
 returns c =
     let args = c.args in
@@ -28,3 +25,6 @@ returns c =
     let k = left_stored j _ refl c.put_little-i.ensures in
     let l = left_stored k _ refl c.put_little-j.ensures in
     left-last l c.put_zeros.ensures
+
+pub shape_of-out : goal.shape_of-out
+shape_of-out c = wrote-length (returns c)

@@ -7,7 +7,7 @@ use Rattle.night.proofs.read_piece.Given as goal
 
 abbrev pub invariant-loop-turns : goal.invariant-loop-turns
 invariant-loop-turns l =
-    Going l.sheet (record { l.held = l.initial.held; l.ended = l.initial.ended; l.store = l.initial.store; l.symbology = l.initial.symbology; l.layout = l.initial.layout; l.counts = l.initial.counts }) l.piece l.held l.ended l.at l.turns l.store l.symbology l.layout l.counts
+    Going l.sheet (record { held = l.initial.held; ended = l.initial.ended; store = l.initial.store; symbology = l.initial.symbology; layout = l.initial.layout; counts = l.initial.counts }) l.piece l.held l.ended l.at l.turns l.store l.symbology l.layout l.counts
 
 abbrev pub decreases-loop-turns : goal.decreases-loop-turns
 decreases-loop-turns l =

@@ -14,6 +14,6 @@ use Rattle.writer.proofs.parts.put_entry.Goals as goal
 
 pub returns : goal.returns
 returns c =
-    let t3 = c.args.t3 in
-    let e = entry-print all_tests D (entry_with_zeros t3) ∙ ap (λ (d : ℕ). t3 ++ replicate (d - 11) 0) D-is in
-    left-last (left_stored (left-start c.requires) _ e c.put_bytes-a.ensures) c.put_zeros.ensures
+    let e = c.args.e in
+    let print = entry-print all_tests D (entry_with_zeros e) ∙ ap (λ (d : ℕ). e ++ replicate (d - 11) 0) D-is in
+    left-last (left_stored (left-start c.requires) _ print c.put_bytes-a.ensures) c.put_zeros.ensures
