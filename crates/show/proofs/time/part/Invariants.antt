@@ -1,4 +1,3 @@
-use Rattle.std.proofs.Common.{◌<◌, ◌≤◌}
 use Rattle.show.proofs.time.part.Given as goal
 
 abbrev pub decreases-loop-weight : goal.decreases-loop-weight
