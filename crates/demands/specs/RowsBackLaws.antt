@@ -204,13 +204,13 @@ module _ {table : List ℕ} {A : Type 0} {kind : ℕ} {part : ℕ → A} {rows_o
   group_back : {q : ℕ} (xs : List A) → Group table kind part rows_of P q xs → from (next_section kind table) part q (length xs) ≡ xs
   unfolding from
   group_back [] g = refl
-  group_back {q} (x ∷ xs) g = ap₂ ◌∷◌ (g.kindly.back x g.each.0 q (group_first g)) (group_back xs (group_rest g))
+  group_back {q} (x ∷ xs) g = ap₂ ◌∷◌ (g.kindly.back x g.each.0 q (group_first g)) (group_back {q = next_section kind table q} xs (group_rest g))
 
   -- the row after them
   pub group_end : {q : ℕ} (xs : List A) → Group table kind part rows_of P q xs → skip kind table q (length xs) ≡ q + length (all_rows rows_of xs)
   unfolding skip
   group_end [] g = omega arith
-  group_end (x ∷ xs) g = group_end xs (group_rest g) ∙ omega (arith, group_next g, length-append (rows_of x) (all_rows rows_of xs))
+  group_end {q = q} (x ∷ xs) g = group_end {q = next_section kind table q} xs (group_rest g) ∙ omega (arith, group_next g, length-append (rows_of x) (all_rows rows_of xs))
 
 -- ---- how many sections there are
 

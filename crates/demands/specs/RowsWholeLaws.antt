@@ -85,7 +85,7 @@ module _ (table text : List ℕ) where
     group_walk place {q} (x ∷ xs) g l =
         let n = group_next g in
         let k = length-append (rows_of x) (all_rows rows_of xs) in
-        rw (place x g.each.0 q (group_first g) (omega arith)) (group_walk place xs (group_rest g) (omega arith))
+        rw (place x g.each.0 q (group_first g) (omega arith)) (group_walk place {q = next_section kind table q} xs (group_rest g) (omega arith))
 
     -- and they fit where what each prints does
     group_fits : (print : A → List ℕ) → ((q : ℕ) → printed_section kind table text q ≡ print (part q)) → ((x : A) → P x → length (print x) ≤ 65535)
@@ -94,7 +94,7 @@ module _ (table text : List ℕ) where
     group_fits print sec short [] g = refl
     group_fits print sec short {q} (x ∷ xs) g =
         let e = sec q ∙ ap print (g.kindly.back x g.each.0 q (group_first g)) in
-        rw (e, le-leb (length (print x)) 65535 (short x g.each.0)) (group_fits print sec short xs (group_rest g))
+        rw (e, le-leb (length (print x)) 65535 (short x g.each.0)) (group_fits print sec short {q = next_section kind table q} xs (group_rest g))
 
 -- ---- labels that rise
 

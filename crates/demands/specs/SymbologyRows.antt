@@ -40,7 +40,7 @@ module _ {A : Type 0} (c : Codec A) (f : ℕ → ℕ) where
   shift_map : (row : A → List ℕ) → ((p q : ℕ) (x : A) → Shift f p q → row (c.locate q x) ≡ move_row f (row (c.locate p x)))
       → (p q : ℕ) (xs : List A) → Shift f p q → map row (times_locate c q xs) ≡ map (move_row f) (map row (times_locate c p xs))
   shift_map row h p q [] s = refl
-  shift_map row h p q (x ∷ xs) s = ap₂ ◌∷◌ (h p q x s) (shift_map row h _ _ xs (shift_on f p q (length (c.print x)) s))
+  shift_map row h p q (x ∷ xs) s = ap₂ ◌∷◌ (h p q x s) (shift_map row h (p + length (c.print x)) (q + length (c.print x)) xs (shift_on f p q (length (c.print x)) s))
 
   shift_from : (g : A → From) → ((p q n : ℕ) (x : A) → Shift f p q → g (c.locate q x) n ≡ map (move_row f) (g (c.locate p x) n))
       → (p q n : ℕ) (xs : List A) → Shift f p q → each_from g (times_locate c q xs) n ≡ map (move_row f) (each_from g (times_locate c p xs) n)
@@ -51,7 +51,7 @@ module _ {A : Type 0} (c : Codec A) (f : ℕ → ℕ) where
 
   length-locate : (p : ℕ) (xs : List A) → length (times_locate c p xs) ≡ length xs
   length-locate p [] = refl
-  length-locate p (x ∷ xs) = ap suc (length-locate _ xs)
+  length-locate p (x ∷ xs) = ap suc (length-locate (p + length (c.print x)) xs)
 
 module _ (utf8 nul_padded : List ℕ → Bool) (is_date : ℕ → Bool) (width : ℕ) (f : ℕ → ℕ) where
   start-at : (p q : ℕ) → Shift f p q → q ≡ f p
@@ -168,7 +168,7 @@ module _ (utf8 nul_padded : List ℕ → Bool) (is_date : ℕ → Bool) (width :
 module _ {A : Type 0} (c : Codec A) {B : Type 0} (g : A → B) (h : (p : ℕ) (x : A) → g (c.locate p x) ≡ g x) where
   map-locate : (p : ℕ) (xs : List A) → map g (times_locate c p xs) ≡ map g xs
   map-locate p [] = refl
-  map-locate p (x ∷ xs) = ap₂ ◌∷◌ (h p x) (map-locate _ xs)
+  map-locate p (x ∷ xs) = ap₂ ◌∷◌ (h p x) (map-locate (p + length (c.print x)) xs)
 
 module _ (utf8 nul_padded : List ℕ → Bool) (is_date : ℕ → Bool) (width : ℕ) where
   mapping-locate : (p : ℕ) (m : Mapping) → mapping_texts ((mapping utf8 nul_padded is_date width).codec.locate p m) ≡ mapping_texts m

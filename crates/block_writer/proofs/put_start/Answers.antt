@@ -28,9 +28,6 @@ put_symbology-requires c =
     let e = left_step d refl c.put_layout-c.ensures in
     record { names_ready = names-given c.requires.sizes; room_for = left-all e }
 
-pub shape_of-out : goal.shape_of-out
-shape_of-out c = wrote-length (returns c)
-
 pub returns : goal.returns
 returns c =
     let args = c.args in
@@ -38,3 +35,6 @@ returns c =
     let d = left_stored a _ refl (header-whole args.version args.fields.now args.text.now (start-fields c.requires.sizes.ready).1 c.dataset.ensures c.put_header-b.ensures) in
     let e = left_step d refl c.put_layout-c.ensures in
     left-rest e c.put_symbology.ensures
+
+pub shape_of-out : goal.shape_of-out
+shape_of-out c = wrote-length (returns c)

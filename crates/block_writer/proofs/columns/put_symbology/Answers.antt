@@ -49,9 +49,6 @@ put_rows-requires c =
     let e = left_step d refl c.put_list-d.ensures in
     record { rows_ready = names-ready c.requires.names_ready _ _ (omega arith); room_for = left-all (left_stored e _ refl c.put_little-e.ensures) }
 
-pub shape_of-out : goal.shape_of-out
-shape_of-out c = wrote-length (returns c)
-
 pub returns : goal.returns
 returns c =
     let a = left_step (left-start c.requires.room_for) (symbology-bytes c.requires.names_ready c.args.has) c.put_length-a.ensures in
@@ -59,3 +56,6 @@ returns c =
     let d = left_step b refl c.put_list-c.ensures in
     let e = left_step d refl c.put_list-d.ensures in
     left-rest (left_stored e _ refl c.put_little-e.ensures) c.put_rows.ensures
+
+pub shape_of-out : goal.shape_of-out
+shape_of-out c = wrote-length (returns c)
