@@ -9,8 +9,7 @@ use frames::{Answer, State};
 
 // A piece of the records comes after the first `held` bytes of the store, 0 for a new frame. `out` has the count taken at 0, the count then
 // held at 1 and the count still needed at 2, which is 0 with a frame or a refusal; a frame also has its length at 3 and its rtype at 4.
-#[unsafe(no_mangle)]
-pub extern "C" fn dbn_frame(held: u64, store: &mut [u8], piece: &[u8], out: &mut [u64; 5]) -> u32
+pub fn dbn_frame(held: u64, store: &mut [u8], piece: &[u8], out: &mut [u64; 5]) -> u32
     ensures { FrameC held store.old piece.now out.old result store.new out.new }
 {
     let start = State {

@@ -10,8 +10,7 @@ use house::{Loaded, Stored};
 
 // Stores the start of a stream, prelude and block, as a house file: `out` gets the length written at 0. A refusal leaves the output as it
 // was, and tells its place at 13 of `out` where its number has one, counted as dbn_feed counts it.
-#[unsafe(no_mangle)]
-pub extern "C" fn dbn_house_store(
+pub fn dbn_house_store(
     stream: &[u8],
     sheet: &[u16; 520],
     output: &mut [u8],
@@ -34,8 +33,7 @@ pub extern "C" fn dbn_house_store(
 // Loads a house file: what it holds stands at the front of the store, and `out` and the tables are as dbn_feed leaves them with nothing
 // taken. Where bytes are still needed the number is 134, and the count needed stands at 18. A file that is refused, and 1 for a store that
 // is too short for what it holds, leave everything as it was.
-#[unsafe(no_mangle)]
-pub extern "C" fn dbn_house_load(
+pub fn dbn_house_load(
     file: &[u8],
     store: &mut [u8],
     sheet: &[u16; 520],

@@ -7,8 +7,7 @@ use writer::Written;
 
 // Reads a layout given with a symbol width, its rows into the table. `out` gets the version at 9 and the rows at 11; with 3 the rows
 // needed at 11; with 50 to 55 the place in the layout at 13. All else in `out` is as it was.
-#[unsafe(no_mangle)]
-pub extern "C" fn dbn_layout(
+pub fn dbn_layout(
     layout: &[u8],
     width: u16,
     sheet: &[u16; 520],
@@ -39,8 +38,7 @@ pub extern "C" fn dbn_layout(
 
 // The verdict on a layout given with a symbol width, with 81 to 83 by the plain engine: the answer of dbn_layout, without a table.
 // `out` gets the version at 9 and the rows at 11, or with 50 to 55 the place in the layout at 13.
-#[unsafe(no_mangle)]
-pub extern "C" fn dbn_layout_plain(
+pub fn dbn_layout_plain(
     layout: &[u8],
     width: u16,
     sheet: &[u16; 520],
@@ -62,8 +60,7 @@ pub extern "C" fn dbn_layout_plain(
 }
 
 // Writes layout rows, whose names are parts of the text, as a layout of a version; `out` gets the length written at 0.
-#[unsafe(no_mangle)]
-pub extern "C" fn dbn_write_layout(
+pub fn dbn_write_layout(
     rows: &[u32],
     text: &[u8],
     version: u16,

@@ -8,8 +8,7 @@ ghost use Rattle.c_names.specs.Numbers.{span_out};
 use names::Span;
 
 // The text of a symbology row, as a part of the block: 0 with {start, length}, or 90 with {0, 0}.
-#[unsafe(no_mangle)]
-pub extern "C" fn dbn_symbology_name(
+pub fn dbn_symbology_name(
     block: &[u8],
     rows: &[u32],
     index: u64,
@@ -21,8 +20,7 @@ pub extern "C" fn dbn_symbology_name(
 }
 
 // The text of a layout row, as a part of the layout: 0 with {start, length}, or 90 with {0, 0}.
-#[unsafe(no_mangle)]
-pub extern "C" fn dbn_layout_name(
+pub fn dbn_layout_name(
     layout: &[u8],
     rows: &[u32],
     index: u64,

@@ -9,8 +9,7 @@ use prelude::Stage;
 
 // The verdict on a prelude: 10, 11, 12 with the place at 3, the rest of `out` as it was, or 0 with {missing, 0, 0, 0} below eight bytes and
 // {0, version, block length, 0} from eight on.
-#[unsafe(no_mangle)]
-pub extern "C" fn dbn_prelude(s: &[u8], out: &mut [u64; 4]) -> u32
+pub fn dbn_prelude(s: &[u8], out: &mut [u64; 4]) -> u32
     ensures { (result ≡ stage_number (prelude_of s.now)) × (out.new ≡ prelude_out (prelude_of s.now) out.old) }
 {
     match prelude::prelude(s) {

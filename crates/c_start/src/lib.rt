@@ -8,8 +8,7 @@ use feed::State;
 
 // Reads a block given whole: its rows go into the tables, its fields into `out`. With 3 the rows needed are at 10 and 11; a refusal from
 // reading has its place at 13, counted from the block, and 3 for the version, which stands there in the prelude.
-#[unsafe(no_mangle)]
-pub extern "C" fn dbn_block(
+pub fn dbn_block(
     version: u8,
     block: &[u8],
     sheet: &[u16; 520],
@@ -42,8 +41,7 @@ pub extern "C" fn dbn_block(
 // Feeds a piece after `held` bytes of the store. `out` gets the count taken at 16, the new held count at 17 and the count needed at 18;
 // when the block is done the first sixteen are as those of dbn_block, and with 3 the rows needed are at 10 and 11. A refusal
 // from reading has its place at 13, counted from the prelude for 10 to 12 and else from the block.
-#[unsafe(no_mangle)]
-pub extern "C" fn dbn_feed(
+pub fn dbn_feed(
     held: u64,
     store: &mut [u8],
     piece: &[u8],

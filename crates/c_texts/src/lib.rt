@@ -10,24 +10,21 @@ use dates::Calendar;
 use refusal::Refusal;
 
 // 1 where the bytes are UTF-8, else 0.
-#[unsafe(no_mangle)]
-pub extern "C" fn dbn_text(s: &[u8]) -> u32
+pub fn dbn_text(s: &[u8]) -> u32
     ensures { result ≡ bit (utf8 s.now) }
 {
     if text::is_utf8(s) { 1 } else { 0 }
 }
 
 // 1 where the number is a date, year x 10000 + month x 100 + day, with the number of its day in `out`; else 0 and `out` as it was.
-#[unsafe(no_mangle)]
-pub extern "C" fn dbn_date(yyyymmdd: u32, out: &mut [u64; 1]) -> u32
+pub fn dbn_date(yyyymmdd: u32, out: &mut [u64; 1]) -> u32
     ensures { (result ≡ calendar_number (day_on yyyymmdd)) × (out.new ≡ calendar_out (day_on yyyymmdd) out.old) }
 {
     put_answer(dates::day_of(yyyymmdd), out)
 }
 
 // 1 where there is a day of this number, with its date in `out`; else 0 and `out` as it was.
-#[unsafe(no_mangle)]
-pub extern "C" fn dbn_day(day: u32, out: &mut [u64; 1]) -> u32
+pub fn dbn_day(day: u32, out: &mut [u64; 1]) -> u32
     ensures { (result ≡ calendar_number (date_on day)) × (out.new ≡ calendar_out (date_on day) out.old) }
 {
     put_answer(dates::date_of_day(day), out)

@@ -7,8 +7,7 @@ use writer::Written;
 
 // Writes prelude and block from fields, `rows` symbology rows by column, layout rows and a text; `out` gets the length written at 0. A
 // refusal leaves the output and `out` as they were.
-#[unsafe(no_mangle)]
-pub extern "C" fn dbn_write_block(
+pub fn dbn_write_block(
     version: u8,
     fields: &[u64; 16],
     symbology: &[u32],

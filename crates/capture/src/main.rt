@@ -6,50 +6,63 @@
 ghost use Rattle.std.specs.Prelude.{length, ◌≤◌, ◌<◌};
 
 use feed::{Answer, State};
-use libc::{STDIN_FILENO, STDOUT_FILENO};
+use std::io;
+use std::io::Write;
 
-fn main() {
-    let mut input = io::buffer();
-    let n = io::read_full(STDIN_FILENO, &mut input);
-    let mut store = io::buffer();
+fn main(rt: HostRuntime) -> io::Result<()> {
+    let mut input = [0u8; 4096];
+    let n = reading::read_full(&mut rt.reader(), &mut input)?;
+    let mut store = [0u8; 4096];
     let mut rows = [0u32; 384];
     let mut other = [0u32; 384];
-    capture(&input[..n], &mut store, &mut rows, &mut other);
+    let mut out = io::writer(&rt);
+    capture(&mut out, &input[..n], &mut store, &mut rows, &mut other)
 }
 
 // Feeds the capture whole for the places of its intervals, then in four pieces, then at every cut.
-fn capture(all: &[u8], store: &mut [u8], rows: &mut [u32], other: &mut [u32]) {
+fn capture(
+    out: &mut impl Write,
+    all: &[u8],
+    store: &mut [u8],
+    rows: &mut [u32],
+    other: &mut [u32],
+) -> io::Result<()> {
     feed_last(0, all, store, rows);
-    let count = feed_inside(all, store, rows);
-    show(store, rows, count);
+    let count = feed_inside(out, all, store, rows)?;
+    show(out, store, rows, count)?;
     let same = same_cuts(all, count, store, rows, other);
-    number(same);
-    text(b" of ");
-    number(all.len() as u64);
-    text(b" cuts into two pieces gave the same\n");
+    number(out, same)?;
+    text(out, b" of ")?;
+    number(out, all.len() as u64)?;
+    text(out, b" cuts into two pieces gave the same\n")
 }
 
 // Feeds the bytes anew, in four pieces cut inside the first three intervals that the rows have; answers the rows.
-fn feed_inside(all: &[u8], store: &mut [u8], rows: &mut [u32]) -> usize {
+fn feed_inside(
+    out: &mut impl Write,
+    all: &[u8],
+    store: &mut [u8],
+    rows: &mut [u32],
+) -> io::Result<usize> {
     let n = all.len();
     let first = first_interval(rows);
     let a = between(0, inside(rows, first), n);
     let b = between(a, inside(rows, first + 1), n);
     let c = between(b, inside(rows, first + 2), n);
-    show_cuts(a, b, c);
+    show_cuts(out, a, b, c)?;
     clear(rows);
-    feed_pieces(&all[..a], &all[a..b], &all[b..c], &all[c..], store, rows)
+    Ok(feed_pieces(&all[..a], &all[a..b], &all[b..c], &all[c..], store, rows))
 }
 
 // Says where the four pieces are cut.
-fn show_cuts(a: usize, b: usize, c: usize) {
-    text(b"four pieces, cut at ");
-    number(a as u64);
-    text(b", ");
-    number(b as u64);
-    text(b" and ");
-    number(c as u64);
-    text(b"\n");
+fn show_cuts(out: &mut impl Write, a: usize, b: usize, c: usize) -> io::Result<()> {
+    text(out, b"four pieces, cut at ")?;
+    number(out, a as u64)?;
+    text(out, b", ")?;
+    number(out, b as u64)?;
+    text(out, b" and ")?;
+    number(out, c as u64)?;
+    text(out, b"\n")
 }
 
 // Feeds four pieces, one after the other; answers the rows where the block is done, else 0.
@@ -98,10 +111,8 @@ fn feed_last(held: usize, piece: &[u8], store: &mut [u8], rows: &mut [u32]) -> u
 // How many of the cuts into two pieces give so many rows, and these.
 fn same_cuts(all: &[u8], count: usize, store: &mut [u8], rows: &[u32], other: &mut [u32]) -> u64 {
     let mut same = 0u64;
-    let mut cut = 0;
-    while cut < all.len() {
+    for cut in 0..all.len() {
         same += same_cut(all, cut, count, store, rows, other);
-        cut += 1;
     }
     same
 }
@@ -133,21 +144,17 @@ fn same_rows(a: &[u32], b: &[u32]) -> u64
     if a.len() != b.len() {
         return 0;
     }
-    let mut i = 0;
-    while i < a.len() {
+    for i in 0..a.len() {
         if a[i] != b[i] {
             return 0;
         }
-        i += 1;
     }
     1
 }
 
 fn clear(rows: &mut [u32]) {
-    let mut i = 0;
-    while i < rows.len() {
-        rows[i] = 0;
-        i += 1;
+    for x in rows {
+        *x = 0;
     }
 }
 
@@ -156,12 +163,10 @@ fn first_interval(rows: &[u32]) -> usize
     ensures { result ≤ length rows.now }
 {
     let n = rows.len() / 6;
-    let mut i = 0;
-    while i < n {
+    for i in 0..n {
         if table::number_at(rows, i, 0) == 4 {
             return i;
         }
-        i += 1;
     }
     n
 }
@@ -186,49 +191,48 @@ fn between(lo: usize, x: usize, hi: usize) -> usize
 }
 
 // Writes each mapping and its intervals, of the first n rows.
-fn show(store: &[u8], rows: &[u32], n: usize) {
+fn show(out: &mut impl Write, store: &[u8], rows: &[u32], n: usize) -> io::Result<()> {
     if store.len() < 8 {
-        return;
+        return Ok(());
     }
-    let mut i = 0;
-    while i < n {
-        show_row(&store[8..], rows, i);
-        i += 1;
+    for i in 0..n {
+        show_row(out, &store[8..], rows, i)?;
     }
+    Ok(())
 }
 
 // A mapping or an interval; rows of the lists are passed over.
-fn show_row(block: &[u8], rows: &[u32], i: usize) {
+fn show_row(out: &mut impl Write, block: &[u8], rows: &[u32], i: usize) -> io::Result<()> {
     let name = names::symbology_name(block, rows, i);
     match table::number_at(rows, i, 0) {
         3 => {
-            text(b"mapping ");
-            text(name);
-            text(b"\n");
+            text(out, b"mapping ")?;
+            text(out, name)?;
+            text(out, b"\n")
         }
         4 => {
-            text(b"  ");
-            date(table::number_at(rows, i, 3));
-            text(b" to ");
-            date(table::number_at(rows, i, 4));
-            text(b": ");
-            text(name);
-            text(b"\n");
+            text(out, b"  ")?;
+            date(out, table::number_at(rows, i, 3))?;
+            text(out, b" to ")?;
+            date(out, table::number_at(rows, i, 4))?;
+            text(out, b": ")?;
+            text(out, name)?;
+            text(out, b"\n")
         }
-        _ => {}
+        _ => Ok(()),
     }
 }
 
 // The date of day n as yyyy-mm-dd.
-fn date(n: u32) {
+fn date(out: &mut impl Write, n: u32) -> io::Result<()> {
     let s = iso::day_text(n);
-    text(&s);
+    text(out, &s)
 }
 
-fn text(s: &[u8]) {
-    io::write_all(STDOUT_FILENO, s);
+fn text(out: &mut impl Write, s: &[u8]) -> io::Result<()> {
+    out.write_all(s)
 }
 
-fn number(n: u64) {
-    io::print_decimal(STDOUT_FILENO, n);
+fn number(out: &mut impl Write, n: u64) -> io::Result<()> {
+    write!(out, "{n}")
 }

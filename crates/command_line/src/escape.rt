@@ -1,30 +1,27 @@
 // Texts from outside, written so that none can pass for a line of the program's own.
 
+use std::io;
+use std::io::Write;
+
 // Printable ASCII as it is, a backslash as two, any other byte as \xNN. So it never ends a line.
-pub fn escaped(fd: i32, s: &[u8]) {
+pub fn escaped(out: &mut impl Write, s: &[u8]) -> io::Result<()> {
     let mut from = 0;
-    let mut i = 0;
-    while i < s.len() {
-        if is_plain(s[i]) {
-            i += 1;
-        } else {
-            io::write_all(fd, &s[from..i]);
-            escape(fd, s[i]);
-            i += 1;
-            from = i;
+    for i in 0..s.len() {
+        if !is_plain(s[i]) {
+            out.write_all(&s[from..i])?;
+            escape(out, s[i])?;
+            from = i + 1;
         }
     }
-    io::write_all(fd, &s[from..]);
+    out.write_all(&s[from..])
 }
 
 // A byte that is not printed as it is.
-fn escape(fd: i32, x: u8) {
+fn escape(out: &mut impl Write, x: u8) -> io::Result<()> {
     if x == b'\\' {
-        io::write_all(fd, b"\\\\");
-        return;
+        return out.write_all(b"\\\\");
     }
-    io::write_all(fd, b"\\x");
-    io::print_hex(fd, x as u64, 2);
+    write!(out, "\\x{x:02x}")
 }
 
 // Printable ASCII but for the backslash.

@@ -5,11 +5,17 @@
 pub mod escape;
 pub mod words;
 
-use libc::STDERR_FILENO;
+ghost use Rattle.std.specs.Prelude.{◌≤◌, length};
+
+use std::env::{Env, FillError};
+use std::fs::OpenOptions;
+use std::io;
+use std::io::{Cursor, Write};
+use std::rt::Files;
 use type_sheet::Loaded;
 
-// Where the status goes, if it is asked for.
-const STATUS_FILENO: i32 = 3;
+// Where the status goes, if it is asked for: file descriptor 3.
+const STATUS_FILE: &str = "/dev/fd/3";
 
 // What can be wrong with an argument, by number: no such option, and a name that is missing after --sheet. A program has others of its own.
 pub const UNKNOWN: u64 = 1;
@@ -39,16 +45,33 @@ pub fn nothing() -> Asked {
 }
 
 // What all arguments of a program ask for that has no options of its own. Of several faults the last is kept.
-pub fn read() -> Asked {
-    let n = os::arg_count();
+pub fn read(rt: &impl Env) -> Asked {
+    let n = argument_count(rt);
     let mut asked = nothing();
-    let mut i = 1;
-    while i < n {
-        let next = i + 1;
-        asked = taken(asked, i, next);
-        i = next;
+    for i in 1..n {
+        asked = taken(rt, asked, i, i + 1);
     }
     complete(asked, n)
+}
+
+// How many words there are, the program's own name among them.
+pub fn argument_count(rt: &impl Env) -> usize {
+    for i in 0..usize::MAX {
+        if let Err(FillError::NotPresent) = rt.arg(i, &mut []) {
+            return i;
+        }
+    }
+    usize::MAX
+}
+
+// Puts argument i at the front of the buffer and answers its length, 0 where it is missing or longer than the buffer.
+pub fn argument(rt: &impl Env, i: usize, buf: &mut [u8]) -> usize
+    ensures { result ≤ length buf.new }
+{
+    match rt.arg(i, buf) {
+        Ok(n) => n,
+        Err(_) => 0,
+    }
 }
 
 // What is asked for with a fault of argument i.
@@ -61,16 +84,16 @@ pub fn wrong(asked: Asked, fault: u64, i: usize) -> Asked {
 
 // What is asked for with argument i, before the argument `next`. The word after --sheet is the name of a sheet, whatever it is. A word that
 // is none of the three options is a fault.
-pub fn taken(asked: Asked, i: usize, next: usize) -> Asked {
+pub fn taken(rt: &impl Env, asked: Asked, i: usize, next: usize) -> Asked {
     let mut asked = asked;
     if asked.sheet == i {
         return asked;
     }
-    if is_word(i, b"--help") {
+    if is_word(rt, i, b"--help") {
         asked.help = true;
-    } else if is_word(i, b"--status") {
+    } else if is_word(rt, i, b"--status") {
         asked.status = true;
-    } else if is_word(i, b"--sheet") {
+    } else if is_word(rt, i, b"--sheet") {
         asked.sheet = next;
     } else {
         return wrong(asked, UNKNOWN, i);
@@ -87,78 +110,120 @@ pub fn complete(asked: Asked, n: usize) -> Asked {
 }
 
 // Whether argument i is this word.
-fn is_word(i: usize, word: &[u8]) -> bool {
-    let mut space = io::buffer();
-    let n = os::arg(i, &mut space);
-    check::same(&space[..n], word)
+fn is_word(rt: &impl Env, i: usize, word: &[u8]) -> bool {
+    let mut space = [0u8; 4096];
+    let n = argument(rt, i, &mut space);
+    &space[..n] == word
 }
 
 // Reads the sheet that is asked for; where none is, it stays as it was. Where it cannot be read, the program says why, and the answer is
 // false.
-pub fn load_sheet(program: &[u8], asked: Asked, sheet: &mut [u16; 520]) -> bool {
+pub fn load_sheet<R: Env + Files>(
+    rt: &R,
+    err: &mut impl Write,
+    program: &[u8],
+    asked: Asked,
+    sheet: &mut [u16; 520],
+) -> bool {
     if asked.sheet == 0 {
         return true;
     }
-    let mut path = io::buffer();
-    let n = os::arg(asked.sheet, &mut path);
-    match type_sheet::load(&path[..n], sheet) {
+    let mut path = [0u8; 4096];
+    let n = argument(rt, asked.sheet, &mut path);
+    let said = match type_sheet::load(rt, &path[..n], sheet) {
         Loaded::Read => return true,
-        Loaded::Unopened => failed(program, &path[..n]),
-        Loaded::Unfit => unfit(program, &path[..n]),
-    }
+        Loaded::Unopened(why) => failed(err, program, &path[..n], why),
+        Loaded::Unfit => unfit(err, program, &path[..n]),
+    };
+    // What standard error does not take is lost.
+    let _ = said;
     false
 }
 
 // Says that a file is no type sheet.
-fn unfit(program: &[u8], name: &[u8]) {
-    named(program, name);
-    io::write_all(
-        STDERR_FILENO,
-        b": no type sheet of 1,040 bytes could be read from it\n",
-    );
+fn unfit(err: &mut impl Write, program: &[u8], name: &[u8]) -> io::Result<()> {
+    named(err, program, name)?;
+    err.write_all(b": no type sheet of 1,040 bytes could be read from it\n")
 }
 
-// Says on standard error why the last call on the named thing failed.
-pub fn failed(program: &[u8], name: &[u8]) {
-    named(program, name);
-    os::fail(b"");
+// Says on standard error why a call on the named thing failed.
+pub fn failed(err: &mut impl Write, program: &[u8], name: &[u8], why: io::Error) -> io::Result<()> {
+    let mut text = Cursor::new([0u8; 512]);
+    write!(text, "{why}")?;
+    let n = text.position() as usize;
+    named(err, program, name)?;
+    err.write_all(b": ")?;
+    err.write_all(reason(front(text.get_ref(), n), why))?;
+    err.write_all(b"\n")
+}
+
+// The reason in the text of an error. Where the reason is the system's, a space and its number in brackets follow it there.
+fn reason(text: &[u8], why: io::Error) -> &[u8] {
+    if why.raw_os_error().is_none() {
+        return text;
+    }
+    match text.iter().rposition(|x| *x == b'(') {
+        Some(at) if 0 < at => &text[..at - 1],
+        _ => text,
+    }
 }
 
 // Says on standard error what is wrong with the named thing: the entry of a text by its number.
-pub fn say_wrong(program: &[u8], name: &[u8], text: &[u8], fault: u64) {
-    named(program, name);
-    words::say(STDERR_FILENO, text, fault);
-    io::write_all(STDERR_FILENO, b"\n");
+pub fn say_wrong(
+    err: &mut impl Write,
+    program: &[u8],
+    name: &[u8],
+    text: &[u8],
+    fault: u64,
+) -> io::Result<()> {
+    named(err, program, name)?;
+    words::say(err, text, fault)?;
+    err.write_all(b"\n")
 }
 
 // The same of argument i.
-pub fn say_wrong_argument(program: &[u8], i: usize, text: &[u8], fault: u64) {
-    let mut word = io::buffer();
-    let n = os::arg(i, &mut word);
-    say_wrong(program, &word[..n], text, fault);
+pub fn say_wrong_argument(
+    rt: &impl Env,
+    err: &mut impl Write,
+    program: &[u8],
+    i: usize,
+    text: &[u8],
+    fault: u64,
+) -> io::Result<()> {
+    let mut word = [0u8; 4096];
+    let n = argument(rt, i, &mut word);
+    say_wrong(err, program, &word[..n], text, fault)
 }
 
 // The program's name, and that of what it says something about.
-fn named(program: &[u8], name: &[u8]) {
-    io::write_all(STDERR_FILENO, program);
-    io::write_all(STDERR_FILENO, b": ");
-    escape::escaped(STDERR_FILENO, name);
+fn named(err: &mut impl Write, program: &[u8], name: &[u8]) -> io::Result<()> {
+    err.write_all(program)?;
+    err.write_all(b": ")?;
+    escape::escaped(err, name)
 }
 
-// The status, if the last bytes of standard output were written; else it says why not.
-pub fn ended(program: &[u8], is_written: bool, status: u64) -> u64 {
-    if is_written {
-        return status;
+// The status that goes with what was written to standard output; where that failed it is 2, and why is said.
+pub fn ended(err: &mut impl Write, program: &[u8], written: io::Result<u64>) -> u64 {
+    match written {
+        Ok(status) => status,
+        Err(why) => {
+            // What standard error does not take is lost.
+            let _ = failed(err, program, b"standard output", why);
+            2
+        }
     }
-    failed(program, b"standard output");
-    2
 }
 
-// Writes the status, if it is asked for.
-pub fn end(asked: Asked, status: u64) {
+// Writes the status, if it is asked for. Where it cannot be written, nothing is said.
+pub fn end(rt: &impl Files, asked: Asked, status: u64) {
     if asked.status {
-        io::print_decimal(STATUS_FILENO, status);
+        let _ = write_status(rt, status);
     }
+}
+
+fn write_status(rt: &impl Files, status: u64) -> io::Result<()> {
+    let mut file = OpenOptions::new().append(true).open(rt, STATUS_FILE)?;
+    write!(file, "{status}")
 }
 
 // The first n bytes; all where there are fewer.

@@ -1,11 +1,14 @@
 // Texts by number: before each entry of a text stand a line's end and the entry's two digits.
 ghost use Rattle.std.specs.Prelude.{◌≤◌, length};
 
+use std::io;
+use std::io::Write;
+
 // Writes the entry of number n up to its line's end; nothing where there is none.
-pub fn say(fd: i32, text: &[u8], n: u64) {
+pub fn say(out: &mut impl Write, text: &[u8], n: u64) -> io::Result<()> {
     let start = find(text, n);
     let end = line_end(text, start);
-    io::write_all(fd, &text[start..end]);
+    out.write_all(&text[start..end])
 }
 
 // The place of the entry of number n, or the text's end. Two digits count 48 each as ASCII, 528 in all.
@@ -16,8 +19,7 @@ fn find(text: &[u8], n: u64) -> usize
         return text.len();
     }
     let digits = 528 + n as usize;
-    let mut i = 0;
-    while i < text.len() {
+    for i in 0..text.len() {
         if text[i] == b'\n' {
             if text.len() - i < 3 {
                 return text.len();
@@ -26,9 +28,8 @@ fn find(text: &[u8], n: u64) -> usize
                 return i + 3;
             }
         }
-        i += 1;
     }
-    i
+    text.len()
 }
 
 // The next line's end from a place on, or the text's end.
@@ -36,12 +37,10 @@ fn line_end(text: &[u8], from: usize) -> usize
     requires { from ≤ length text.now }
     ensures { (from ≤ result) × (result ≤ length text.now) }
 {
-    let mut i = from;
-    while i < text.len() {
+    for i in from..text.len() {
         if text[i] == b'\n' {
             return i;
         }
-        i += 1;
     }
-    i
+    text.len()
 }

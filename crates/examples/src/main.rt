@@ -20,38 +20,55 @@ mod rows;
 mod show;
 mod written;
 
-ghost use Rattle.std.specs.Prelude.{◌≡◌, ◌≤◌, ◌<◌, length};
+ghost use Rattle.std.specs.Prelude.{◌≡◌, ◌≤◌, ◌<◌, length, IfOk, vec_len};
 
-fn main() {
-    let mut input = input_space();
-    let mut room = case_space();
+use std::alloc::{AllocError, Global};
+use std::io;
+use std::io::Write;
+
+fn main(rt: HostRuntime) -> io::Result<()> {
+    let mut input = input_space(rt.alloc())?;
+    let mut room = case_space(rt.alloc())?;
     let mut sheet = [0u16; 520];
-    let n = io::read_full(0, &mut input);
-    lines(&input[..n], &mut sheet, &mut room);
+    let n = reading::read_full(&mut rt.reader(), &mut input)?;
+    lines(
+        &mut io::writer(&rt),
+        rt.alloc(),
+        &input[..n],
+        &mut sheet,
+        &mut room,
+    )
 }
 
 // Room for the cases.
-fn input_space() -> [u8; 1048576]
-    ensures { 1048576 ≡ length result }
+fn input_space(alloc: Global) -> Result<Vec<u8>, AllocError>
+    ensures { IfOk result (λ v. 1048576 ≡ vec_len v) }
 {
-    [0; 1048576]
+    vec![in alloc; 0; 1048576]
 }
 
 // Room for the bytes of one case.
-fn case_space() -> [u8; 131072]
-    ensures { 131072 ≡ length result }
+fn case_space(alloc: Global) -> Result<Vec<u8>, AllocError>
+    ensures { IfOk result (λ v. 131072 ≡ vec_len v) }
 {
-    [0; 131072]
+    vec![in alloc; 0; 131072]
 }
 
 // Every line of the text, the bytes of its case in room.
-fn lines(text: &[u8], sheet: &mut [u16; 520], room: &mut [u8]) {
+fn lines(
+    out: &mut impl Write,
+    alloc: Global,
+    text: &[u8],
+    sheet: &mut [u16; 520],
+    room: &mut [u8],
+) -> io::Result<()> {
     let mut at = 0;
     while at < text.len() {
         let end = line_end(text, at);
-        line(&text[at..end], sheet, room);
+        line(out, alloc, &text[at..end], sheet, room)?;
         at = end + 1;
     }
+    Ok(())
 }
 
 // Where the line from `at` on ends.
@@ -59,54 +76,64 @@ fn line_end(text: &[u8], at: usize) -> usize
     requires { at ≤ length text.now }
     ensures { (at ≤ result) × (result ≤ length text.now) }
 {
-    let mut i = at;
-    while i < text.len() {
+    for i in at..text.len() {
         if text[i] == b'\n' {
             return i;
         }
-        i += 1;
     }
-    i
+    text.len()
 }
 
 // A remark, or a case.
-fn line(text: &[u8], sheet: &mut [u16; 520], room: &mut [u8]) {
+fn line(
+    out: &mut impl Write,
+    alloc: Global,
+    text: &[u8],
+    sheet: &mut [u16; 520],
+    room: &mut [u8],
+) -> io::Result<()> {
     if text.len() < 1 {
-        return;
+        return Ok(());
     }
     let kind = text[0];
     if kind == b'#' {
-        show::line(text);
-        return;
+        return show::line(out, text);
     }
     let read = unhex(&text[1..], room);
     let n = readers::with_labels(kind, room, read);
-    case(kind, bytes::front(room, n), sheet);
+    case(out, alloc, kind, bytes::front(room, n), sheet)
 }
 
 // One case of a kind.
-fn case(kind: u8, s: &[u8], sheet: &mut [u16; 520]) {
+fn case(
+    out: &mut impl Write,
+    alloc: Global,
+    kind: u8,
+    s: &[u8],
+    sheet: &mut [u16; 520],
+) -> io::Result<()> {
     match kind {
-        b's' => take_sheet(s, sheet),
-        b'b' => readers::block(s, sheet),
-        b'y' => readers::symbology(s),
-        b'l' => readers::layout(s, sheet),
-        b'm' => readers::layout(bytes::from(s, 6), sheet),
-        b't' => written::again(s, sheet),
-        b'i' => readers::tidy(s, sheet),
-        b'w' => written::rows(s, sheet),
-        _ => show::line(b"no such kind"),
+        b's' => {
+            take_sheet(s, sheet);
+            Ok(())
+        }
+        b'b' => readers::block(out, s, sheet),
+        b'y' => readers::symbology(out, s),
+        b'l' => readers::layout(out, alloc, s, sheet),
+        b'm' => readers::layout(out, alloc, bytes::from(s, 6), sheet),
+        b't' => written::again(out, alloc, s, sheet),
+        b'i' => readers::tidy(out, s, sheet),
+        b'w' => written::rows(out, alloc, s, sheet),
+        _ => show::line(out, b"no such kind"),
     }
 }
 
 // The sheet with these numbers at these places, and 0 elsewhere.
 fn take_sheet(s: &[u8], sheet: &mut [u16; 520]) {
     *sheet = [0; 520];
-    let mut i = 0;
-    while i < s.len() / 4 {
+    for i in 0..s.len() / 4 {
         let at = bytes::u16_at(s, 4 * i);
         put(sheet, at as usize, bytes::u16_at(s, 4 * i + 2));
-        i += 1;
     }
 }
 

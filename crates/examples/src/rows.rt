@@ -1,13 +1,14 @@
 // Rows of a table: the first ones, those of a case, and whether two tables have the same.
-ghost use Rattle.std.specs.Prelude.{◌≡◌, length};
+ghost use Rattle.std.specs.Prelude.{◌≡◌, IfOk, vec_len};
 
 use crate::bytes;
+use std::alloc::{AllocError, Global};
 
 // Room for 65,536 rows of nine.
-pub(crate) fn space() -> [u32; 589824]
-    ensures { 589824 ≡ length result }
+pub(crate) fn space(alloc: Global) -> Result<Vec<u32>, AllocError>
+    ensures { IfOk result (λ v. 589824 ≡ vec_len v) }
 {
-    [0; 589824]
+    vec![in alloc; 0; 589824]
 }
 
 // The first n rows of nine; all where the table has fewer.
@@ -24,10 +25,8 @@ pub(crate) fn load(s: &[u8], table: &mut [u32], n: usize) {
     if table.len() / 9 < n {
         return;
     }
-    let mut i = 0;
-    while i < 9 * n {
+    for i in 0..9 * n {
         table[i] = next(s, table, i);
-        i += 1;
     }
 }
 
@@ -44,15 +43,13 @@ fn next(s: &[u8], table: &[u32], i: usize) -> u32 {
 
 // Whether n rows of a, with their texts in t, are those of b, with theirs in u, but for where these start.
 pub(crate) fn same(a: &[u32], t: &[u8], b: &[u32], u: &[u8], n: usize) -> bool {
-    let mut i = 0;
-    while i < n {
+    for i in 0..n {
         if !same_numbers(row(a, i), row(b, i)) {
             return false;
         }
         if !same_bytes(names::layout_name(t, a, i), names::layout_name(u, b, i)) {
             return false;
         }
-        i += 1;
     }
     true
 }
@@ -69,8 +66,7 @@ fn row(table: &[u32], i: usize) -> &[u32] {
 
 // Whether two rows have the same numbers, but for the start of a text: a field has none.
 fn same_numbers(a: &[u32], b: &[u32]) -> bool {
-    let mut i = 0;
-    while i < a.len() {
+    for i in 0..a.len() {
         if cell(a, i) != cell(b, i) {
             if i != 1 {
                 return false;
@@ -79,7 +75,6 @@ fn same_numbers(a: &[u32], b: &[u32]) -> bool {
                 return false;
             }
         }
-        i += 1;
     }
     true
 }
@@ -93,12 +88,10 @@ fn same_bytes(s: &[u8], t: &[u8]) -> bool {
     if s.len() != t.len() {
         return false;
     }
-    let mut i = 0;
-    while i < s.len() {
+    for i in 0..s.len() {
         if bytes::byte(s, i) != bytes::byte(t, i) {
             return false;
         }
-        i += 1;
     }
     true
 }

@@ -4,98 +4,100 @@ ghost use Rattle.std.specs.Prelude.{◌≤◌};
 use crate::bytes;
 use block::{Fields, Optional};
 use refusal::Refusal;
+use std::io;
+use std::io::Write;
 
 // A text and the line's end.
-pub(crate) fn line(s: &[u8]) {
-    io::write_all(1, s);
-    io::write_all(1, b"\n");
+pub(crate) fn line(out: &mut impl Write, s: &[u8]) -> io::Result<()> {
+    out.write_all(s)?;
+    out.write_all(b"\n")
 }
 
 // A label and a number.
-pub(crate) fn number(label: &[u8], n: u64) {
-    io::write_all(1, label);
-    io::print_decimal(1, n);
+pub(crate) fn number(out: &mut impl Write, label: &[u8], n: u64) -> io::Result<()> {
+    out.write_all(label)?;
+    write!(out, "{n}")
 }
 
 // The line's end.
-pub(crate) fn end() {
-    io::write_all(1, b"\n");
+pub(crate) fn end(out: &mut impl Write) -> io::Result<()> {
+    out.write_all(b"\n")
 }
 
 // A space and a number.
-pub(crate) fn say_number(n: u32) {
-    number(b" ", n as u64);
+pub(crate) fn say_number(out: &mut impl Write, n: u32) -> io::Result<()> {
+    number(out, b" ", n as u64)
 }
 
 // A space and a refusal: its number, and its place where it has one.
-pub(crate) fn say(why: Refusal) {
-    say_number(why.number);
+pub(crate) fn say(out: &mut impl Write, why: Refusal) -> io::Result<()> {
+    say_number(out, why.number)?;
     if refusal::has_place(why.number) {
-        number(b" at ", why.place as u64);
+        number(out, b" at ", why.place as u64)?;
     }
+    Ok(())
 }
 
 // How the line of what the rules say begins.
-pub(crate) fn rules() {
-    io::write_all(1, b"  rules");
+pub(crate) fn rules(out: &mut impl Write) -> io::Result<()> {
+    out.write_all(b"  rules")
 }
 
 // A number, and how many rows were read.
-pub(crate) fn read(a: usize, rows: usize) {
-    number(b"read ", a as u64);
-    number(b" ", rows as u64);
-    end();
+pub(crate) fn read(out: &mut impl Write, a: usize, rows: usize) -> io::Result<()> {
+    number(out, b"read ", a as u64)?;
+    number(out, b" ", rows as u64)?;
+    end(out)
 }
 
 // A table that lacks rows.
-pub(crate) fn short(rows: usize) {
-    number(b"short ", rows as u64);
-    end();
+pub(crate) fn short(out: &mut impl Write, rows: usize) -> io::Result<()> {
+    number(out, b"short ", rows as u64)?;
+    end(out)
 }
 
 // Two tables of which one lacks rows.
-pub(crate) fn both_short(symbology: usize, layout: usize) {
-    number(b"refused 3, symbology rows needed ", symbology as u64);
-    number(b"\n  layout rows needed ", layout as u64);
-    end();
+pub(crate) fn both_short(out: &mut impl Write, symbology: usize, layout: usize) -> io::Result<()> {
+    number(out, b"refused 3, symbology rows needed ", symbology as u64)?;
+    number(out, b"\n  layout rows needed ", layout as u64)?;
+    end(out)
 }
 
 // A refusal.
-pub(crate) fn refused(why: Refusal) {
-    io::write_all(1, b"refused");
-    say(why);
-    end();
+pub(crate) fn refused(out: &mut impl Write, why: Refusal) -> io::Result<()> {
+    out.write_all(b"refused")?;
+    say(out, why)?;
+    end(out)
 }
 
 // A refusal of the writer, and whether the output is as it was.
-pub(crate) fn not_written(why: Refusal, untouched: bool) {
-    io::write_all(1, b"refused");
-    say(why);
+pub(crate) fn not_written(out: &mut impl Write, why: Refusal, untouched: bool) -> io::Result<()> {
+    out.write_all(b"refused")?;
+    say(out, why)?;
     if untouched {
-        line(b", no byte written");
+        line(out, b", no byte written")
     } else {
-        line(b", bytes written");
+        line(out, b", bytes written")
     }
 }
 
 // What was written, and whether it reads back as the same.
-pub(crate) fn written(s: &[u8], same: bool) {
-    io::write_all(1, b"written ");
-    hex(s);
+pub(crate) fn written(out: &mut impl Write, s: &[u8], same: bool) -> io::Result<()> {
+    out.write_all(b"written ")?;
+    hex(out, s)?;
     if same {
-        line(b" same");
+        line(out, b" same")
     } else {
-        line(b" different");
+        line(out, b" different")
     }
 }
 
 // Bytes in hexadecimal.
-fn hex(s: &[u8]) {
-    let mut i = 0;
-    while i < s.len() {
-        io::print_hex(1, byte(s[i]), 2);
-        i += 1;
+fn hex(out: &mut impl Write, s: &[u8]) -> io::Result<()> {
+    for x in s {
+        write!(out, "{:02x}", byte(*x))?;
     }
+    Ok(())
 }
 
 fn byte(x: u8) -> u64 {
@@ -103,58 +105,62 @@ fn byte(x: u8) -> u64 {
 }
 
 // A label and a number; - where it is absent.
-fn optional(label: &[u8], n: Optional) {
+fn optional(out: &mut impl Write, label: &[u8], n: Optional) -> io::Result<()> {
     match n {
-        Optional::Present(x) => number(label, x),
+        Optional::Present(x) => number(out, label, x),
         Optional::Absent => {
-            io::write_all(1, label);
-            io::write_all(1, b"-");
+            out.write_all(label)?;
+            out.write_all(b"-")
         }
     }
 }
 
 // The fields of an accepted block, on two lines; - for what is absent.
-pub(crate) fn fields(f: Fields) {
-    first(f);
-    number(b"  width ", f.symbol_cstr_len as u64);
-    number(b" layout version ", f.layout_version as u64);
-    number(b" symbology rows ", f.symbology_rows as u64);
-    number(b" layout rows ", f.layout_rows as u64);
-    end();
+pub(crate) fn fields(out: &mut impl Write, f: Fields) -> io::Result<()> {
+    first(out, f)?;
+    number(out, b"  width ", f.symbol_cstr_len as u64)?;
+    number(out, b" layout version ", f.layout_version as u64)?;
+    number(out, b" symbology rows ", f.symbology_rows as u64)?;
+    number(out, b" layout rows ", f.layout_rows as u64)?;
+    end(out)
 }
 
-fn first(f: Fields) {
+fn first(out: &mut impl Write, f: Fields) -> io::Result<()> {
     let schema = f.schema;
     let end = f.end;
     let limit = f.limit;
-    number(b"read: dataset ", f.dataset_len as u64);
-    optional(b" schema ", schema);
-    number(b" start ", f.start);
-    optional(b" end ", end);
-    optional(b" limit ", limit);
-    types(f);
+    number(out, b"read: dataset ", f.dataset_len as u64)?;
+    optional(out, b" schema ", schema)?;
+    number(out, b" start ", f.start)?;
+    optional(out, b" end ", end)?;
+    optional(out, b" limit ", limit)?;
+    types(out, f)
 }
 
-fn types(f: Fields) {
+fn types(out: &mut impl Write, f: Fields) -> io::Result<()> {
     let stype_in = f.stype_in;
-    optional(b" stype_in ", stype_in);
-    number(b" stype_out ", f.stype_out as u64);
+    optional(out, b" stype_in ", stype_in)?;
+    number(out, b" stype_out ", f.stype_out as u64)?;
     if f.ts_out {
-        io::write_all(1, b" ts_out");
+        out.write_all(b" ts_out")?;
     }
-    end();
+    end(out)
 }
 
 // Each of the first n symbology rows, which stand by column, with its name in the block, 100 at the most.
-pub(crate) fn symbology_rows(block: &[u8], table: &[u32], n: usize) {
+pub(crate) fn symbology_rows(
+    out: &mut impl Write,
+    block: &[u8],
+    table: &[u32],
+    n: usize,
+) -> io::Result<()> {
     let most = bytes::at_most(n, 100);
-    let mut i = 0;
-    while i < most {
+    for i in 0..most {
         let numbers = six(table, i);
-        row(&numbers);
-        line(names::symbology_name(block, table, i));
-        i += 1;
+        row(out, &numbers)?;
+        line(out, names::symbology_name(block, table, i))?;
     }
+    Ok(())
 }
 
 // The numbers of row i of six columns; zeros past their height.
@@ -170,16 +176,18 @@ fn six(table: &[u32], i: usize) -> [u32; 6] {
 }
 
 // Each of the first n layout rows, with its name in the layout, 100 at the most.
-pub(crate) fn layout_rows(layout: &[u8], table: &[u32], n: usize) {
+pub(crate) fn layout_rows(
+    out: &mut impl Write,
+    layout: &[u8],
+    table: &[u32],
+    n: usize,
+) -> io::Result<()> {
     let most = bytes::at_most(n, 100);
-    let mut at = 0;
-    let mut i = 0;
-    while i < most {
-        row(part(table, at, 9));
-        line(names::layout_name(layout, table, i));
-        at += 9;
-        i += 1;
+    for i in 0..most {
+        row(out, part(table, 9 * i, 9))?;
+        line(out, names::layout_name(layout, table, i))?;
     }
+    Ok(())
 }
 
 // n numbers at a place; none where they run past the table.
@@ -195,14 +203,12 @@ fn part(table: &[u32], at: usize, n: usize) -> &[u32] {
 }
 
 // The numbers of a row, and a colon.
-fn row(numbers: &[u32]) {
-    io::write_all(1, b" ");
-    let mut j = 0;
-    while j < numbers.len() {
-        number(b" ", wide(numbers[j]));
-        j += 1;
+fn row(out: &mut impl Write, numbers: &[u32]) -> io::Result<()> {
+    out.write_all(b" ")?;
+    for x in numbers {
+        number(out, b" ", wide(*x))?;
     }
-    io::write_all(1, b" : ");
+    out.write_all(b" : ")
 }
 
 fn wide(x: u32) -> u64 {

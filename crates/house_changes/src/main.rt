@@ -6,51 +6,56 @@ ghost use Rattle.std.specs.Prelude.{◌<◌, length};
 
 use feed::Answer;
 use house::{Loaded, Stored};
-use libc::{STDIN_FILENO, STDOUT_FILENO};
+use std::io;
+use std::io::Write;
 
-fn main() {
-    let mut input = io::buffer();
-    let n = io::read_full(STDIN_FILENO, &mut input);
-    let mut file = io::buffer();
-    keep(&input[..n], &mut file);
+fn main(rt: HostRuntime) -> io::Result<()> {
+    let mut input = [0u8; 4096];
+    let n = reading::read_full(&mut rt.reader(), &mut input)?;
+    let mut file = [0u8; 4096];
+    keep(&mut io::writer(&rt), &input[..n], &mut file)
 }
 
 // Stores the bytes in a house file, and goes on with that; or says what refuses them.
-fn keep(all: &[u8], output: &mut [u8]) {
+fn keep(out: &mut impl Write, all: &[u8], output: &mut [u8]) -> io::Result<()> {
     match house::store_start(all, &[0; 520], output) {
         Stored::Written(len) => {
             if len <= output.len() {
-                show_stored(all, &mut output[..len]);
+                show_stored(out, all, &mut output[..len])?;
             }
+            Ok(())
         }
         Stored::Refused(e) => {
-            text(b"refused by ");
-            number(e.number as u64);
-            text(b"\n");
+            text(out, b"refused by ")?;
+            number(out, e.number as u64)?;
+            text(out, b"\n")
         }
     }
 }
 
 // Says what was stored, what came back, and what one changed byte does.
-fn show_stored(all: &[u8], file: &mut [u8]) {
-    let mut store = io::buffer();
-    number(all.len() as u64);
-    text(b" bytes are stored in ");
-    number((file.len() / 512) as u64);
-    text(b" blocks, ");
-    number(file.len() as u64);
-    text(b" bytes\n");
+fn show_stored(out: &mut impl Write, all: &[u8], file: &mut [u8]) -> io::Result<()> {
+    let mut store = [0u8; 4096];
+    number(out, all.len() as u64)?;
+    text(out, b" bytes are stored in ")?;
+    number(out, (file.len() / 512) as u64)?;
+    text(out, b" blocks, ")?;
+    number(out, file.len() as u64)?;
+    text(out, b" bytes\n")?;
     let rows = load(file, &mut store);
     if same(all, &store) {
-        text(b"the same bytes come back, with ");
-        number(rows as u64);
-        text(b" rows\n");
+        text(out, b"the same bytes come back, with ")?;
+        number(out, rows as u64)?;
+        text(out, b" rows\n")?;
     }
     let refused = every_change(file, &mut store);
-    number(refused);
-    text(b" files with one changed byte are refused by 131: 255 for each of ");
-    number(file.len() as u64);
-    text(b" bytes\n");
+    number(out, refused)?;
+    text(
+        out,
+        b" files with one changed byte are refused by 131: 255 for each of ",
+    )?;
+    number(out, file.len() as u64)?;
+    text(out, b" bytes\n")
 }
 
 // Loads the file; answers the rows of its symbology, or 0 where it is refused.
@@ -76,12 +81,10 @@ fn same(all: &[u8], store: &[u8]) -> bool {
     if store.len() < all.len() {
         return false;
     }
-    let mut i = 0;
-    while i < all.len() {
+    for i in 0..all.len() {
         if all[i] != store[i] {
             return false;
         }
-        i += 1;
     }
     true
 }
@@ -89,10 +92,8 @@ fn same(all: &[u8], store: &[u8]) -> bool {
 // How many of the files are refused by 131 that differ from this one in one byte.
 fn every_change(file: &mut [u8], store: &mut [u8]) -> u64 {
     let mut refused = 0u64;
-    let mut at = 0;
-    while at < file.len() {
-        refused = std::num::wrapping_add_u64(refused, changes_at(file, at, store));
-        at += 1;
+    for at in 0..file.len() {
+        refused = refused.wrapping_add(changes_at(file, at, store));
     }
     refused
 }
@@ -105,8 +106,8 @@ fn changes_at(file: &mut [u8], at: usize, store: &mut [u8]) -> u64
     let mut refused = 0u64;
     let mut by = 255u8;
     while 0 < by {
-        file[at] = std::num::wrapping_add_u8(kept, by);
-        refused = std::num::wrapping_add_u64(refused, is_refused(file, store));
+        file[at] = kept.wrapping_add(by);
+        refused = refused.wrapping_add(is_refused(file, store));
         by -= 1;
     }
     file[at] = kept;
@@ -128,10 +129,10 @@ fn is_refused(file: &[u8], store: &mut [u8]) -> u64 {
     }
 }
 
-fn text(s: &[u8]) {
-    io::write_all(STDOUT_FILENO, s);
+fn text(out: &mut impl Write, s: &[u8]) -> io::Result<()> {
+    out.write_all(s)
 }
 
-fn number(n: u64) {
-    io::print_decimal(STDOUT_FILENO, n);
+fn number(out: &mut impl Write, n: u64) -> io::Result<()> {
+    write!(out, "{n}")
 }

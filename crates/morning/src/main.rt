@@ -6,8 +6,11 @@
 mod tell;
 
 use command_line::Asked;
-use libc::{STDIN_FILENO, STDOUT_FILENO};
 use night::State;
+use std::env::Env;
+use std::io;
+use std::io::{Read, Write};
+use std::rt::Files;
 
 // The most pieces that are read, 2^64 - 1: more than any input has.
 const MOST_PIECES: u64 = 18446744073709551615;
@@ -15,66 +18,88 @@ const MOST_PIECES: u64 = 18446744073709551615;
 // What came of a turn of reading: a read that failed, the night's end with so many bytes held, or more to come.
 #[derive(Clone, Copy)]
 enum Turn {
-    Failed,
+    Failed(io::Error),
     Over(usize),
     Held(usize),
 }
 
-fn main() {
-    let asked = command_line::read();
-    command_line::end(asked, run(asked));
+fn main(rt: HostRuntime) {
+    let asked = command_line::read(&rt);
+    let status = run(&rt, &mut io::writer(&rt), &mut rt.stderr(), asked);
+    command_line::end(&rt, asked, status);
 }
 
 // Does what is asked, and answers the status.
-fn run(asked: Asked) -> u64 {
+fn run<R: Env + Files + Input>(
+    rt: &R,
+    out: &mut impl Write,
+    err: &mut impl Write,
+    asked: Asked,
+) -> u64 {
     if asked.fault != 0 {
-        tell::wrong_argument(asked.fault, asked.at);
+        tell::wrong_argument(rt, err, asked.fault, asked.at);
         return 2;
     }
     if asked.help {
-        return tell::ended(tell::help());
+        return tell::ended(err, tell::help(out));
     }
     let mut sheet = type_sheet::made();
-    if command_line::load_sheet(&tell::NAME, asked, &mut sheet) {
-        return count_night(&sheet);
+    if command_line::load_sheet(rt, err, &tell::NAME, asked, &mut sheet) {
+        return count_night(&mut rt.reader(), out, err, &sheet);
     }
     2
 }
 
 // Counts the night and writes the report; answers the status.
-fn count_night(sheet: &[u16; 520]) -> u64 {
+fn count_night(
+    input: &mut impl Read,
+    out: &mut impl Write,
+    err: &mut impl Write,
+    sheet: &[u16; 520],
+) -> u64 {
     let mut counts = [0u64; 260];
-    let seen = read_all(sheet, &mut counts);
-    if let Turn::Over(held) = seen {
-        count::count_end(&mut counts, held);
-        return report(&counts);
+    match read_all(input, sheet, &mut counts) {
+        Turn::Failed(why) => {
+            tell::unread(err, why);
+            1
+        }
+        Turn::Over(held) | Turn::Held(held) => {
+            count::count_end(&mut counts, held);
+            report(out, err, &counts)
+        }
     }
-    tell::unread();
-    1
 }
 
 // Writes the report; answers the status.
-fn report(counts: &[u64; 260]) -> u64 {
+fn report(out: &mut impl Write, err: &mut impl Write, counts: &[u64; 260]) -> u64 {
     let mut text = [0u8; 16384];
     let n = report::write_report(counts, &mut text);
-    tell::ended(write(&text, n))
+    tell::ended(err, write(out, &text, n))
 }
 
-// Writes the first n bytes. Answers whether they were written.
-fn write(text: &[u8; 16384], n: usize) -> bool {
-    io::write_all(STDOUT_FILENO, command_line::front(text, n))
+// Writes the first n bytes.
+fn write(out: &mut impl Write, text: &[u8; 16384], n: usize) -> io::Result<()> {
+    out.write_all(command_line::front(text, n))
 }
 
 // Reads the night, with a store and tables of its own.
-fn read_all(sheet: &[u16; 520], counts: &mut [u64; 260]) -> Turn {
-    let mut store = io::large_buffer();
+fn read_all(input: &mut impl Read, sheet: &[u16; 520], counts: &mut [u64; 260]) -> Turn {
+    let mut store = [0u8; 65536];
     let mut symbology = [0u32; 6144];
     let mut layout = [0u32; 9216];
-    read_night(&mut store, sheet, &mut symbology, &mut layout, counts)
+    read_night(
+        input,
+        &mut store,
+        sheet,
+        &mut symbology,
+        &mut layout,
+        counts,
+    )
 }
 
 // Reads pieces until the input ends, a read fails or the night is over.
 fn read_night(
+    input: &mut impl Read,
     store: &mut [u8],
     sheet: &[u16; 520],
     symbology: &mut [u32],
@@ -82,20 +107,19 @@ fn read_night(
     counts: &mut [u64; 260],
 ) -> Turn {
     let mut held = 0;
-    let mut pieces = MOST_PIECES;
-    while pieces > 0 {
-        let turn = read_some(held, store, sheet, symbology, layout, counts);
+    for _ in 0..MOST_PIECES {
+        let turn = read_some(input, held, store, sheet, symbology, layout, counts);
         match turn {
             Turn::Held(n) => held = n,
             _ => return turn,
         }
-        pieces -= 1;
     }
     Turn::Over(held)
 }
 
 // Reads once, at most 4,096 bytes, and counts what the piece completes.
 fn read_some(
+    input: &mut impl Read,
     held: usize,
     store: &mut [u8],
     sheet: &[u16; 520],
@@ -103,12 +127,11 @@ fn read_some(
     layout: &mut [u32],
     counts: &mut [u64; 260],
 ) -> Turn {
-    let mut piece = io::buffer();
-    let got = libc::read(STDIN_FILENO, &mut piece);
-    if got < 0 {
-        return Turn::Failed;
-    }
-    let n = io::count(got, &piece);
+    let mut piece = [0u8; 4096];
+    let n = match input.read(&mut piece) {
+        Ok(n) => n,
+        Err(why) => return Turn::Failed(why),
+    };
     if n == 0 {
         return Turn::Over(held);
     }

@@ -1,13 +1,14 @@
 // What is told besides the report: the help, and on standard error what cannot be done.
-use libc::STDOUT_FILENO;
+use std::env::Env;
+use std::io;
+use std::io::Write;
 
 // What the program is called.
 pub(crate) const NAME: [u8; 7] = *b"morning";
 
-// How the program is called. Answers whether it was written.
-pub(crate) fn help() -> bool {
-    io::write_all(
-        STDOUT_FILENO,
+// How the program is called.
+pub(crate) fn help(out: &mut impl Write) -> io::Result<()> {
+    out.write_all(
         b"\
 morning [--sheet FILE]
 
@@ -27,19 +28,25 @@ be used, or a report that cannot be written. scripts/morning ends with it; the p
     )
 }
 
-// The status, if the last bytes were written; else it says why not.
-pub(crate) fn ended(is_written: bool) -> u64 {
-    command_line::ended(&NAME, is_written, 0)
+// The status, which is 0 where all was written; else it is 2, and why is said.
+pub(crate) fn ended(err: &mut impl Write, written: io::Result<()>) -> u64 {
+    let status = match written {
+        Ok(()) => Ok(0),
+        Err(why) => Err(why),
+    };
+    command_line::ended(err, &NAME, status)
 }
 
-// Says on standard error why standard input cannot be read.
-pub(crate) fn unread() {
-    command_line::failed(&NAME, b"standard input");
+// Says on standard error why standard input cannot be read. What standard error does not take is lost, here and below.
+pub(crate) fn unread(err: &mut impl Write, why: io::Error) {
+    let _ = command_line::failed(err, &NAME, b"standard input", why);
 }
 
 // Says on standard error what is wrong with an argument.
-pub(crate) fn wrong_argument(fault: u64, at: usize) {
-    command_line::say_wrong_argument(
+pub(crate) fn wrong_argument(rt: &impl Env, err: &mut impl Write, fault: u64, at: usize) {
+    let _ = command_line::say_wrong_argument(
+        rt,
+        err,
         &NAME,
         at,
         b"

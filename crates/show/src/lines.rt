@@ -2,7 +2,8 @@
 use crate::{print, time};
 use block::Optional;
 use command_line::words;
-use libc::STDOUT_FILENO;
+use std::io;
+use std::io::Write;
 
 // The labels' numbers.
 pub(crate) const VERSION: u64 = 0;
@@ -49,15 +50,15 @@ pub(crate) const SYMBOLOGY_NEEDED: u64 = 31;
 
 pub(crate) const LAYOUT_NEEDED: u64 = 32;
 
-// A line whose value is there. Answers whether it was written.
-pub(crate) fn value(label: u64, x: u64) -> bool {
-    optional(label, Optional::Present(x))
+// A line whose value is there.
+pub(crate) fn value(out: &mut impl Write, label: u64, x: u64) -> io::Result<()> {
+    optional(out, label, Optional::Present(x))
 }
 
-// A line whose value may be absent. Answers whether it was written.
-pub(crate) fn optional(label: u64, o: Optional) -> bool {
+// A line whose value may be absent.
+pub(crate) fn optional(out: &mut impl Write, label: u64, o: Optional) -> io::Result<()> {
     words::say(
-        STDOUT_FILENO,
+        out,
         b"
 00version:\x20
 01schema:\x20
@@ -82,50 +83,50 @@ pub(crate) fn optional(label: u64, o: Optional) -> bool {
 32layout rows needed:\x20
 ",
         label,
-    );
+    )?;
     match o {
-        Optional::Absent => print::none(),
-        Optional::Present(x) => present(label, x),
+        Optional::Absent => print::none(out)?,
+        Optional::Present(x) => present(out, label, x)?,
     }
-    print::end()
+    print::end(out)
 }
 
 // A value, as its label wants it.
-fn present(label: u64, x: u64) {
+fn present(out: &mut impl Write, label: u64, x: u64) -> io::Result<()> {
     match label {
-        SCHEMA | RECORD_SCHEMA => schema(x),
-        START | END => time::show(x),
-        STYPE_IN | STYPE_OUT => stype(x),
-        TS_OUT => words::say(STDOUT_FILENO, b"\n00no\n01yes", x),
-        TYPE_SHEET => type_sheet(x),
-        USUAL_WIDTH => usual_width(x),
-        _ => print::number(x),
+        SCHEMA | RECORD_SCHEMA => schema(out, x),
+        START | END => time::show(out, x),
+        STYPE_IN | STYPE_OUT => stype(out, x),
+        TS_OUT => words::say(out, b"\n00no\n01yes", x),
+        TYPE_SHEET => type_sheet(out, x),
+        USUAL_WIDTH => usual_width(out, x),
+        _ => print::number(out, x),
     }
 }
 
 // Which type sheet a layout was judged with.
-fn type_sheet(is_made: u64) {
+fn type_sheet(out: &mut impl Write, is_made: u64) -> io::Result<()> {
     words::say(
-        STDOUT_FILENO,
+        out,
         b"
 00the given one
 01a made one, not Databento's; --sheet FILE gives another
 ",
         is_made,
-    );
+    )
 }
 
 // The symbol width that a layout was judged with where none was given.
-fn usual_width(x: u64) {
-    print::number(x);
-    print::text(b"; --width N gives another");
+fn usual_width(out: &mut impl Write, x: u64) -> io::Result<()> {
+    print::number(out, x)?;
+    print::text(out, b"; --width N gives another")
 }
 
 // A schema's code and, where the public description has one, its name.
-fn schema(code: u64) {
-    print::number(code);
+fn schema(out: &mut impl Write, code: u64) -> io::Result<()> {
+    print::number(out, code)?;
     words::say(
-        STDOUT_FILENO,
+        out,
         b"
 00 (mbo)
 01 (mbp-1)
@@ -149,14 +150,14 @@ fn schema(code: u64) {
 19 (bbo-1m)
 ",
         code,
-    );
+    )
 }
 
 // A symbol type's code and, where the public description has one, its name.
-fn stype(code: u64) {
-    print::number(code);
+fn stype(out: &mut impl Write, code: u64) -> io::Result<()> {
+    print::number(out, code)?;
     words::say(
-        STDOUT_FILENO,
+        out,
         b"
 00 (instrument_id)
 01 (raw_symbol)
@@ -173,5 +174,5 @@ fn stype(code: u64) {
 12 (figi_ticker)
 ",
         code,
-    );
+    )
 }

@@ -21,82 +21,111 @@ ghost use Rattle.std.specs.Prelude.{length, ◌≡◌};
 
 use block::Fields;
 use feed::{Answer, State};
-use libc::STDIN_FILENO;
 use options::Options;
 use refusal::Refusal;
+use std::env::Env;
+use std::io;
+use std::io::{Read, Write};
+use std::rt::Files;
 
 // What came of a turn of reading: a read that failed, so many bytes held, or an answer on so many.
 #[derive(Clone, Copy)]
 enum Turn {
-    Failed,
+    Failed(io::Error),
     Held(usize),
     Answered { held: usize, answer: Answer },
 }
 
-fn main() {
-    let asked = options::read();
+fn main(rt: HostRuntime) {
+    let asked = options::read(&rt);
     let common = asked.common;
-    command_line::end(common, run(asked));
+    let status = run(&rt, &mut io::writer(&rt), &mut rt.stderr(), asked);
+    command_line::end(&rt, common, status);
 }
 
 // Does what is asked, and answers the status.
-fn run(asked: Options) -> u64 {
+fn run<R: Env + Files + Input>(
+    rt: &R,
+    out: &mut impl Write,
+    err: &mut impl Write,
+    asked: Options,
+) -> u64 {
     let common = asked.common;
     if common.fault != 0 {
-        tell::wrong_argument(common.fault, common.at);
+        tell::wrong_argument(rt, err, common.fault, common.at);
         return 2;
     }
     if common.help {
-        return tell::ended(tell::help(), 0);
+        return tell::ended(err, tell::help(out));
     }
     let mut sheet = type_sheet::made();
-    if command_line::load_sheet(&tell::NAME, common, &mut sheet) {
-        return show_file(asked, &sheet);
+    if command_line::load_sheet(rt, err, &tell::NAME, common, &mut sheet) {
+        return show_file(rt, out, err, asked, &sheet);
     }
     2
 }
 
 // Shows the file that is asked for, or standard input where no argument names one.
-fn show_file(asked: Options, sheet: &[u16; 520]) -> u64 {
+fn show_file<R: Env + Files + Input>(
+    rt: &R,
+    out: &mut impl Write,
+    err: &mut impl Write,
+    asked: Options,
+    sheet: &[u16; 520],
+) -> u64 {
     if asked.file == 0 {
-        return show_open(STDIN_FILENO, b"standard input", asked, sheet);
+        return show_open(&mut rt.reader(), out, err, b"standard input", asked, sheet);
     }
-    let mut path = io::buffer();
-    let n = os::arg(asked.file, &mut path);
-    let fd = os::open_read(&path[..n]);
-    if fd < 0 {
-        tell::failed(&path[..n]);
-        return 2;
+    let mut path = [0u8; 4096];
+    let n = command_line::argument(rt, asked.file, &mut path);
+    match reading::open(rt, &path[..n]) {
+        Ok(mut file) => show_open(&mut file, out, err, &path[..n], asked, sheet),
+        Err(why) => {
+            tell::failed(err, &path[..n], why);
+            2
+        }
     }
-    show_open(fd, &path[..n], asked, sheet)
 }
 
 // Shows an open file: a layout where it is asked whether that is tidy, else a stream.
-fn show_open(fd: i32, name: &[u8], asked: Options, sheet: &[u16; 520]) -> u64 {
+fn show_open(
+    input: &mut impl Read,
+    out: &mut impl Write,
+    err: &mut impl Write,
+    name: &[u8],
+    asked: Options,
+    sheet: &[u16; 520],
+) -> u64 {
     if asked.tidy {
-        return tidiness::show(fd, name, asked, sheet);
+        return tidiness::show(input, out, err, name, asked, sheet);
     }
     let common = asked.common;
-    show_stream(fd, name, sheet, common.sheet == 0)
+    show_stream(input, out, err, name, sheet, common.sheet == 0)
 }
 
 // Shows the stream of an open file.
-fn show_stream(fd: i32, name: &[u8], sheet: &[u16; 520], is_made: bool) -> u64 {
+fn show_stream(
+    input: &mut impl Read,
+    out: &mut impl Write,
+    err: &mut impl Write,
+    name: &[u8],
+    sheet: &[u16; 520],
+    is_made: bool,
+) -> u64 {
     let mut store = store::space();
     let mut symbology = symbology_table();
     let mut layout = layout_table();
-    let seen = read_start(fd, &mut store, sheet, &mut symbology, &mut layout);
-    if let Turn::Answered { held, answer } = seen {
-        return report(
-            answer,
-            command_line::front(&store, held),
-            &symbology,
-            &layout,
-            is_made,
-        );
+    match read_start(input, &mut store, sheet, &mut symbology, &mut layout) {
+        Turn::Failed(why) => {
+            tell::failed(err, name, why);
+            2
+        }
+        Turn::Held(_) => 2,
+        Turn::Answered { held, answer } => {
+            let held = command_line::front(&store, held);
+            tell::ended(err, report(out, answer, held, &symbology, &layout, is_made))
+        }
     }
-    tell::failed(name);
-    2
 }
 
 // A table of 16,384 rows of six, by column.
@@ -115,21 +144,19 @@ fn layout_table() -> [u32; 147456]
 
 // Feeds a file to the store until the answer is done or a refusal, the file ends or a read fails.
 fn read_start(
-    fd: i32,
+    input: &mut impl Read,
     store: &mut [u8],
     sheet: &[u16; 520],
     symbology: &mut [u32],
     layout: &mut [u32],
 ) -> Turn {
     let mut held = 0;
-    let mut turns = store.len();
-    while turns > 0 {
-        let turn = feed_some(fd, held, store, sheet, symbology, layout);
+    for _ in 0..store.len() {
+        let turn = feed_some(input, held, store, sheet, symbology, layout);
         match turn {
             Turn::Held(n) => held = n,
             _ => return turn,
         }
-        turns -= 1;
     }
     Turn::Answered {
         held,
@@ -139,19 +166,18 @@ fn read_start(
 
 // Reads once, at most 4,096 bytes, and feeds what came. Where nothing did, the answer is the last.
 fn feed_some(
-    fd: i32,
+    input: &mut impl Read,
     held: usize,
     store: &mut [u8],
     sheet: &[u16; 520],
     symbology: &mut [u32],
     layout: &mut [u32],
 ) -> Turn {
-    let mut piece = io::buffer();
-    let got = libc::read(fd, &mut piece);
-    if got < 0 {
-        return Turn::Failed;
-    }
-    let n = io::count(got, &piece);
+    let mut piece = [0u8; 4096];
+    let n = match input.read(&mut piece) {
+        Ok(n) => n,
+        Err(why) => return Turn::Failed(why),
+    };
     let start = State { held };
     let fed = feed::feed(start, store, &piece[..n], sheet, symbology, layout);
     let state = fed.state;
@@ -170,22 +196,37 @@ fn turn_of(taken: usize, held: usize, answer: Answer) -> Turn {
 }
 
 // Writes what the answer on the held bytes says, and answers the status.
-fn report(a: Answer, held: &[u8], symbology: &[u32], layout: &[u32], is_made: bool) -> u64 {
+fn report(
+    out: &mut impl Write,
+    a: Answer,
+    held: &[u8],
+    symbology: &[u32],
+    layout: &[u32],
+    is_made: bool,
+) -> io::Result<u64> {
     match a {
         Answer::Done(f) => {
-            accepted(f, held, symbology, layout, is_made);
-            print::text(b"accepted");
-            tell::ended(print::end(), 0)
+            accepted(out, f, held, symbology, layout, is_made)?;
+            print::text(out, b"accepted")?;
+            print::end(out)?;
+            Ok(0)
         }
-        Answer::Needs(n) => tell::ended(lines::value(lines::BYTES_NEEDED, n as u64), 1),
-        Answer::Refused(why) => tell::ended(refusals::show(why, held, is_made), 1),
+        Answer::Needs(n) => {
+            lines::value(out, lines::BYTES_NEEDED, n as u64)?;
+            Ok(1)
+        }
+        Answer::Refused(why) => {
+            refusals::show(out, why, held, is_made)?;
+            Ok(1)
+        }
         Answer::Short {
             symbology: s,
             layout: l,
         } => {
-            refusals::show(table_short(), held, is_made);
-            lines::value(lines::SYMBOLOGY_NEEDED, s as u64);
-            tell::ended(lines::value(lines::LAYOUT_NEEDED, l as u64), 1)
+            refusals::show(out, table_short(), held, is_made)?;
+            lines::value(out, lines::SYMBOLOGY_NEEDED, s as u64)?;
+            lines::value(out, lines::LAYOUT_NEEDED, l as u64)?;
+            Ok(1)
         }
     }
 }
@@ -198,13 +239,20 @@ fn table_short() -> Refusal {
 }
 
 // The fields of an accepted block, which stands in the held bytes after the prelude, and its rows.
-fn accepted(f: Fields, held: &[u8], symbology: &[u32], layout: &[u32], is_made: bool) {
+fn accepted(
+    out: &mut impl Write,
+    f: Fields,
+    held: &[u8],
+    symbology: &[u32],
+    layout: &[u32],
+    is_made: bool,
+) -> io::Result<()> {
     if held.len() < 8 {
-        return;
+        return Ok(());
     }
     let version = held[3];
     let block = &held[8..];
-    fields::show(f, version, block, is_made);
-    symbols::show(block, symbology, f.symbology_rows);
-    records::show(block, layout, f.layout_rows);
+    fields::show(out, f, version, block, is_made)?;
+    symbols::show(out, block, symbology, f.symbology_rows)?;
+    records::show(out, block, layout, f.layout_rows)
 }

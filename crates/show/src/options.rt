@@ -1,6 +1,7 @@
 // What the arguments ask for.
 use crate::width;
 use command_line::Asked;
+use std::env::Env;
 
 // What an argument is.
 const NAME: u64 = 0;
@@ -35,14 +36,11 @@ pub(crate) struct Options {
 }
 
 // Reads all arguments. Of several faults the last is kept.
-pub(crate) fn read() -> Options {
-    let n = os::arg_count();
+pub(crate) fn read(rt: &impl Env) -> Options {
+    let n = command_line::argument_count(rt);
     let mut o = none();
-    let mut i = 1;
-    while i < n {
-        let next = i + 1;
-        o = taken(o, i, next);
-        i = next;
+    for i in 1..n {
+        o = taken(rt, o, i, i + 1);
     }
     complete(o, n)
 }
@@ -91,19 +89,19 @@ fn wrong(o: Options, fault: u64, i: usize) -> Options {
 }
 
 // The options with argument i among them. The word after --sheet is the name of a sheet and that after --width a width, whatever it is.
-fn taken(o: Options, i: usize, next: usize) -> Options {
+fn taken(rt: &impl Env, o: Options, i: usize, next: usize) -> Options {
     let mut o = o;
     let common = o.common;
     if common.sheet == i {
         return o;
     }
     if o.width_at == i {
-        return with_width(o, i, width::at(i));
+        return with_width(o, i, width::at(rt, i));
     }
-    match kind_at(i) {
+    match kind_at(rt, i) {
         TIDY => o.tidy = true,
         WIDTH => o.width_at = next,
-        OTHER => return with_common(o, command_line::taken(common, i, next)),
+        OTHER => return with_common(o, command_line::taken(rt, common, i, next)),
         kind => return with_file(o, i, kind),
     }
     o
@@ -133,9 +131,9 @@ fn with_file(o: Options, i: usize, kind: u64) -> Options {
 }
 
 // What argument i is. One that is longer than a path may be is taken for a name.
-fn kind_at(i: usize) -> u64 {
-    let mut word = io::buffer();
-    let n = os::arg(i, &mut word);
+fn kind_at(rt: &impl Env, i: usize) -> u64 {
+    let mut word = [0u8; 4096];
+    let n = command_line::argument(rt, i, &mut word);
     kind_of(&word[..n])
 }
 
@@ -150,10 +148,10 @@ fn kind_of(word: &[u8]) -> u64 {
     if word.len() == 1 {
         return DASH;
     }
-    if check::same(word, b"--tidy") {
+    if word == b"--tidy".as_slice() {
         return TIDY;
     }
-    if check::same(word, b"--width") {
+    if word == b"--width".as_slice() {
         return WIDTH;
     }
     OTHER

@@ -1,32 +1,33 @@
 // What the report is written with.
 use command_line::escape;
-use libc::STDOUT_FILENO;
+use std::io;
+use std::io::Write;
 
-pub(crate) fn text(s: &[u8]) {
-    io::write_all(STDOUT_FILENO, s);
+pub(crate) fn text(out: &mut impl Write, s: &[u8]) -> io::Result<()> {
+    out.write_all(s)
 }
 
-pub(crate) fn number(n: u64) {
-    io::print_decimal(STDOUT_FILENO, n);
+pub(crate) fn number(out: &mut impl Write, n: u64) -> io::Result<()> {
+    write!(out, "{n}")
 }
 
-pub(crate) fn none() {
-    text(b"none");
+pub(crate) fn none(out: &mut impl Write) -> io::Result<()> {
+    text(out, b"none")
 }
 
-// The line's end. Answers whether it was written.
-pub(crate) fn end() -> bool {
-    io::write_all(STDOUT_FILENO, b"\n")
+// The line's end.
+pub(crate) fn end(out: &mut impl Write) -> io::Result<()> {
+    out.write_all(b"\n")
 }
 
 // A text of the stream and the line's end.
-pub(crate) fn name(s: &[u8]) {
-    escape::escaped(STDOUT_FILENO, s);
-    end();
+pub(crate) fn name(out: &mut impl Write, s: &[u8]) -> io::Result<()> {
+    escape::escaped(out, s)?;
+    end(out)
 }
 
 // The date of day n as yyyy-mm-dd.
-pub(crate) fn date(n: u32) {
+pub(crate) fn date(out: &mut impl Write, n: u32) -> io::Result<()> {
     let s = iso::day_text(n);
-    text(&s);
+    text(out, &s)
 }

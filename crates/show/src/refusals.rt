@@ -2,8 +2,9 @@
 // those of frames.
 use crate::{lines, place, print};
 use command_line::words;
-use libc::STDOUT_FILENO;
 use refusal::Refusal;
+use std::io;
+use std::io::Write;
 
 // The least number of a symbology's contents.
 const FIRST_OF_SYMBOLOGIES: u32 = 30;
@@ -18,54 +19,60 @@ const FIRST_RULE: u32 = 60;
 const FIRST_UNTIDY: u32 = 120;
 
 // The number and its sentence; where it has a place, also that in the held bytes; where a rule on layouts gave it, also which type
-// sheet that was. Answers whether it was written.
-pub(crate) fn show(why: Refusal, held: &[u8], is_made: bool) -> bool {
+// sheet that was.
+pub(crate) fn show(
+    out: &mut impl Write,
+    why: Refusal,
+    held: &[u8],
+    is_made: bool,
+) -> io::Result<()> {
     let n = why.number;
-    let is_written = numbered(n);
+    numbered(out, n)?;
     if refusal::has_place(n) {
-        return place::show(n, why.place, held);
+        return place::show(out, n, why.place, held);
     }
     if n < FIRST_RULE {
-        return is_written;
+        return Ok(());
     }
-    lines::value(lines::TYPE_SHEET, is_made as u64)
+    lines::value(out, lines::TYPE_SHEET, is_made as u64)
 }
 
 // The number and its sentence; where it has a place, also that in the layout, which was given by itself.
-pub(crate) fn of_layout(why: Refusal, layout: &[u8]) {
+pub(crate) fn of_layout(out: &mut impl Write, why: Refusal, layout: &[u8]) -> io::Result<()> {
     let n = why.number;
-    numbered(n);
+    numbered(out, n)?;
     if refusal::has_place(n) {
-        place::within(layout, b"layout", why.place);
+        place::within(out, layout, b"layout", why.place)?;
     }
+    Ok(())
 }
 
-// A line with a number and its sentence. Answers whether it was written.
-fn numbered(n: u32) -> bool {
-    print::text(b"refused ");
-    print::number(n as u64);
-    sentence(n);
-    print::end()
+// A line with a number and its sentence.
+fn numbered(out: &mut impl Write, n: u32) -> io::Result<()> {
+    print::text(out, b"refused ")?;
+    print::number(out, n as u64)?;
+    sentence(out, n)?;
+    print::end(out)
 }
 
 // The sentence of a number.
-fn sentence(n: u32) {
+fn sentence(out: &mut impl Write, n: u32) -> io::Result<()> {
     if n < FIRST_OF_SYMBOLOGIES {
-        return of_blocks(n);
+        return of_blocks(out, n);
     }
     if n < FIRST_OF_LAYOUTS {
-        return of_symbologies(n);
+        return of_symbologies(out, n);
     }
     if n < FIRST_UNTIDY {
-        return of_layouts(n);
+        return of_layouts(out, n);
     }
-    of_untidy(n);
+    of_untidy(out, n)
 }
 
 // Of the numbers that a stream gives, and a block but for the contents of its symbology and layout.
-fn of_blocks(n: u32) {
+fn of_blocks(out: &mut impl Write, n: u32) -> io::Result<()> {
     words::say(
-        STDOUT_FILENO,
+        out,
         b"
 01: The held count is beyond the store or the block.
 02: The block is larger than the store of 1,048,576 bytes.
@@ -86,13 +93,13 @@ fn of_blocks(n: u32) {
 29: The dataset has more than NULs after a NUL.
 ",
         n as u64,
-    );
+    )
 }
 
 // Of the numbers that a symbology's contents give, and the two of bytes past the block's end.
-fn of_symbologies(n: u32) {
+fn of_symbologies(out: &mut impl Write, n: u32) -> io::Result<()> {
     words::say(
-        STDOUT_FILENO,
+        out,
         b"
 30: A symbol list has no count.
 31: A symbol list's count is too large.
@@ -112,13 +119,13 @@ fn of_symbologies(n: u32) {
 45: The symbology goes past the end of the block.
 ",
         n as u64,
-    );
+    )
 }
 
 // Of the numbers that a layout and its rules give.
-fn of_layouts(n: u32) {
+fn of_layouts(out: &mut impl Write, n: u32) -> io::Result<()> {
     words::say(
-        STDOUT_FILENO,
+        out,
         b"
 50: The layout is cut short.
 51: A section's length is below 2.
@@ -146,13 +153,13 @@ fn of_layouts(n: u32) {
 83: The extension fields leave a gap or overlap.
 ",
         n as u64,
-    );
+    )
 }
 
 // Of the numbers of what is untidy, 120 to 123, each by its last two digits.
-fn of_untidy(n: u32) {
+fn of_untidy(out: &mut impl Write, n: u32) -> io::Result<()> {
     words::say(
-        STDOUT_FILENO,
+        out,
         b"
 20: Bytes are left over in a section.
 21: A label's code is not above the one before it.
@@ -160,5 +167,5 @@ fn of_untidy(n: u32) {
 23: Bytes are left over after the label defs.
 ",
         (n % 100) as u64,
-    );
+    )
 }

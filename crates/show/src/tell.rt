@@ -1,13 +1,14 @@
 // What is told besides the report: the help, and on standard error what cannot be done.
-use libc::STDOUT_FILENO;
+use std::env::Env;
+use std::io;
+use std::io::Write;
 
 // What the program is called.
 pub(crate) const NAME: [u8; 4] = *b"show";
 
-// How the program is called. Answers whether it was written.
-pub(crate) fn help() -> bool {
-    io::write_all(
-        STDOUT_FILENO,
+// How the program is called. The status is then 0.
+pub(crate) fn help(out: &mut impl Write) -> io::Result<u64> {
+    out.write_all(
         b"\
 show [--sheet FILE] [FILE]
 show [--sheet FILE] [--width N] --tidy [FILE]
@@ -29,22 +30,24 @@ ASCII \\xNN. A refusal from reading, and what is untidy, also tells its place, c
 block after it or from the layout, and the bytes around it in hexadecimal: that byte is in brackets, which are empty where
 the bytes end there.
 ",
-    )
+    )?;
+    Ok(0)
 }
 
-// The status, if the report's last bytes were written; else it says why not.
-pub(crate) fn ended(is_written: bool, status: u64) -> u64 {
-    command_line::ended(&NAME, is_written, status)
+// The status that goes with what was written; where that failed it is 2, and why is said.
+pub(crate) fn ended(err: &mut impl Write, written: io::Result<u64>) -> u64 {
+    command_line::ended(err, &NAME, written)
 }
 
-// Says on standard error why the last call on the named thing failed.
-pub(crate) fn failed(name: &[u8]) {
-    command_line::failed(&NAME, name);
+// Says on standard error why a call on the named thing failed. What standard error does not take is lost, here and below.
+pub(crate) fn failed(err: &mut impl Write, name: &[u8], why: io::Error) {
+    let _ = command_line::failed(err, &NAME, name, why);
 }
 
 // Says on standard error that a layout is too long.
-pub(crate) fn too_long(name: &[u8]) {
-    command_line::say_wrong(
+pub(crate) fn too_long(err: &mut impl Write, name: &[u8]) {
+    let _ = command_line::say_wrong(
+        err,
         &NAME,
         name,
         b"\n00: more than 1,048,576 bytes, show takes no longer layout",
@@ -53,8 +56,10 @@ pub(crate) fn too_long(name: &[u8]) {
 }
 
 // Says on standard error what is wrong with an argument.
-pub(crate) fn wrong_argument(fault: u64, at: usize) {
-    command_line::say_wrong_argument(
+pub(crate) fn wrong_argument(rt: &impl Env, err: &mut impl Write, fault: u64, at: usize) {
+    let _ = command_line::say_wrong_argument(
+        rt,
+        err,
         &NAME,
         at,
         b"

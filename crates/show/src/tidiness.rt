@@ -2,49 +2,66 @@
 use crate::options::Options;
 use crate::store::Taken;
 use crate::{lines, print, refusals, store, tell};
+use std::io;
+use std::io::{Read, Write};
 use tidy::Tidy;
 
 // Shows whether the layout of an open file is tidy, and answers the status.
-pub(crate) fn show(fd: i32, name: &[u8], asked: Options, sheet: &[u16; 520]) -> u64 {
+pub(crate) fn show(
+    input: &mut impl Read,
+    out: &mut impl Write,
+    err: &mut impl Write,
+    name: &[u8],
+    asked: Options,
+    sheet: &[u16; 520],
+) -> u64 {
     let mut store = store::space();
-    match store::take_all(fd, &mut store) {
-        Taken::Whole(n) => report(command_line::front(&store, n), asked, sheet),
-        Taken::Failed => {
-            tell::failed(name);
+    match store::take_all(input, &mut store) {
+        Taken::Whole(n) => tell::ended(
+            err,
+            report(out, command_line::front(&store, n), asked, sheet),
+        ),
+        Taken::Failed(why) => {
+            tell::failed(err, name, why);
             2
         }
         _ => {
-            tell::too_long(name);
+            tell::too_long(err, name);
             2
         }
     }
 }
 
 // Writes whether a layout is tidy, else the refusal, and then what it was judged with. Answers the status.
-fn report(layout: &[u8], asked: Options, sheet: &[u16; 520]) -> u64 {
-    let status = verdict(layout, asked.width, sheet);
+fn report(
+    out: &mut impl Write,
+    layout: &[u8],
+    asked: Options,
+    sheet: &[u16; 520],
+) -> io::Result<u64> {
+    let status = verdict(out, layout, asked.width, sheet)?;
     let label = if asked.width_at == 0 {
         lines::USUAL_WIDTH
     } else {
         lines::SYMBOL_WIDTH
     };
-    lines::value(label, asked.width as u64);
+    lines::value(out, label, asked.width as u64)?;
     let common = asked.common;
     let is_made = common.sheet == 0;
-    let is_written = lines::value(lines::TYPE_SHEET, is_made as u64);
-    tell::ended(is_written, status)
+    lines::value(out, lines::TYPE_SHEET, is_made as u64)?;
+    Ok(status)
 }
 
 // A line that says that a layout is tidy, or the refusal. Answers the status.
-fn verdict(layout: &[u8], width: u16, sheet: &[u16; 520]) -> u64 {
+fn verdict(out: &mut impl Write, layout: &[u8], width: u16, sheet: &[u16; 520]) -> io::Result<u64> {
     match tidy::check_tidy(layout, width, sheet) {
         Tidy::Yes => {
-            print::text(b"tidy\n");
-            0
+            print::text(out, b"tidy\n")?;
+            Ok(0)
         }
         Tidy::Refused(why) => {
-            refusals::of_layout(why, layout);
-            1
+            refusals::of_layout(out, why, layout)?;
+            Ok(1)
         }
     }
 }

@@ -1,6 +1,8 @@
 // The symbol width that a layout is judged with.
 ghost use Rattle.std.specs.Prelude.{◌≤◌};
 
+use std::env::Env;
+
 // The width of versions 2 to 4, as the crate dbn writes them.
 pub(crate) const USUAL: u16 = 71;
 
@@ -8,9 +10,9 @@ pub(crate) const USUAL: u16 = 71;
 pub(crate) const NONE: usize = 65536;
 
 // The width that argument i says in decimal digits, or NONE.
-pub(crate) fn at(i: usize) -> usize {
-    let mut word = io::buffer();
-    let n = os::arg(i, &mut word);
+pub(crate) fn at(rt: &impl Env, i: usize) -> usize {
+    let mut word = [0u8; 4096];
+    let n = command_line::argument(rt, i, &mut word);
     of(&word[..n])
 }
 
@@ -22,10 +24,8 @@ fn of(word: &[u8]) -> usize
         return NONE;
     }
     let mut n = 0;
-    let mut i = 0;
-    while i < word.len() {
-        n = with_digit(n, word[i]);
-        i += 1;
+    for digit in word {
+        n = with_digit(n, *digit);
     }
     n
 }

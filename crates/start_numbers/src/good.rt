@@ -1,5 +1,7 @@
 // A start that every version writes, and the changes that make others of it.
 use crate::run;
+use std::io;
+use std::io::Write;
 
 // What a change is made to: nothing, a field, a cell of the symbology columns, a number of the layout rows, a byte of the text, or one of
 // three sizes: the symbology rows, the layout's numbers, the bytes of output.
@@ -122,7 +124,14 @@ fn good_sizes(version: u8) -> [usize; 3] {
 }
 
 // Writes the good start of a version with three changes, and says under these words what came of it.
-pub(crate) fn start(words: &[u8], version: u8, a: Change, b: Change, c: Change) {
+pub(crate) fn start(
+    out: &mut impl Write,
+    words: &[u8],
+    version: u8,
+    a: Change,
+    b: Change,
+    c: Change,
+) -> io::Result<()> {
     let mut fields = good_fields(version);
     let mut sizes = good_sizes(version);
     let mut table = TABLE;
@@ -130,6 +139,7 @@ pub(crate) fn start(words: &[u8], version: u8, a: Change, b: Change, c: Change) 
     let mut text = good_text();
     let sheet = [0u16; 520];
     changed(
+        out,
         words,
         version,
         a,
@@ -141,24 +151,26 @@ pub(crate) fn start(words: &[u8], version: u8, a: Change, b: Change, c: Change) 
         &mut rows,
         &mut text,
         &sheet,
-    );
+    )
 }
 
 // The same in version 4 with these layout rows and this type sheet.
 pub(crate) fn ruled(
+    out: &mut impl Write,
     words: &[u8],
     rows: &mut [u32],
     sheet: &[u16; 520],
     a: Change,
     b: Change,
     c: Change,
-) {
+) -> io::Result<()> {
     let mut fields = good_fields(4);
     let mut sizes = good_sizes(4);
     sizes[1] = rows.len();
     let mut table = TABLE;
     let mut text = good_text();
     changed(
+        out,
         words,
         4,
         a,
@@ -170,11 +182,12 @@ pub(crate) fn ruled(
         rows,
         &mut text,
         sheet,
-    );
+    )
 }
 
 // A start after two changes, and then a third.
 fn changed(
+    out: &mut impl Write,
     words: &[u8],
     version: u8,
     a: Change,
@@ -186,14 +199,17 @@ fn changed(
     rows: &mut [u32],
     text: &mut [u8],
     sheet: &[u16; 520],
-) {
+) -> io::Result<()> {
     make(a, fields, sizes, table, rows, text);
     make(b, fields, sizes, table, rows, text);
-    finish(words, version, c, fields, sizes, table, rows, text, sheet);
+    finish(
+        out, words, version, c, fields, sizes, table, rows, text, sheet,
+    )
 }
 
 // A start after one change.
 fn finish(
+    out: &mut impl Write,
     words: &[u8],
     version: u8,
     c: Change,
@@ -203,12 +219,12 @@ fn finish(
     rows: &mut [u32],
     text: &mut [u8],
     sheet: &[u16; 520],
-) {
+) -> io::Result<()> {
     make(c, fields, sizes, table, rows, text);
     let rows = front(rows, sizes[1]);
     run::start(
-        words, version, fields, table, sizes[0], rows, text, sizes[2], sheet,
-    );
+        out, words, version, fields, table, sizes[0], rows, text, sizes[2], sheet,
+    )
 }
 
 // One change.

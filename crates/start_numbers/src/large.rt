@@ -2,6 +2,8 @@
 ghost use Rattle.std.specs.Prelude.{◌≡◌, length};
 
 use crate::{good, run};
+use std::io;
+use std::io::Write;
 
 // What a table is filled with.
 const LABEL_DEFS: u8 = 0;
@@ -11,34 +13,36 @@ const LABELS: u8 = 1;
 const LISTED: u8 = 2;
 
 // 91
-pub(crate) fn many_label_defs() {
+pub(crate) fn many_label_defs(out: &mut impl Write) -> io::Result<()> {
     let mut rows = rows_space();
     fill(LABEL_DEFS, &mut rows);
-    layout(b"65536 label defs", &rows);
+    layout(out, b"65536 label defs", &rows)
 }
 
 // 92
-pub(crate) fn long_name() {
+pub(crate) fn long_name(out: &mut impl Write) -> io::Result<()> {
     layout(
+        out,
         b"a layout name of 256 bytes",
         &[14, 0, 256, 0, 0, 0, 0, 0, 0],
-    );
+    )
 }
 
 // 94
-pub(crate) fn long_section() {
+pub(crate) fn long_section(out: &mut impl Write) -> io::Result<()> {
     let mut rows = section_space();
     fill(LABELS, &mut rows);
-    layout(b"254 labels of 255 bytes", &rows);
+    layout(out, b"254 labels of 255 bytes", &rows)
 }
 
 // 13: 65,537 listed symbols of 65,535 NULs are as many bytes as the length holds, and a header stands before them.
-pub(crate) fn long_block() {
+pub(crate) fn long_block(out: &mut impl Write) -> io::Result<()> {
     let mut table = columns_space();
     fill(LISTED, &mut table);
     let mut fields = good::good_fields(2);
     fields[8] = 65535;
     run::start(
+        out,
         b"65537 symbols of width 65535",
         2,
         &fields,
@@ -48,7 +52,7 @@ pub(crate) fn long_block() {
         b"TEST",
         512,
         &[0u16; 520],
-    );
+    )
 }
 
 // Room for 65,536 layout rows.
@@ -73,18 +77,27 @@ fn columns_space() -> [u32; 393222]
 }
 
 // Layout rows with a text of 256 letters, and no symbology rows.
-fn layout(words: &[u8], rows: &[u32]) {
+fn layout(out: &mut impl Write, words: &[u8], rows: &[u32]) -> io::Result<()> {
     let text = [b'a'; 256];
     let fields = good::good_fields(4);
-    run::start(words, 4, &fields, &[], 0, rows, &text, 512, &[0u16; 520]);
+    run::start(
+        out,
+        words,
+        4,
+        &fields,
+        &[],
+        0,
+        rows,
+        &text,
+        512,
+        &[0u16; 520],
+    )
 }
 
 // Puts every number of a table.
 fn fill(with: u8, table: &mut [u32]) {
-    let mut i = 0;
-    while i < table.len() {
+    for i in 0..table.len() {
         table[i] = number(with, i);
-        i += 1;
     }
 }
 

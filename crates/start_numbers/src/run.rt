@@ -1,11 +1,13 @@
 // A start handed to the writer, and the line that says what came of it.
 ghost use Rattle.std.specs.Prelude.{◌≤◌};
 
-use libc::STDOUT_FILENO;
+use std::io;
+use std::io::Write;
 use writer::Written;
 
 // Says the words, and what the writer answers where the output has so many bytes, 512 at the most.
 pub(crate) fn start(
+    out: &mut impl Write,
     words: &[u8],
     version: u8,
     fields: &[u64; 16],
@@ -15,12 +17,13 @@ pub(crate) fn start(
     text: &[u8],
     room: usize,
     sheet: &[u16; 520],
-) {
-    let mut out = [7u8; 512];
+) -> io::Result<()> {
+    let mut block = [7u8; 512];
     let n = at_most(room, 512);
-    say(words);
-    say(b": ");
+    say(out, words)?;
+    say(out, b": ")?;
     answer(
+        out,
         version,
         fields,
         table,
@@ -28,9 +31,9 @@ pub(crate) fn start(
         rows,
         text,
         sheet,
-        &mut out[0..n],
-    );
-    say(b"\n");
+        &mut block[0..n],
+    )?;
+    say(out, b"\n")
 }
 
 // n, or what is allowed at the most.
@@ -42,6 +45,7 @@ fn at_most(n: usize, most: usize) -> usize
 
 // The number, or the length and the bytes.
 fn answer(
+    out: &mut impl Write,
     version: u8,
     fields: &[u64; 16],
     table: &[u32],
@@ -49,15 +53,15 @@ fn answer(
     rows: &[u32],
     text: &[u8],
     sheet: &[u16; 520],
-    out: &mut [u8],
-) {
-    match block_writer::write_block(version, fields, table, count, rows, text, sheet, out) {
+    block: &mut [u8],
+) -> io::Result<()> {
+    match block_writer::write_block(version, fields, table, count, rows, text, sheet, block) {
         Written::Length(len) => {
-            say_number(len as u64);
-            say(b" bytes ");
-            hex(front(out, len));
+            say_number(out, len as u64)?;
+            say(out, b" bytes ")?;
+            hex(out, front(block, len))
         }
-        Written::Refused(why) => say_number(why.number as u64),
+        Written::Refused(why) => say_number(out, why.number as u64),
     }
 }
 
@@ -69,21 +73,20 @@ fn front(s: &[u8], n: usize) -> &[u8] {
     &s[0..n]
 }
 
-fn say(s: &[u8]) {
-    io::write_all(STDOUT_FILENO, s);
+fn say(out: &mut impl Write, s: &[u8]) -> io::Result<()> {
+    out.write_all(s)
 }
 
-fn say_number(n: u64) {
-    io::print_decimal(STDOUT_FILENO, n);
+fn say_number(out: &mut impl Write, n: u64) -> io::Result<()> {
+    write!(out, "{n}")
 }
 
 // Bytes in hexadecimal.
-fn hex(s: &[u8]) {
-    let mut i = 0;
-    while i < s.len() {
-        io::print_hex(STDOUT_FILENO, byte(s[i]), 2);
-        i += 1;
+fn hex(out: &mut impl Write, s: &[u8]) -> io::Result<()> {
+    for x in s {
+        write!(out, "{:02x}", byte(*x))?;
     }
+    Ok(())
 }
 
 fn byte(x: u8) -> u64 {

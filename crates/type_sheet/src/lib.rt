@@ -1,16 +1,17 @@
 // The type sheet that layouts are judged with: a made one, or one's own from a file.
 #![tactic(auto)]
 
-ghost use Rattle.std.specs.Prelude.{◌≤◌};
+use std::io;
+use std::rt::Files;
 
 // A file of a type sheet: 520 numbers of two bytes.
 const SHEET_LEN: usize = 1040;
 
-// What came of a file: a sheet was read; it could not be opened, and errno says why; or what could be read from it is not 1,040 bytes.
+// What came of a file: a sheet was read; it could not be opened, and the error says why; or what could be read from it is not 1,040 bytes.
 #[derive(Clone, Copy)]
 pub enum Loaded {
     Read,
-    Unopened,
+    Unopened(io::Error),
     Unfit,
 }
 
@@ -37,26 +38,24 @@ pub fn made() -> [u16; 520] {
 }
 
 // Reads a sheet from the file of this path, which has nothing else. Where it cannot, the sheet stays as it was.
-pub fn load(path: &[u8], sheet: &mut [u16; 520]) -> Loaded {
-    let fd = os::open_read(path);
-    if fd < 0 {
-        return Loaded::Unopened;
+pub fn load<R: Files>(rt: &R, path: &[u8], sheet: &mut [u16; 520]) -> Loaded {
+    let mut file = match reading::open(rt, path) {
+        Ok(file) => file,
+        Err(why) => return Loaded::Unopened(why),
+    };
+    let mut bytes = [0u8; 4096];
+    match reading::read_full(&mut file, &mut bytes) {
+        Ok(SHEET_LEN) => {
+            take(&bytes, sheet);
+            Loaded::Read
+        }
+        _ => Loaded::Unfit,
     }
-    let mut bytes = io::buffer();
-    let n = io::read_full(fd, &mut bytes);
-    libc::close(fd);
-    if n != SHEET_LEN {
-        return Loaded::Unfit;
-    }
-    take(&bytes, sheet);
-    Loaded::Read
 }
 
 // The numbers at the front of the bytes.
 fn take(bytes: &[u8; 4096], sheet: &mut [u16; 520]) {
-    let mut i = 0;
-    while i < 520 {
+    for i in 0..520 {
         sheet[i] = filled_numbers::u16_of(bytes, 2 * i) as u16;
-        i += 1;
     }
 }
