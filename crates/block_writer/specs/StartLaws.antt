@@ -9,7 +9,7 @@ use Rattle.codec.specs.CaseLaws.{both_true}
 use Rattle.put.specs.Output.{RoomFor, Wrote}
 use Rattle.put.specs.OutputLaws.{room-front, wrote-filled}
 use Rattle.writer.specs.Write.{out_after}
-use Rattle.writer.specs.RoundTripLaws.{out_written, out-refused}
+use Rattle.writer.proofs.RoundTripLaws.{out_written, out-refused}
 use Rattle.writer.specs.declared.Written.TheVariants.{Length, Refused}
 use Rattle.metadata_lengths.specs.Lengths.{lengths}
 use Rattle.block_format.specs.Block.{header, layout_part, symbology_part}
