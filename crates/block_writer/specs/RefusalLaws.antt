@@ -12,7 +12,7 @@ use Rattle.codec.proofs.RefusalLaws.{in_more, gives_more, fault-by}
 use Rattle.codec.specs.Faults.{unless, first}
 use Rattle.prelude.specs.Prelude.{is_version}
 use Rattle.rows_check.specs.Check.{row_numbers, fault}
-use Rattle.rows_check.specs.RefusalLaws.{check_fault}
+use Rattle.rows_check.proofs.RefusalLaws.{check_fault}
 use Rattle.block_format.specs.Block.{block_of}
 use Rattle.block_format.specs.Read.{block_numbers}
 use Rattle.block_format.proofs.RefusalLaws.{block_gives}
