@@ -23,7 +23,7 @@ use Rattle.block_writer.specs.Write as Write
 use Rattle.block_writer.specs.Write.{start_bytes, write_fault, write_block, WritesBlock}
 use Rattle.block_writer.specs.Plan.{Ready, Sizes, Planned, LayoutReady, NamesReady}
 use Rattle.block_writer.specs.PlanLaws.{start-bytes-is, ready-formed, ready-narrow, ready_narrow16, ready_version16}
-use Rattle.block_writer.specs.BackLaws.{prelude-length, accepts}
+use Rattle.block_writer.proofs.BackLaws.{prelude-length, accepts}
 use Rattle.block_writer.specs.declared.Plan.{Plan}
 
 -- no field is malformed or too wide
