@@ -22,7 +22,7 @@ use Rattle.tidy.specs.declared.Tidy.TheVariants.{Yes}
 use Rattle.tidy.specs.Plain.{PlainEntry, PlainRecord, PlainStruct, PlainLabelDef, Plain}
 use Rattle.tidy.specs.Tidy.{tidy_of}
 use Rattle.tidy.specs.Walk.{met_told}
-use Rattle.tidy.specs.WalkLaws.{met_of, layout-met, accepted-told}
+use Rattle.tidy.proofs.WalkLaws.{met_of, layout-met, accepted-told}
 use Rattle.demands.specs.PlainLaws.{plain-untidy}
 
 -- ---- the layout of rows is plain
