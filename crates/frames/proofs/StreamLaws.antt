@@ -6,7 +6,7 @@ use Rattle.std.proofs.Math.Path.{sym, ap, ap₂}
 use Rattle.codec.specs.Codec.{refusal}
 use Rattle.codec.specs.CaseLaws.{by_le}
 use Rattle.held.specs.Held.{held_of, taken_of, held_after, store_after}
-use Rattle.held.proofs.AloneLaws.{Alone, alone_small, alone_few, alone_refused, alone_short, alone_rest, alone_whole}
+use Rattle.held.proofs.AloneLaws.{Alone, alone-small, alone-few, alone-refused, alone-short, alone_rest, alone-whole}
 use Rattle.held.proofs.StageLaws.{refused-whole, whole_needs, after-length}
 use Rattle.held.specs.declared.Holding.{Holding}
 use Rattle.held.specs.declared.Holding.TheVariants.{Needs, Refused, Whole}
@@ -128,17 +128,17 @@ module _ (st s : List ℕ) where
         (λ a.
         by_le w (length s)
         (λ b.
-        found w (Whole w t) (alone_whole frame frame-law st s room many w t (says _ q) a long b) refl (f ∙ simp (le-ltb (length st) w a, le-ltb (length s) w b)))
+        found w (Whole w t) (alone-whole frame frame-law st s room many w t (says _ q) a long b) refl (f ∙ simp (le-ltb (length st) w a, le-ltb (length s) w b)))
         (λ b.
         found (length s) (Needs (w - length s)) (alone_rest frame frame-law st s room many w t (says _ q) a long b) refl
         (f ∙ simp (le-ltb (length st) w a, lt-ltb (length s) w b))))
         (λ a.
-        found 16 (Refused (refusal 101 0)) (alone_short frame frame-law st s room many w t (says _ q) a) (refused-at room) (f ∙ simp (lt-ltb (length st) w a)))
+        found 16 (Refused (refusal 101 0)) (alone-short frame frame-law st s room many w t (says _ q) a) (refused-at room) (f ∙ simp (lt-ltb (length st) w a)))
 
     found-header : (x : Holding) → header_of s ≡ x → frames_from 0 st s ≡ frames_of (length st) s
     found-header (Needs m) q = absurd (header-never s m many q)
     found-header (Refused e) q =
-        found 16 (Refused e) (alone_refused frame frame-law st s room many e (says _ q)) (refused-at room) (first_fits (length st) s room ∙ ap (fits (length st) (length s)) q)
+        found 16 (Refused e) (alone-refused frame frame-law st s room many e (says _ q)) (refused-at room) (first_fits (length st) s room ∙ ap (fits (length st) (length s)) q)
     found-header (Whole w t) q = found-frame w t q
 
   -- ONE CALL FROM THE START FINDS WHAT STANDS FIRST
@@ -149,5 +149,5 @@ module _ (st s : List ℕ) where
       by_le 16 (length s)
       (λ many. found-header room many (header_of s) refl)
       (λ few.
-      found (length s) _ (alone_few frame frame-law st s room few) refl (first_fits (length st) s room ∙ ap (fits (length st) (length s)) (header-few s few))))
-      (λ small. found 0 _ (alone_small frame frame-law st s small) (simp (lt-ltb (length st) 16 small)) (first_small (length st) s small))
+      found (length s) _ (alone-few frame frame-law st s room few) refl (first_fits (length st) s room ∙ ap (fits (length st) (length s)) (header-few s few))))
+      (λ small. found 0 _ (alone-small frame frame-law st s small) (simp (lt-ltb (length st) 16 small)) (first_small (length st) s small))
