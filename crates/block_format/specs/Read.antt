@@ -33,7 +33,7 @@ body_numbers = 20 ∷ 21 ∷ 22 ∷ 23 ∷ 24 ∷ 25 ∷ 26 ∷ 27 ∷ 28 ∷ 29
 
 -- what refuses a block: its version, its size, and these
 abbrev pub block_numbers : List ℕ
-block_numbers = 11 ∷ 13 ∷ body_numbers
+block_numbers = 11 ∷ 13 ∷ 20 ∷ 21 ∷ 22 ∷ 23 ∷ 24 ∷ 25 ∷ 26 ∷ 27 ∷ 28 ∷ 29 ∷ 44 ∷ 45 ∷ (contents_numbers ++ (wire_numbers ++ rule_numbers))
 
 -- refused; or all is accepted and the tables are long enough; or 3, with the rows needed of both
 unfoldable pub answer_of : MetadataLengths → Res (Block × List ℕ) → ℕ → ℕ → BlockAnswer

@@ -1,2 +1,5 @@
+pub mod BackLaws
+pub mod StartLaws
+pub mod RefusalLaws
 pub mod FieldLaws
 pub mod JudgeLaws

@@ -3,8 +3,5 @@ pub mod Tree
 pub mod Write
 pub mod Plan
 pub mod PlanLaws
-pub mod BackLaws
-pub mod RefusalLaws
 pub mod PutLaws
-pub mod StartLaws
 pub mod Single

@@ -14,7 +14,7 @@ use Rattle.layout.specs.declared.Verdict.TheVariants as Verdict'
 use Rattle.rules.specs.Rules.{ruled_numbers, ruled_of}
 use Rattle.rules.proofs.RefusalLaws.{ruled_gives, ruled-refuses}
 use Rattle.writer.specs.Write.{write_numbers, write_layout, written_number}
-use Rattle.writer.specs.RefusalLaws.{answer-refuses}
+use Rattle.writer.proofs.RefusalLaws.{answer-refuses}
 use Rattle.writer.specs.declared.Written.{Written}
 use Rattle.writer.specs.declared.Written.TheVariants as Written'
 use Rattle.c_layout.specs.Numbers.{LayoutC, LayoutPlainC, WriteC}

@@ -38,12 +38,7 @@ pub fn dbn_layout(
 
 // The verdict on a layout given with a symbol width, with 81 to 83 by the plain engine: the answer of dbn_layout, without a table.
 // `out` gets the version at 9 and the rows at 11, or with 50 to 55 the place in the layout at 13.
-pub fn dbn_layout_plain(
-    layout: &[u8],
-    width: u16,
-    sheet: &[u16; 520],
-    out: &mut [u64; 16],
-) -> u32
+pub fn dbn_layout_plain(layout: &[u8], width: u16, sheet: &[u16; 520], out: &mut [u64; 16]) -> u32
     ensures { LayoutPlainC layout.now width sheet.now out.old result out.new }
 {
     match engines::check_layout_plain(layout, width, sheet) {

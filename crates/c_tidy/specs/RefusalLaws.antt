@@ -5,7 +5,7 @@ use Rattle.refusal.specs.declared.Refusal.{Refusal}
 use Rattle.codec.specs.Refusals.{In}
 use Rattle.codec.proofs.RefusalLaws.{in_more}
 use Rattle.tidy.specs.Tidy.{tidy_of, tidy_number, tidy_numbers}
-use Rattle.tidy.specs.RefusalLaws.{tidy_refuses}
+use Rattle.tidy.proofs.RefusalLaws.{tidy_refuses}
 use Rattle.tidy.specs.declared.Tidy.{Tidy}
 use Rattle.tidy.specs.declared.Tidy.TheVariants.{Yes, Refused}
 use Rattle.c_tidy.specs.Numbers.{TidyC}

@@ -8,7 +8,7 @@ use Rattle.writer.specs.Write.{written_number}
 use Rattle.writer.specs.declared.Written.{Written}
 use Rattle.writer.specs.declared.Written.TheVariants as Written'
 use Rattle.block_writer.specs.Write.{write_block}
-use Rattle.block_writer.specs.RefusalLaws.{start_numbers, answer-refuses}
+use Rattle.block_writer.proofs.RefusalLaws.{start_numbers, answer-refuses}
 use Rattle.c_write.specs.Numbers.{WriteBlockC}
 
 -- 0 or the writer's refusal

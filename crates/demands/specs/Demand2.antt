@@ -25,7 +25,7 @@ use Rattle.rows_check.specs.LegalLaws.{sound, tree-legal}
 use Rattle.rows_check.specs.SectionLaws.{printed-is}
 use Rattle.rows_check.specs.Check.{printed}
 use Rattle.writer.specs.Write.{out_after, Writes}
-use Rattle.writer.specs.RoundTripLaws.{Accepts, accepted, reads-back, out_written}
+use Rattle.writer.proofs.RoundTripLaws.{Accepts, accepted, reads-back, out_written}
 use Rattle.writer.specs.declared.Written.TheVariants.{Length}
 use Rattle.feed.specs.Feeding.{Feeding}
 use Rattle.feed.proofs.PieceLaws.{Lent, Handed, any_cutting, any_cutting_handed}

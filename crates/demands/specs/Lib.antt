@@ -14,7 +14,6 @@ pub mod WriterAccepts
 pub mod StartWritten
 pub mod InColumns
 pub mod OwnerLaws
-pub mod Owners
 pub mod StandLaws
 pub mod RowsBackLaws
 pub mod FineRowLaws

@@ -15,7 +15,7 @@ use Rattle.layout.specs.declared.Answer.{Answer}
 use Rattle.layout.specs.declared.Answer.TheVariants as Answer'
 use Rattle.rules.specs.Rules.{ruled_of}
 use Rattle.given_layout.specs.Ruled.{Ruled}
-use Rattle.given_layout.specs.RuledLaws.{ruled-layout-within}
+use Rattle.given_layout.proofs.RuledLaws.{ruled-layout-within}
 use Rattle.block_format.specs.Read.{Promise}
 use Rattle.block_format.proofs.RefusalLaws.{answer-within, refused_anyway}
 use Rattle.block_format.specs.declared.BlockAnswer.{BlockAnswer}

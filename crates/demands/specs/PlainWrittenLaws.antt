@@ -13,7 +13,7 @@ use Rattle.rules.specs.RowRules.{rows_rules}
 use Rattle.rules.specs.RowRuleLaws.{rows_rules_lem}
 use Rattle.engines.specs.VerdictLaws.{ruled-layout}
 use Rattle.writer.specs.Write.{write_layout}
-use Rattle.writer.specs.RoundTripLaws.{accepts}
+use Rattle.writer.proofs.RoundTripLaws.{accepts}
 use Rattle.writer.specs.declared.Written.TheVariants.{Length}
 use Rattle.tidy.specs.Plain.{Plain}
 use Rattle.demands.specs.RowsBackLaws.{planted, tree-back}

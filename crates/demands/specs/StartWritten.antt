@@ -17,7 +17,7 @@ use Rattle.feed.specs.declared.Answer.TheVariants.{Done}
 use Rattle.feed.specs.declared.Fed.{Fed}
 use Rattle.block_writer.specs.Write.{WritesBlock}
 use Rattle.block_writer.specs.PlanLaws.{Small}
-use Rattle.block_writer.specs.BackLaws.{fields_given, written_block, reads-back, written_length, length-is, written_is, block-is, round_trip_read}
+use Rattle.block_writer.proofs.BackLaws.{fields_given, written_block, reads-back, written_length, length-is, written_is, block-is, round_trip_read}
 
 module _ (sheet : List ℕ) (version : ℕ) (fs t : List ℕ) (n : ℕ) (rows text out out' : List ℕ) (k : ℕ)
     (w : WritesBlock sheet version fs t n rows text out out' (Length k)) (small : Small fs) (octets : Bytes text) where

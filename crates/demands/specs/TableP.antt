@@ -22,7 +22,7 @@ use Rattle.layout.specs.declared.Answer.TheVariants as Layout'
 use Rattle.item_rules.specs.Rules.{seqs_fault, structs_fault, records_fault}
 use Rattle.rules.specs.Rules.{rules_of, ruled_of}
 use Rattle.given_layout.specs.Ruled.{Ruled}
-use Rattle.given_layout.specs.RuledLaws
+use Rattle.given_layout.proofs.RuledLaws
 use Rattle.given_layout.specs.Single.{read-layout_single}
 use Rattle.block_format.specs.Block.{block_of}
 use Rattle.block_format.specs.Read.{Promise}

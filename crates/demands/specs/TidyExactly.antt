@@ -17,7 +17,7 @@ use Rattle.rows_check.specs.Check.{printed}
 use Rattle.rules.specs.Rules.{ruled_of}
 use Rattle.given_layout.specs.Ruled.{Ruled}
 use Rattle.writer.specs.Write.{write_layout, out_after, Writes}
-use Rattle.writer.specs.RoundTripLaws.{out_written}
+use Rattle.writer.proofs.RoundTripLaws.{out_written}
 use Rattle.writer.specs.declared.Written.{Written}
 use Rattle.writer.specs.declared.Written.TheVariants.{Length}
 use Rattle.tidy.specs.declared.Tidy.{Tidy}

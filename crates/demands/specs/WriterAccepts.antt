@@ -13,7 +13,7 @@ use Rattle.item_rules.specs.Rules.{seqs_fault, structs_fault, records_fault, str
 use Rattle.rules.specs.Rules.{rules_of}
 use Rattle.rules.specs.RowRules.{rows_rules}
 use Rattle.writer.specs.Write.{write_layout}
-use Rattle.writer.specs.RoundTripLaws.{accepts}
+use Rattle.writer.proofs.RoundTripLaws.{accepts}
 use Rattle.writer.specs.declared.Written.TheVariants.{Length}
 use Rattle.rows_check.specs.Tree.{count_kind, count_of, from, names_from, skip, tree_of}
 use Rattle.rows_check.specs.Check.{fit_fault, fault, well_formed, both, every, row_test, row_fits, limit_of, in_order, walk, section_in_place, name_kind, counts_fit, groups_fit, count_fits, name_short, name_clean, clean, sections_fit, fits_all, printed_section, printed, rises_at}

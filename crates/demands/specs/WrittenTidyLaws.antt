@@ -17,12 +17,12 @@ use Rattle.rows_check.specs.CheckLaws.{InPlace, Places}
 use Rattle.rows_check.specs.LegalLaws.{Sound, sound, rising, tree-legal}
 use Rattle.writer.specs.Write.{write_layout}
 use Rattle.writer.specs.declared.Written.TheVariants.{Length}
-use Rattle.writer.specs.RoundTripLaws.{accepted, reads-tree}
+use Rattle.writer.proofs.RoundTripLaws.{accepted, reads-tree}
 use Rattle.tidy.specs.declared.Tidy.TheVariants.{Yes}
 use Rattle.tidy.specs.Plain.{PlainEntry, PlainRecord, PlainStruct, PlainLabelDef, Plain}
 use Rattle.tidy.specs.Tidy.{tidy_of}
 use Rattle.tidy.specs.Walk.{met_told}
-use Rattle.tidy.specs.WalkLaws.{met_of, layout-met, accepted-told}
+use Rattle.tidy.proofs.WalkLaws.{met_of, layout-met, accepted-told}
 use Rattle.demands.specs.PlainLaws.{plain-untidy}
 
 -- ---- the layout of rows is plain

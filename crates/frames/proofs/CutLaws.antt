@@ -1,22 +1,23 @@
 -- ANY CUTTING: however the records come in pieces, the caller is handed the frames of the whole stream, in order, and the same bytes are
 -- taken. The store is any. Assumes nothing.
-use Rattle.std.specs.Prelude.{ℕ, zero, suc, ◌+◌, ◌≤◌, ◌≡◌, length, drop}
-use Rattle.std.proofs.Common.{zero-le, add-zero, le_refl, arith, ◌∙◌, length-append, take_all, take-add}
+use Rattle.std.specs.Prelude.{ℕ, zero, suc, ◌+◌, ◌-◌, ◌≤◌, ◌≡◌, length, drop}
+use Rattle.std.proofs.Common.{zero-le, add-zero, le_refl, arith, ◌∙◌, length-append, take_all, take-add, drop-drop}
 use Rattle.std.proofs.Math.Path.{refl, sym, ap, ap₂}
 use mathlib.Core.List.{List, [], ◌∷◌, ◌++◌, append_assoc}
 use Rattle.std.proofs.Math.ListN.{take}
+use Rattle.std.proofs.lemmas.List.{drop-append-le}
 use Rattle.std.proofs.Math.Seq.{length-take-le, paste, paste-zero}
 use Rattle.refusal.specs.declared.Refusal.{Refusal}
 use Rattle.codec.specs.CaseLaws.{by_le}
-use Rattle.held.specs.Held.{held_of, need_of, taken_of, held_after, store_after, first_of, refused_at}
-use Rattle.held.proofs.StageLaws.{is_whole, after-length, taken-fits}
-use Rattle.held.proofs.PieceLaws.{taken_none, both-taken, both-store, both_rest}
+use Rattle.held.specs.Held.{held_of, need_of, taken_of, held_after, store_after}
+use Rattle.held.proofs.StageLaws.{is_whole, after-length, taken-most, taken-fits}
+use Rattle.held.proofs.PieceLaws.{taken_none, both-taken, both-store}
 use Rattle.held.specs.declared.Holding.{Holding}
 use Rattle.held.specs.declared.Holding.TheVariants as Holding'
-use Rattle.frames.specs.Frames.{frame, Frames, ◌before◌, goes_on, frames_in, frames_of, Framing}
+use Rattle.frames.specs.Frames.{frame, first_of, Frames, ◌before◌, refused_at, goes_on, frames_in, frames_of, Framing}
 use Rattle.frames.proofs.HeaderLaws.{frame-law}
 use Rattle.frames.proofs.FramingLaws.{held_after_lem, after_needs, after_frame, after-refused}
-use Rattle.frames.proofs.StreamLaws.{first_frame, goes_after, frames_from, from_start}
+use Rattle.frames.proofs.StreamLaws.{first-whole, goes_after, frames_from, from_start}
 use Rattle.frames.specs.declared.Answer.TheVariants.{Needs, Frame, Refused}
 use Rattle.frames.specs.declared.Framed.{Framed}
 
@@ -56,6 +57,11 @@ module _ (k : ℕ) (st p q : List ℕ) where
   taken-both : taken_of frame k st (p ++ q) ≡ t1 + t2
   taken-both = both-taken frame frame-law k st p q t1 (le_refl t1)
 
+  rest_both : drop t2 s2 ≡ drop (taken_of frame k st (p ++ q)) (p ++ q)
+  rest_both =
+      ap (drop t2) (sym (drop-append-le t1 p q (taken-most frame frame-law k st p)))
+      ∙ drop-drop t2 t1 (p ++ q) ∙ ap (λ n. drop n (p ++ q)) (sym taken-both)
+
   -- the frames are those of both in one
   from-both : frames_from (k + t1) s1 s2 ≡ frames_from k st (p ++ q)
   unfolding frames_from
@@ -71,7 +77,7 @@ module _ (k : ℕ) (st p q : List ℕ) where
           rests : (x : Holding) → goes_after b v t2 s2 x ≡ goes_after b v (taken_of frame k st (p ++ q)) (p ++ q) x
           rests (Holding'.Needs j) = refl
           rests (Holding'.Refused j) = refl
-          rests (Holding'.Whole w t) = ap (λ r. take w v before frames_of (length v) r) (both_rest frame frame-law k st p q)
+          rests (Holding'.Whole w t) = ap (λ r. take w v before frames_of (length v) r) rest_both
 
 -- where nothing more is needed, the held bytes decide
 from_settled : (k : ℕ) (st s : List ℕ) (x : Holding) → held_of frame k st ≡ x → need_of x ≡ 0 → frames_from k st s ≡ goes_after k st 0 s x
@@ -159,14 +165,14 @@ take-taken m s =
 pub frames-front : (m n : ℕ) (s : List ℕ) → bytes_of (frames_in m n s) ≡ take (length (bytes_of (frames_in m n s))) s
 unfolding frames_in joined
 frames-front zero n s = sym (take_all (length s) s (le_refl (length s)))
-frames-front (suc m) n s = go (frames-front m n) (first_of frame n s) refl
+frames-front (suc m) n s = go (frames-front m n) (first_of n s) refl
   where
-    go : ((r : List ℕ) → bytes_of (frames_in m n r) ≡ take (length (bytes_of (frames_in m n r))) r) → (x : Holding) → first_of frame n s ≡ x
-        → bytes_of (goes_on n s (frames_in m n) (first_of frame n s)) ≡ take (length (bytes_of (goes_on n s (frames_in m n) (first_of frame n s)))) s
+    go : ((r : List ℕ) → bytes_of (frames_in m n r) ≡ take (length (bytes_of (frames_in m n r))) r) → (x : Holding) → first_of n s ≡ x
+        → bytes_of (goes_on n s (frames_in m n) (first_of n s)) ≡ take (length (bytes_of (goes_on n s (frames_in m n) (first_of n s)))) s
     go again (Holding'.Needs j) e = rw e (sym (take_all (length s) s (le_refl (length s))))
-    go again (Holding'.Refused j) e = rw e (take-taken (refused_at frame n) s)
+    go again (Holding'.Refused j) e = rw e (take-taken (refused_at n) s)
     go again (Holding'.Whole w t) e =
-        let (long, there, _) = first_frame n s w t e in
+        let (long, there, _) = first-whole n s w t e in
         let r = frames_in m n (drop w s) in
         let a : length (take w s ++ bytes_of r) ≡ w + length (bytes_of r) = length-append (take w s) (bytes_of r) ∙ ap (λ i. i + length (bytes_of r)) (length-take-le w s there) in
         rw (e, bytes-before (take w s) r)

@@ -2,13 +2,13 @@
 -- Assumes nothing.
 use Rattle.std.specs.Prelude.{ℕ, ◌≡◌, refl, List, [], ◌∷◌, ◌++◌, replicate}
 use Rattle.codec.specs.Codec.{refusal, ◌then◌, named, checked, num, raw}
-use Rattle.held.specs.Held.{bounded, held_of, poured, taken_of, first_of}
+use Rattle.held.specs.Held.{bounded, held_of, poured, taken_of}
 use Rattle.held.specs.declared.Holding.TheVariants.{Needs, Refused, Whole}
 use Rattle.frames.proofs.CutLaws.{Reading, over, more, whole}
 use Rattle.frames.specs.declared.Answer.{Answer}
 use Rattle.frames.specs.declared.Answer.TheVariants as Answer'
 use Rattle.frames.proofs.FramingLaws.{outcome}
-use Rattle.frames.specs.Frames.{header, header_of, frame, frames_in, frames_of}
+use Rattle.frames.specs.Frames.{header, header_of, frame, first_of, frames_in, frames_of}
 
 -- n bytes, the first two of which are a length in words and an rtype
 abbrev from : ℕ → ℕ → ℕ → List ℕ

@@ -1,9 +1,9 @@
 -- Frames after the metadata, as document 02's request 2 has them: records of versions 1 to 3, each handed over once it is whole.
 -- Assumes nothing.
 use Rattle.std.specs.Prelude.{ℕ, zero, suc, ◌-◌, ◌*◌, Bool, false, cond, ◌≡◌, refl, List, [], ◌∷◌, length, take, drop, leb, ltb}
-use Rattle.codec.specs.Codec.{Res, ok, refuse}
+use Rattle.codec.specs.Codec.{Res, ok, refuse, refusal}
 use Rattle.codec.proofs.Format.{Format, num, num_test, ◌then◌, named}
-use Rattle.held.specs.Held.{Head, held_of, taken_of, held_after, store_after, first_of, refused_at}
+use Rattle.held.specs.Held.{Head, held_of, taken_of, held_after, store_after}
 use Rattle.held.specs.declared.Holding.{Holding}
 use Rattle.held.specs.declared.Holding.TheVariants.{Needs, Refused, Whole}
 use Rattle.frames.specs.declared.Answer.{Answer}
@@ -70,6 +70,16 @@ answer_number (Answer.Refused e) = e.number
 
 -- ---- the frames of a stream
 
+-- an announced frame, with a store of n bytes and m bytes of the stream left: 101 below the frame; what is missing of it; or the frame
+abbrev pub fits : ℕ → ℕ → Holding → Holding
+fits n m (Needs j) = Needs j
+fits n m (Refused e) = Refused e
+fits n m (Whole w t) = cond (ltb n w) (Refused (refusal 101 0)) (cond (ltb m w) (Needs (w - m)) (Whole w t))
+
+-- what stands first in a stream, with a store of n bytes: 101 below 16, then what the header says
+unfoldable pub first_of : ℕ → List ℕ → Holding
+first_of n s = cond (ltb n 16) (Refused (refusal 101 0)) (fits n (length s) (header_of s))
+
 -- a stream is whole frames, then bytes that are held, and what those are: no whole frame yet, or refused
 pub record Frames : Type 0 where
   pub whole : List (List ℕ)
@@ -81,16 +91,20 @@ infixr 25 ◌before◌
 abbrev pub ◌before◌ : List ℕ → Frames → Frames
 f before r = record { whole = f ∷ r.whole; left = r.left; ends = r.ends }
 
+-- of a refused frame the header is held; nothing is where the store is below 16
+abbrev pub refused_at : ℕ → ℕ
+refused_at n = cond (ltb n 16) 0 16
+
 -- how it goes on after what stands first; `rest` is for the bytes after a frame
 abbrev pub goes_on : ℕ → List ℕ → (List ℕ → Frames) → Holding → Frames
 goes_on n s rest (Needs j) = record { whole = []; left = s; ends = Needs j }
-goes_on n s rest (Refused e) = record { whole = []; left = take (refused_at frame n) s; ends = Refused e }
+goes_on n s rest (Refused e) = record { whole = []; left = take (refused_at n) s; ends = Refused e }
 goes_on n s rest (Whole w t) = take w s before rest (drop w s)
 
 -- at most m frames
 unfoldable pub frames_in : ℕ → ℕ → List ℕ → Frames
-frames_in zero n s = record { whole = []; left = s; ends = first_of frame n s }
-frames_in (suc m) n s = goes_on n s (frames_in m n) (first_of frame n s)
+frames_in zero n s = record { whole = []; left = s; ends = first_of n s }
+frames_in (suc m) n s = goes_on n s (frames_in m n) (first_of n s)
 
 -- THE FRAMES OF A STREAM, with a store of n bytes. A frame has 16 bytes or more, so there are not more than bytes
 unfoldable pub frames_of : ℕ → List ℕ → Frames

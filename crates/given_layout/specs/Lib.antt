@@ -1,3 +1,2 @@
 pub mod Ruled
-pub mod RuledLaws
 pub mod Single

@@ -36,13 +36,17 @@ use Rattle.house.specs.declared.Stored.{Stored}
 abbrev pub kept_numbers : List ℕ
 kept_numbers = 134 ∷ 1 ∷ (prelude_numbers ++ block_numbers)
 
+-- what refuses a start that is whole: 134, or what refuses held bytes
+abbrev pub start_numbers : List ℕ
+start_numbers = 134 ∷ feed_numbers
+
 -- what refuses storing: the output, the count of blocks, the start
 abbrev pub store_numbers : List ℕ
-store_numbers = pack_numbers ++ kept_numbers
+store_numbers = pack_numbers ++ start_numbers
 
 -- what refuses loading: 1 for the store, the file, what it holds
 abbrev pub load_numbers : List ℕ
-load_numbers = 1 ∷ 134 ∷ (file_numbers ++ feed_numbers)
+load_numbers = 1 ∷ (file_numbers ++ start_numbers)
 
 -- ---- storing
 
@@ -63,8 +67,8 @@ stage-refuses s {e} = go (prelude_of s) refl
         (λ a d. let j = sym (bounded-rest 2 (8 + len) (length s) (8 + len) b a d) ∙ q in let z : ◌≡◌ {A = ℕ} 0 1 = cc in absurd (omega arith))
         (λ a d. let j = sym (bounded-whole 2 (8 + len) (length s) (8 + len) b a d) ∙ q in let z : ◌≡◌ {A = ℕ} 0 1 = cc in absurd (omega arith))
 
-pub fault_in : (s t : List ℕ) → Fault (In kept_numbers) (start_fault s t).number
-fault_in s t = go (start_stage s) refl
+pub fault_kept : (s t : List ℕ) → Fault (In kept_numbers) (start_fault s t).number
+fault_kept s t = go (start_stage s) refl
   where
     is : {k : Refusal} → start_fault s t ≡ k → Fault (In kept_numbers) k.number → Fault (In kept_numbers) (start_fault s t).number
     is q h = subst (λ (j : Refusal). Fault (In kept_numbers) j.number) (sym q) h
@@ -80,12 +84,15 @@ fault_in s t = go (start_stage s) refl
     go (Refused k) h = is (fault-refused s t h) (λ z. in_more stage_numbers kept_numbers refl k.number (stage-refuses s h))
     go (Whole n v) h = whole n v h (block_answer v (block_in s n) t [] []) refl
 
+pub fault_in : (s t : List ℕ) → Fault (In start_numbers) (start_fault s t).number
+fault_in s t z = in_more kept_numbers start_numbers refl (start_fault s t).number (fault_kept s t z)
+
 pub stored_refuses : (n : ℕ) (s t : List ℕ) {e : Refusal} → stored_in n s t ≡ Stored.Refused e → In store_numbers e.number
 unfolding stored_in
 stored_refuses n s t {e} q =
     by_eqb (start_fault s t).number 0
     (λ b z. packed (packed_in n s) refl (sym (ap (λ x. cond x (stored_as (packed_in n s)) (Stored.Refused (start_fault s t))) b) ∙ q))
-    (λ b z. faulty (start_fault s t) (fault_in s t z) (sym (ap (λ x. cond x (stored_as (packed_in n s)) (Stored.Refused (start_fault s t))) b) ∙ q))
+    (λ b z. faulty (start_fault s t) (fault_kept s t z) (sym (ap (λ x. cond x (stored_as (packed_in n s)) (Stored.Refused (start_fault s t))) b) ∙ q))
   where
     packed : (p : Packed) → packed_in n s ≡ p → stored_as p ≡ Stored.Refused e → In store_numbers e.number
     packed (Packed'.Written m) h q = let z : ◌≡◌ {A = ℕ} 0 1 = cc in absurd (omega arith)

@@ -1,3 +1,4 @@
+pub mod RefusalLaws
 pub mod WalkLaws
 pub mod SizeLaws
 pub mod OrderLaws

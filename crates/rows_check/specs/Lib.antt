@@ -8,6 +8,5 @@ pub mod LegalLaws
 pub mod NameLaws
 pub mod Answers
 pub mod AnswerLaws
-pub mod RefusalLaws
 pub mod Single
 pub mod SpanLaws

@@ -19,7 +19,7 @@ use Rattle.layout.specs.RefusalLaws.{layout_gives, layout-within}
 use Rattle.layout.specs.declared.Verdict.TheVariants.{Refused}
 use Rattle.rows_check.specs.Tree.{tree_of}
 use Rattle.rows_check.specs.Check.{fault_numbers, fault}
-use Rattle.rows_check.specs.RefusalLaws.{check_fault}
+use Rattle.rows_check.proofs.RefusalLaws.{check_fault}
 use Rattle.rows_check.specs.AnswerLaws.{refused-told}
 use Rattle.rows_check.specs.declared.Sized.TheVariants as Sized'
 use Rattle.item_rules.specs.Rules.{rule_numbers, struct_seq, record_seq}

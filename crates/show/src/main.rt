@@ -3,7 +3,7 @@
 // larger is told. `tell::help` says how it is called.
 #![tactic(auto)]
 
-mod fields;
+mod header;
 mod lines;
 mod options;
 mod place;
@@ -252,7 +252,7 @@ fn accepted(
     }
     let version = held[3];
     let block = &held[8..];
-    fields::show(out, f, version, block, is_made)?;
+    header::show(out, f, version, block, is_made)?;
     symbols::show(out, block, symbology, f.symbology_rows)?;
     records::show(out, block, layout, f.layout_rows)
 }

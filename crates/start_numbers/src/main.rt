@@ -5,7 +5,7 @@
 
 mod good;
 mod large;
-mod rules;
+mod rule_numbers;
 mod run;
 
 use good::Change;
@@ -26,9 +26,9 @@ fn main(rt: HostRuntime) -> io::Result<()> {
     layout_rows(out)?;
     header(out)?;
     layouts(out)?;
-    rules::layouts(out)?;
-    rules::fields(out)?;
-    rules::tilings(out)?;
+    rule_numbers::layouts(out)?;
+    rule_numbers::fields(out)?;
+    rule_numbers::tilings(out)?;
     lists(out)?;
     mappings(out)?;
     output(out)?;

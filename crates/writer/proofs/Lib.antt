@@ -1,2 +1,4 @@
+pub mod RoundTripLaws
+pub mod RefusalLaws
 pub mod ManyLaws
 pub mod WriteLaws

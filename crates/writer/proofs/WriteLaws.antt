@@ -15,7 +15,7 @@ use Rattle.rows_check.specs.SectionLaws.{printed-length}
 use Rattle.rows_check.specs.AnswerLaws.{Fitted}
 use Rattle.rows_check.specs.declared.Sized.TheVariants as Sized'
 use Rattle.put.specs.Output.{Filled}
-use Rattle.writer.specs.RoundTripLaws.{out_written, out-refused}
+use Rattle.writer.proofs.RoundTripLaws.{out_written, out-refused}
 use Rattle.writer.specs.Write.{write_layout, Writes}
 use Rattle.writer.specs.declared.Written.TheVariants.{Length, Refused}
 

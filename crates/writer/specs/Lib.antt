@@ -1,4 +1,2 @@
 pub mod Write
-pub mod RoundTripLaws
-pub mod RefusalLaws
 pub mod Single

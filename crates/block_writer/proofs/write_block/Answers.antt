@@ -2,7 +2,7 @@
 -- Assumes nothing.
 use native.Mathlib.Omega.{arith}
 use Rattle.put.specs.OutputLaws.{wrote-length}
-use Rattle.block_writer.specs.StartLaws.{refused-by, too_short, roomy, written_out_lem}
+use Rattle.block_writer.proofs.StartLaws.{refused-by, too_short, roomy, written_out_lem}
 use borrow.Author.Rules.{rules}
 use Rattle.block_writer.proofs.write_block.Goals as goal
 

@@ -1,7 +1,7 @@
 -- A layout that passes the rules is read; a refused one leaves the table.
 -- Assumes nothing.
 use mathlib.Core.Path.{◌≡◌, refl, sym, ap, ◌∙◌}
-use Rattle.given_layout.specs.RuledLaws.{ruled-read, ruled-no}
+use Rattle.given_layout.proofs.RuledLaws.{ruled-read, ruled-no}
 use borrow.Author.Rules.{rules}
 use Rattle.given_layout.proofs.read_layout.Goals as goal
 

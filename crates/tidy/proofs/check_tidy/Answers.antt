@@ -1,7 +1,7 @@
 -- The reader's verdict, then what the walk meets. Assumes nothing.
 use native.Mathlib.Omega.{arith}
 use mathlib.Core.Path.{sym, ◌∙◌}
-use Rattle.tidy.specs.WalkLaws.{accepted-told, refused-told}
+use Rattle.tidy.proofs.WalkLaws.{accepted-told, refused-told}
 use borrow.Author.Rules.{rules}
 use Rattle.tidy.proofs.check_tidy.Goals as goal
 

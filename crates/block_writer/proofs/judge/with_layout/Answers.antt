@@ -4,7 +4,7 @@ use mathlib.Core.Path.{sym, ◌∙◌}
 use native.Mathlib.Omega.{arith}
 use lib.Dec.{eqb}
 use Rattle.block_writer.specs.PlanLaws.{ready_narrow16}
-use Rattle.block_writer.specs.StartLaws.{start-fields}
+use Rattle.block_writer.proofs.StartLaws.{start-fields}
 use Rattle.block_writer.proofs.JudgeLaws.{names-most, refused-rows, whole, layout-most, too_long, planned}
 use borrow.Author.Rules.{rules}
 use Rattle.block_writer.proofs.judge.with_layout.Goals as goal

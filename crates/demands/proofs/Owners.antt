@@ -6,7 +6,8 @@ use Rattle.block_format.specs.Block.{Block, block_of}
 use Rattle.block_format.specs.Read.{sixes, nines, Promise}
 use Rattle.block_format.specs.declared.BlockAnswer.{BlockAnswer}
 use Rattle.demands.specs.InColumns.{in_columns}
-use Rattle.demands.specs.OwnerLaws.{Whose, rows_owned, whose_same}
+use Rattle.demands.specs.OwnerLaws.{Whose}
+use Rattle.demands.proofs.OwnerLaws.{rows_owned, whose_same}
 
 -- of every row of an accepted block of any version, in a table that holds its rows: a mapping's intervals are the rows after it, as many as
 -- its x counts; an interval's owner is such a mapping before it; every other row is its own

@@ -12,13 +12,13 @@ use Rattle.codec.proofs.RefusalLaws.{in_more, gives_more, fault-by}
 use Rattle.codec.specs.Faults.{unless, first}
 use Rattle.prelude.specs.Prelude.{is_version}
 use Rattle.rows_check.specs.Check.{row_numbers, fault}
-use Rattle.rows_check.specs.RefusalLaws.{check_fault}
+use Rattle.rows_check.proofs.RefusalLaws.{check_fault}
 use Rattle.block_format.specs.Block.{block_of}
 use Rattle.block_format.specs.Read.{block_numbers}
 use Rattle.block_format.proofs.RefusalLaws.{block_gives}
 use Rattle.writer.specs.Write.{out_after}
-use Rattle.writer.specs.RoundTripLaws.{out-refused}
-use Rattle.writer.specs.RefusalLaws.{Placeless, judged-refuses, room-refuses}
+use Rattle.writer.proofs.RoundTripLaws.{out-refused}
+use Rattle.writer.proofs.RefusalLaws.{Placeless, judged-refuses, room-refuses}
 use Rattle.writer.specs.declared.Written.TheVariants.{Length, Refused}
 use Rattle.block_writer.specs.Tree.{block_bytes}
 use Rattle.block_writer.specs.Write.{formed, slim, start_bytes, write_fault, write_block, WritesBlock}

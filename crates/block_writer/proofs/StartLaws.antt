@@ -9,7 +9,7 @@ use Rattle.codec.specs.CaseLaws.{both_true}
 use Rattle.put.specs.Output.{RoomFor, Wrote}
 use Rattle.put.specs.OutputLaws.{room-front, wrote-filled}
 use Rattle.writer.specs.Write.{out_after}
-use Rattle.writer.specs.RoundTripLaws.{out_written, out-refused}
+use Rattle.writer.proofs.RoundTripLaws.{out_written, out-refused}
 use Rattle.writer.specs.declared.Written.TheVariants.{Length, Refused}
 use Rattle.metadata_lengths.specs.Lengths.{lengths}
 use Rattle.block_format.specs.Block.{header, layout_part, symbology_part}
@@ -23,7 +23,7 @@ use Rattle.block_writer.specs.Write as Write
 use Rattle.block_writer.specs.Write.{start_bytes, write_fault, write_block, WritesBlock}
 use Rattle.block_writer.specs.Plan.{Ready, Sizes, Planned, LayoutReady, NamesReady}
 use Rattle.block_writer.specs.PlanLaws.{start-bytes-is, ready-formed, ready-narrow, ready_narrow16, ready_version16}
-use Rattle.block_writer.specs.BackLaws.{prelude-length, accepts}
+use Rattle.block_writer.proofs.BackLaws.{prelude-length, accepts}
 use Rattle.block_writer.specs.declared.Plan.{Plan}
 
 -- no field is malformed or too wide

@@ -56,7 +56,7 @@ use Rattle.columns_check.specs.Tree.{filled, symbology_of}
 use Rattle.columns_check.specs.FilledLaws.{filled-length, filled-trimmed, filled-back}
 use Rattle.columns_check.specs.BackLaws.{rows_at, texts_at, rows-length, rows_back, rows-count, texts-back}
 use Rattle.writer.specs.Write.{out_after}
-use Rattle.writer.specs.RoundTripLaws.{out_written}
+use Rattle.writer.proofs.RoundTripLaws.{out_written}
 use Rattle.writer.specs.declared.Written.TheVariants.{Length, Refused}
 use Rattle.header_bytes.specs.Numbers.{dataset_len, schema, start, end, limit, stype_in, stype_out, ts_out, width, layout_version, has}
 use Rattle.block_writer.specs.Fields.{dataset_text, option_fits}

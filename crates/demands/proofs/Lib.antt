@@ -1,0 +1,2 @@
+pub mod Owners
+pub mod OwnerLaws
