@@ -38,8 +38,8 @@ fn at(path: &str) -> PathBuf {
 /// Compares the nights of a run of so many inputs from `seed`.
 pub fn run(inputs: u64, seed: u64) -> Tally {
     let mut tally = Tally { inputs, ..Tally::default() };
-    if !at("target/bin/morning").is_file() {
-        eprintln!("nights: target/bin/morning is missing: run 'rt check morning' first");
+    if !at("crates/morning/out/morning").is_file() {
+        eprintln!("nights: crates/morning/out/morning is missing: run 'scripts/build-program morning' first");
         tally.unexplained = 1;
         return tally;
     }

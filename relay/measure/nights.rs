@@ -55,7 +55,7 @@ impl Night {
 
     /// The time of the program morning and of the plain loop: medians of so many turns. None where the program is not there, or not for this processor.
     pub fn times(&self, turns: usize) -> Option<(f64, f64)> {
-        let program = Path::new(env!("CARGO_MANIFEST_DIR")).join("../target/bin/morning");
+        let program = Path::new(env!("CARGO_MANIFEST_DIR")).join("../crates/morning/out/morning");
         if !cfg!(target_arch = "x86_64") || !program.is_file() {
             return None;
         }

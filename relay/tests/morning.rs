@@ -1,4 +1,4 @@
-//! The program morning, as `scripts/morning` runs it: the report on a night of starts, held to a stored one. `rt check morning` makes it. Each file of
+//! The program morning, as `scripts/morning` runs it: the report on a night of starts, held to a stored one. The script has it built. Each file of
 //! `tests/nights` was counted from what its test puts in.
 mod common;
 
@@ -251,5 +251,5 @@ fn a_report_that_cannot_be_written() {
 fn a_program_that_is_missing() {
     let ran = run(command("scripts/run-program", &["no_program"]), b"");
     assert_eq!((ran.status, ran.out.as_str()), (2, ""));
-    assert!(ran.err.ends_with("is missing: run 'rt check no_program' first\n"), "{}", ran.err);
+    assert_eq!(ran.err, "no_program: no such program: crates/no_program/src/main.rt is missing\n");
 }

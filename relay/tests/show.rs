@@ -1,4 +1,4 @@
-//! The program show, as `scripts/show` runs it: what it writes, where, and the status it ends with. `rt check show` makes it.
+//! The program show, as `scripts/show` runs it: what it writes, where, and the status it ends with. The script has it built.
 mod common;
 
 use common::program::{at, failed, file, run, sheet, told, version_2, Ran};

@@ -127,7 +127,7 @@ fn nights() {
                 plain / 1e6,
                 here / plain
             ),
-            None => println!("  {what}: left out, since target/bin/morning is missing ('rt check morning' makes it) or not for this processor"),
+            None => println!("  {what}: left out, since crates/morning/out/morning is missing ('scripts/build-program morning' makes it) or not for this processor"),
         }
     }
 }
