@@ -12,7 +12,7 @@ ghost use Rattle.block_format.specs.Read.{Promise};
 ghost use Rattle.block.specs.Parts.{Headed, Does};
 
 pub use block_format::{BlockAnswer, Fields, Optional};
-use metadata_lengths::MetadataLengths;
+pub use metadata_lengths::{MetadataLengths, lengths_of};
 use refusal::Refusal;
 
 // A part of a slice by start and length; or the refusal.
