@@ -5,7 +5,7 @@
 pub mod escape;
 pub mod words;
 
-ghost use Rattle.std.specs.Prelude.{◌≤◌, length};
+ghost use Rattle.std.specs.Prelude.{◌≡◌, ◌≢◌, ◌≤◌, ◌⊎◌, length, take, true, false, MatchResult};
 
 use std::env::{Env, FillError};
 use std::fs::OpenOptions;
@@ -34,7 +34,9 @@ pub struct Asked {
 }
 
 // What no arguments ask for.
-pub fn nothing() -> Asked {
+pub fn nothing() -> Asked
+    ensures { result ≡ record { help = false; status = false; sheet = 0; fault = 0; at = 0 } }
+{
     Asked {
         help: false,
         status: false,
@@ -75,7 +77,9 @@ pub fn argument(rt: &impl Env, i: usize, buf: &mut [u8]) -> usize
 }
 
 // What is asked for with a fault of argument i.
-pub fn wrong(asked: Asked, fault: u64, i: usize) -> Asked {
+pub fn wrong(asked: Asked, fault: u64, i: usize) -> Asked
+    ensures { result ≡ record asked { fault = fault; at = i } }
+{
     let mut asked = asked;
     asked.fault = fault;
     asked.at = i;
@@ -84,7 +88,10 @@ pub fn wrong(asked: Asked, fault: u64, i: usize) -> Asked {
 
 // What is asked for with argument i, before the argument `next`. The word after --sheet is the name of a sheet, whatever it is. A word that
 // is none of the three options is a fault.
-pub fn taken(rt: &impl Env, asked: Asked, i: usize, next: usize) -> Asked {
+pub fn taken(rt: &impl Env, asked: Asked, i: usize, next: usize) -> Asked
+    ensures name { asked.sheet ≡ i → result ≡ asked }
+    ensures word { asked.sheet ≢ i → (result ≡ record asked { help = true }) ⊎ ((result ≡ record asked { status = true }) ⊎ ((result ≡ record asked { sheet = next }) ⊎ (result ≡ record asked { fault = UNKNOWN; at = i }))) }
+{
     let mut asked = asked;
     if asked.sheet == i {
         return asked;
@@ -102,7 +109,10 @@ pub fn taken(rt: &impl Env, asked: Asked, i: usize, next: usize) -> Asked {
 }
 
 // What all n words ask for, the program's own name among them: no name is missing after the last.
-pub fn complete(asked: Asked, n: usize) -> Asked {
+pub fn complete(asked: Asked, n: usize) -> Asked
+    ensures missing { asked.sheet ≡ n → result ≡ record asked { fault = NO_SHEET; at = n } }
+    ensures whole { asked.sheet ≢ n → result ≡ asked }
+{
     if asked.sheet == n {
         return wrong(asked, NO_SHEET, n);
     }
@@ -124,7 +134,10 @@ pub fn load_sheet<R: Env + Files>(
     program: &[u8],
     asked: Asked,
     sheet: &mut [u16; 520],
-) -> bool {
+) -> bool
+    ensures none { asked.sheet ≡ 0 → (result ≡ true) × (sheet.new ≡ sheet.old) }
+    ensures unread { result ≡ false → sheet.new ≡ sheet.old }
+{
     if asked.sheet == 0 {
         return true;
     }
@@ -203,7 +216,9 @@ fn named(err: &mut impl Write, program: &[u8], name: &[u8]) -> io::Result<()> {
 }
 
 // The status that goes with what was written to standard output; where that failed it is 2, and why is said.
-pub fn ended(err: &mut impl Write, program: &[u8], written: io::Result<u64>) -> u64 {
+pub fn ended(err: &mut impl Write, program: &[u8], written: io::Result<u64>) -> u64
+    ensures { MatchResult written (λ status. result ≡ status) (λ why. result ≡ 2) }
+{
     match written {
         Ok(status) => status,
         Err(why) => {
@@ -227,7 +242,9 @@ fn write_status(rt: &impl Files, status: u64) -> io::Result<()> {
 }
 
 // The first n bytes; all where there are fewer.
-pub fn front(s: &[u8], n: usize) -> &[u8] {
+pub fn front(s: &[u8], n: usize) -> &[u8]
+    ensures { result.now ≡ take n s.now }
+{
     if s.len() < n {
         return s;
     }

@@ -1,6 +1,9 @@
 // The type sheet that layouts are judged with: a made one, or one's own from a file.
 #![tactic(auto)]
 
+ghost use Rattle.std.specs.Prelude.{◌≡◌, ◌⊎◌};
+ghost use Rattle.type_sheet.specs.declared.Loaded.TheVariants as Loaded';
+
 use std::io;
 use std::rt::Files;
 
@@ -38,7 +41,9 @@ pub fn made() -> [u16; 520] {
 }
 
 // Reads a sheet from the file of this path, which has nothing else. Where it cannot, the sheet stays as it was.
-pub fn load<R: Files>(rt: &R, path: &[u8], sheet: &mut [u16; 520]) -> Loaded {
+pub fn load<R: Files>(rt: &R, path: &[u8], sheet: &mut [u16; 520]) -> Loaded
+    ensures { (result ≡ Loaded'.Read) ⊎ (sheet.new ≡ sheet.old) }
+{
     let mut file = match reading::open(rt, path) {
         Ok(file) => file,
         Err(why) => return Loaded::Unopened(why),
