@@ -96,11 +96,14 @@ fn a_place_of_the_block_and_the_bytes_around_it() {
 fn every_number_of_a_reader_has_a_sentence() {
     let numbers = std::fs::read_to_string(at("crates/refusal/src/lib.rt")).expect("the numbers");
     let sentences = std::fs::read_to_string(at("crates/show/src/refusals.rt")).expect("the sentences");
-    let numbers = numbers.lines().filter_map(|line| line.split(" = ").nth(1)?.trim_end_matches(';').parse().ok());
-    let of_readers: Vec<u32> = numbers.filter(|n| *n < 90).collect();
+    let numbers = numbers.lines().filter_map(|line| {
+        let (name, number) = line.strip_prefix("pub const ")?.strip_suffix(';')?.split_once(": u32 = ")?;
+        Some((name, number.parse::<u32>().ok()?))
+    });
+    let of_readers: Vec<_> = numbers.filter(|(_, n)| *n < 90).collect();
     assert_eq!(of_readers.len(), 57);
-    for n in of_readers {
-        assert!(sentences.contains(&format!("\n{n:02}: ")), "{n} has no sentence");
+    for (name, n) in of_readers {
+        assert!(sentences.contains(&format!("\n        refusal::{name} => ")), "{n} has no sentence");
     }
 }
 

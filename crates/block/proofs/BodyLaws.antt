@@ -1,4 +1,7 @@
 -- The block's answer and tables from its header, its layout part and its symbology part. Assumes nothing.
+use Rattle.prelude.specs.Prelude.{is_version}
+use Rattle.std.specs.Prelude.{Result, Ok, Err}
+use Rattle.block_format.specs.declared.ReadError.{ReadError}
 use Prim.Native.Nat.{ℕ, ◌+◌, ◌-◌, ◌/◌, ◌≤◌, ◌<◌}
 use native.Mathlib.Omega.{arith}
 use mathlib.Core.Path.{◌≡◌, refl, sym, ap, ◌∙◌, subst}
@@ -8,6 +11,7 @@ use lib.ListN.{length, take, drop}
 use lib.Dec.{leb, eqb}
 use borrow.Author.Tests.{le-leb, lt-leb}
 use Rattle.refusal.specs.declared.Refusal.{Refusal}
+use Rattle.std.specs.Prelude.{Result, Ok, Err}
 use Rattle.codec.specs.CaseLaws.{by_bool}
 use Rattle.codec.specs.Codec.{Res, ok, refuse, refusal, named, ◌then◌, ◌on◌, whole}
 use Rattle.layout.specs.Layout.{Layout}
@@ -18,8 +22,8 @@ use Rattle.symbology_format.specs.SymbologyRows.{symbology_rows}
 use Rattle.layout.specs.Answers.{leave}
 use Rattle.layout.specs.AnswerLaws.{leave-ok, leave_anywhere}
 use Rattle.symbology.specs.ReadLaws.{Was, rows-read, rows-counted, rows-refused}
-use Rattle.symbology.specs.declared.SectionAnswer.{SectionAnswer}
-use Rattle.symbology.specs.declared.SectionAnswer.TheVariants as SectionAnswer'
+use Rattle.symbology.specs.declared.Section.{Section}
+use Rattle.symbology.specs.declared.Section.TheVariants as Section'
 use Rattle.metadata_lengths.specs.Lengths.{lengths}
 use Rattle.block_format.specs.Block.{Header, Block, header, width_of, layout_part, symbology_part, to_block, block, block_of}
 use Rattle.block_format.specs.Fields.{fields_with, fields_of}
@@ -28,39 +32,36 @@ use Rattle.block.specs.Parts.{Fixed, OfHeader, refusal_of, Headed, layout_table,
 use Rattle.metadata_lengths.specs.declared.MetadataLengths.{MetadataLengths}
 use Rattle.block_format.specs.declared.Fields.{Fields}
 use Rattle.block.specs.declared.LayoutFound.{LayoutFound}
-use Rattle.block.specs.declared.LayoutFound.TheVariants as LayoutFound'
-use Rattle.block_format.specs.declared.BlockAnswer.{BlockAnswer}
-use Rattle.block_format.specs.declared.BlockAnswer.TheVariants.{Read, Refused, Short}
 use Rattle.block.proofs.HeaderLaws.{header_at, header_got}
 
 -- ---- what the parts' readers said
 
-pub lays-at : {has : Bool} {sheet : List ℕ} {w : ℕ} {b : List ℕ} {r : LayoutFound} {v n e : ℕ} → LayoutReads has sheet w b r → r ≡ LayoutFound'.Accepted v n e → LayoutRead has sheet w b v n e
+pub lays-at : {has : Bool} {sheet : List ℕ} {w : ℕ} {b : List ℕ} {r : Result LayoutFound Refusal} {v n e : ℕ} → LayoutReads has sheet w b r → r ≡ Ok (record { version = v; rows = n; end = e }) → LayoutRead has sheet w b v n e
 lays-at {has} {sheet} {w} {b} {v = v} {n} {e} h q = go (rw q at h)
   where
-    go : LayoutReads has sheet w b (LayoutFound'.Accepted v n e) → LayoutRead has sheet w b v n e
+    go : LayoutReads has sheet w b (Ok (record { version = v; rows = n; end = e })) → LayoutRead has sheet w b v n e
     go (lays x) = x
 
-pub lays-bad : {has : Bool} {sheet : List ℕ} {w : ℕ} {b : List ℕ} {r : LayoutFound} {k : Refusal} → LayoutReads has sheet w b r → r ≡ LayoutFound'.Refused k → (layout_part has sheet w).codec.parse 0 b 100 ≡ refuse k
+pub lays-bad : {has : Bool} {sheet : List ℕ} {w : ℕ} {b : List ℕ} {r : Result LayoutFound Refusal} {k : Refusal} → LayoutReads has sheet w b r → r ≡ Err k → (layout_part has sheet w).codec.parse 0 b 100 ≡ refuse k
 lays-bad {has} {sheet} {w} {b} {k = k} h q = go (rw q at h)
   where
-    go : LayoutReads has sheet w b (LayoutFound'.Refused k) → (layout_part has sheet w).codec.parse 0 b 100 ≡ refuse k
+    go : LayoutReads has sheet w b (Err k) → (layout_part has sheet w).codec.parse 0 b 100 ≡ refuse k
     go (lays-no x) = x
 
 -- ---- answers from what was read
 
 module _ (v : MetadataLengths) {z : Res (Block × List ℕ)} (s l : List ℕ) where
-  pub does_no : {k : Refusal} → z ≡ refuse k → Does v z s l (Refused k) s l
+  pub does_no : {k : Refusal} → z ≡ refuse k → Does v z s l (Err (ReadError.Refused k)) s l
   unfolding answer_of symbology_after layout_after
   does_no e = record { answer = rw e; symbology = rw e; layout = rw e }
 
   module _ {x : Block × List ℕ} {i : ℕ} (e : z ≡ ok x i) where
-    does_short : roomy x.0 (length s) (length l) ≡ false → Does v z s l (Short (length (sixes x.0)) (length (nines x.0))) s l
+    does_short : roomy x.0 (length s) (length l) ≡ false → Does v z s l (Err (ReadError.Short (length (sixes x.0)) (length (nines x.0)))) s l
     unfolding answer_of symbology_after layout_after
     does_short q = record { answer = rw (e, q); symbology = rw (e, q); layout = rw (e, q) }
 
     does_read : {s' l' : List ℕ} {f : Fields} → roomy x.0 (length s) (length l) ≡ true → leb (length (nines x.0)) (length l / 9) ≡ true
-        → s' ≡ columns 6 (sixes x.0) s → l' ≡ leave l (ok x.0.layout 0) → f ≡ fields_of v x.0 → Does v z s l (Read f) s' l'
+        → s' ≡ columns 6 (sixes x.0) s → l' ≡ leave l (ok x.0.layout 0) → f ≡ fields_of v x.0 → Does v z s l (Ok f) s' l'
     unfolding answer_of symbology_after layout_after
     does_read q q9 es el ef = record { answer = rw (e, q, ef); symbology = es ∙ rw (e, q); layout = el ∙ leave-ok l x.0.layout 0 ∙ rw (e, q, q9) }
 
@@ -90,12 +91,12 @@ module _ (sheet : List ℕ) (v : MetadataLengths) (b : List ℕ) (w : ℕ) (s l 
   eh : (header v).codec.parse 0 b 0 ≡ ok H 100
   eh = header_got v b hd.fixed hd.passed
 
-  pub body-no : {k : Refusal} → (layout_part v.has_layout sheet w).codec.parse 0 b 100 ≡ refuse k → Does v (whole (block sheet v).codec 0 b) s l (Refused k) s l
+  pub body-no : {k : Refusal} → (layout_part v.has_layout sheet w).codec.parse 0 b 100 ≡ refuse k → Does v (whole (block sheet v).codec 0 b) s l (Err (ReadError.Refused k)) s l
   body-no el = does_no v s l (whole-no sheet v b H w eh (hd.width_is H 100 eh) el)
 
   module _ {n9 ver at : ℕ} (L : LayoutRead v.has_layout sheet w b ver n9 at)
-      {write : Bool} {s' : List ℕ} {r : SectionAnswer} (S : SymbologyReads v.has_layout write w b at s s' r) where
-    pub body-bad : {k : Refusal} → r ≡ SectionAnswer'.Refused k → Does v (whole (block sheet v).codec 0 b) s l (Refused k) s' l
+      {write : Bool} {s' : List ℕ} {r : Result Section Refusal} (S : SymbologyReads v.has_layout write w b at s s' r) where
+    pub body-bad : {k : Refusal} → r ≡ Err k → Does v (whole (block sheet v).codec 0 b) s l (Err (ReadError.Refused k)) s' l
     body-bad {k} q =
         let (e, es) = rows-refused S.sixes q in
         rw es (does_no v s l (whole-bad sheet v b H w eh (hd.width_is H 100 eh) L.is (S.is ∙ rw e)))
@@ -125,13 +126,13 @@ module _ (sheet : List ℕ) (v : MetadataLengths) (b : List ℕ) (w : ℕ) (s l 
         unfolding fields_of
         fields-is ef = ef H 100 eh ∙ rw (← W.many, ← L.many, ← L.version)
 
-      pub body-short : {n5 : ℕ} → r ≡ SectionAnswer'.Counted n5 → Does v (whole (block sheet v).codec 0 b) s l (Short n5 n9) s' l
+      pub body-short : {n5 : ℕ} → r ≡ Ok (Section'.Counted n5) → Does v (whole (block sheet v).codec 0 b) s l (Err (ReadError.Short n5 n9)) s' l
       body-short {n5} q =
           let W = rows-counted S.sixes q in
           rw (W.leaves, ← W.many, ← L.many) (does_short v s l (is W) (room W))
 
-      pub body-read : {n5 j : ℕ} {l' : List ℕ} {F : Fields} → r ≡ SectionAnswer'.Read n5 j → l' ≡ layout_table v.has_layout (take (at - 104) (drop 104 b)) l
-          → OfHeader v b (λ h. F ≡ fields_with v h ver n5 n9) → Does v (whole (block sheet v).codec 0 b) s l (Read F) s' l'
+      pub body-read : {n5 j : ℕ} {l' : List ℕ} {F : Fields} → r ≡ Ok (Section'.Read n5 j) → l' ≡ layout_table v.has_layout (take (at - 104) (drop 104 b)) l
+          → OfHeader v b (λ h. F ≡ fields_with v h ver n5 n9) → Does v (whole (block sheet v).codec 0 b) s l (Ok F) s' l'
       body-read q el ef =
           let W = rows-read S.sixes q in
           does_read v s l (is W) (room W) (sym (room9 W) ∙ first write _ W.room) W.leaves (el ∙ L.leaves l ∙ leave_anywhere l _ _ 0) (fields-is W ef)
@@ -153,39 +154,35 @@ pub fixed : (version : ℕ) {v : MetadataLengths} {b : List ℕ} → v ≡ lengt
 fixed version {v} {b} e lo hi = subst (λ (x : MetadataLengths). Fixed x b) (sym e) (record { total = (sums version).0; two = (sums version).1; long = lo; small = hi })
 
 module _ (version : ℕ) (b sheet s l : List ℕ) where
-  pub promise : {r : BlockAnswer} {s' l' : List ℕ} → Does (lengths version) (block_of version sheet b) s l r s' l' → Promise version b sheet s l r s' l'
+  pub promise : {r : Result Fields ReadError} {s' l' : List ℕ} → Does (lengths version) (block_of version sheet b) s l r s' l' → Promise version b sheet s l r s' l'
   unfolding block_answer block_symbology block_layout
   promise d = record { answer = d.answer; symbology = d.symbology; layout = d.layout }
 
-  pub block-low : version < 1 → Promise version b sheet s l (Refused (refusal 11 3)) s l
+  pub block-version : is_version version ≡ false → Promise version b sheet s l (Err (ReadError.Refused (refusal 11 3))) s l
   unfolding block_of
-  block-low h = promise (does_no (lengths version) s l (rw (lt-leb 1 version h)))
+  block-version h = promise (does_no (lengths version) s l (rw h))
 
-  pub block-high : 1 ≤ version → 4 < version → Promise version b sheet s l (Refused (refusal 11 3)) s l
-  unfolding block_of
-  block-high h g = promise (does_no (lengths version) s l (rw (le-leb 1 version h, lt-leb version 4 g)))
-
-  module _ (lo : 1 ≤ version) (hi : version ≤ 4) where
-    pub block-short : length b < 100 → Promise version b sheet s l (Refused (refusal 13 0)) s l
+  module _ (known : is_version version ≡ true) where
+    pub block-short : length b < 100 → Promise version b sheet s l (Err (ReadError.Refused (refusal 13 0))) s l
     unfolding block_of
-    block-short h = promise (does_no (lengths version) s l (rw (le-leb 1 version lo, le-leb version 4 hi, lt-leb 100 (length b) h)))
+    block-short h = promise (does_no (lengths version) s l (rw (known, lt-leb 100 (length b) h)))
 
-    pub block-long : 100 ≤ length b → 4294967295 < length b → Promise version b sheet s l (Refused (refusal 13 0)) s l
+    pub block-long : 100 ≤ length b → 4294967295 < length b → Promise version b sheet s l (Err (ReadError.Refused (refusal 13 0))) s l
     unfolding block_of
-    block-long h g = promise (does_no (lengths version) s l (rw (le-leb 1 version lo, le-leb version 4 hi, le-leb 100 (length b) h, lt-leb (length b) 4294967295 g)))
+    block-long h g = promise (does_no (lengths version) s l (rw (known, le-leb 100 (length b) h, lt-leb (length b) 4294967295 g)))
 
     module _ (h : 100 ≤ length b) (g : length b ≤ 4294967295) {v : MetadataLengths} (ev : v ≡ lengths version) where
       block-is : block_of version sheet b ≡ whole (block sheet v).codec 0 b
       unfolding block_of
-      block-is = rw (le-leb 1 version lo, le-leb version 4 hi, le-leb 100 (length b) h, le-leb (length b) 4294967295 g, ev)
+      block-is = rw (known, le-leb 100 (length b) h, le-leb (length b) 4294967295 g, ev)
 
-      pub block-done : {r : BlockAnswer} {s' l' : List ℕ} → Does v (whole (block sheet v).codec 0 b) s l r s' l' → Promise version b sheet s l r s' l'
+      pub block-done : {r : Result Fields ReadError} {s' l' : List ℕ} → Does v (whole (block sheet v).codec 0 b) s l r s' l' → Promise version b sheet s l r s' l'
       block-done {r} {s'} {l'} d = promise (rw block-is (subst (λ (x : MetadataLengths). Does x (whole (block sheet v).codec 0 b) s l r s' l') ev d))
 
-      header-no : (r : Res Header) {k : Refusal} → k ≡ refusal_of r → 0 < k.number → r ≡ refuse k
-      header-no (ok x j) {k} e p = absurd (let z : k.number ≡ 0 = ap (λ (m : Refusal). m.number) e in omega arith)
-      header-no (refuse j) e p = ap (λ (m : Refusal). refuse m) (sym e)
+      header-no : (r : Res Header) {k : Refusal} → Err k ≡ refusal_of r → r ≡ refuse k
+      header-no (ok x j) {k} e = let z : ◌≡◌ {A = ℕ} 0 1 = cc in absurd (omega arith)
+      header-no (refuse j) {k} e = let z : j ≡ k = cc in ap (λ (m : Refusal). refuse m) z
 
-      pub block-header : {k : Refusal} → k ≡ refusal_of ((header v).codec.parse 0 b 0) → 0 < k.number → Promise version b sheet s l (Refused k) s l
+      pub block-header : {k : Refusal} → Err k ≡ refusal_of ((header v).codec.parse 0 b 0) → Promise version b sheet s l (Err (ReadError.Refused k)) s l
       unfolding whole block named ◌on◌
-      block-header {k} e p = block-done (does_no v s l (rw (header-no ((header v).codec.parse 0 b 0) e p)))
+      block-header {k} e = block-done (does_no v s l (rw (header-no ((header v).codec.parse 0 b 0) e)))

@@ -1,4 +1,5 @@
 -- The header of a block that has its 100 bytes: what it holds, and which of 20, 29 and 21 to 23 comes first. Assumes nothing.
+use Rattle.std.specs.Prelude.{Option, Ok, Err}
 use Prim.Native.Nat.{ℕ, ◌+◌, ◌-◌, ◌≤◌}
 use native.Mathlib.Nat.{zero-add}
 use native.Mathlib.Omega.{arith}
@@ -13,20 +14,20 @@ use Rattle.codec.proofs.StepLaws.{raw_got, num_got, byte_got}
 use Rattle.text.specs.Utf8.{utf8}
 use Rattle.padded.specs.Padded.{nul_padded}
 use Rattle.padded.specs.PaddedAnswer.{padded_of}
-use Rattle.padded.specs.declared.Padded.{Padded}
+use Rattle.padded.specs.declared.Fault.{Fault}
+use Rattle.std.specs.Prelude.{Result}
 use Rattle.text.specs.Trim.{trimmed_len}
 use Rattle.block_format.specs.Block.{Header, header, is_schema, is_stype, is_stype_in, width_of}
 use Rattle.block.specs.Parts.{Fixed, OfHeader, refusal_of}
 use Rattle.block_format.specs.Fields.{fields_with, schema_of, end_of, limit_of, stype_in_of, ts_out_of}
 use Rattle.metadata_lengths.specs.declared.MetadataLengths.{MetadataLengths}
-use Rattle.block_format.specs.declared.Optional.{Optional}
 
 -- a test of a number by another name
 pub was : (p : ℕ → Bool) {x y : ℕ} {r t : Bool} → x ≡ y → r ≡ p x → r ≡ t → p y ≡ t
 was p e f g = ap p (sym e) ∙ sym f ∙ g
 
 -- what is told of the first d bytes
-pub was_text : (d : ℕ) (b : List ℕ) {r t : Padded} → r ≡ padded_of (take (d - 0) (drop 0 b)) → r ≡ t → t ≡ padded_of (take d (drop 0 b))
+pub was_text : (d : ℕ) (b : List ℕ) {r t : Result Unit Fault} → r ≡ padded_of (take (d - 0) (drop 0 b)) → r ≡ t → t ≡ padded_of (take d (drop 0 b))
 was_text d b f g = let z : d - 0 ≡ d = omega arith in sym g ∙ (rw z at f)
 
 module _ (b : List ℕ) where
@@ -107,10 +108,10 @@ module _ (v : MetadataLengths) (b : List ℕ) (f : Fixed v b) where
       (λ e0. rw e0)))
       (λ e1. rw e1))
 
--- the number of a refusal, in both words
-pub refusal-number : {A : Type 0} (r : Res A) {k : Refusal} → k ≡ refusal_of r → k.number ≡ fault_of r
-refusal-number (ok x j) e = ap (λ (m : Refusal). m.number) e
-refusal-number (refuse k) e = ap (λ (m : Refusal). m.number) e
+-- what is accepted has no fault
+pub accepted-no-fault : {A : Type 0} (r : Res A) → Ok tt ≡ refusal_of r → 0 ≡ fault_of r
+accepted-no-fault (ok x j) e = refl
+accepted-no-fault (refuse k) e = let z : ◌≡◌ {A = ℕ} 0 1 = cc in absurd (omega arith)
 
 -- ---- the ways out
 
@@ -124,24 +125,24 @@ module _ (v : MetadataLengths) (b : List ℕ) (f : Fixed v b) where
   abbrev At : ℕ
   At = v.dataset_cstr_len + 26 + v.record_count_len
 
-  pub fault_20 : utf8 H.dataset ≡ false → refusal 20 0 ≡ refusal_of ((header v).codec.parse 0 b 0)
+  pub fault_20 : utf8 H.dataset ≡ false → Err (refusal 20 0) ≡ refusal_of ((header v).codec.parse 0 b 0)
   fault_20 e = rw (header_is v b f, e)
 
-  pub fault_29 : (utf8 H.dataset ≡ true) × (nul_padded H.dataset ≡ false) → refusal 29 0 ≡ refusal_of ((header v).codec.parse 0 b 0)
+  pub fault_29 : (utf8 H.dataset ≡ true) × (nul_padded H.dataset ≡ false) → Err (refusal 29 0) ≡ refusal_of ((header v).codec.parse 0 b 0)
   fault_29 (e, e1) = rw (header_is v b f, e, e1)
 
   -- the dataset passed
   module _ (t : (utf8 H.dataset ≡ true) × (nul_padded H.dataset ≡ true)) where
-    pub fault_21 : is_schema H.schema ≡ false → refusal 21 D ≡ refusal_of ((header v).codec.parse 0 b 0)
+    pub fault_21 : is_schema H.schema ≡ false → Err (refusal 21 D) ≡ refusal_of ((header v).codec.parse 0 b 0)
     fault_21 e2 = rw (header_is v b f, t.0, t.1, e2)
 
-    pub fault_22 : is_schema H.schema ≡ true → is_stype_in H.stype_in ≡ false → refusal 22 At ≡ refusal_of ((header v).codec.parse 0 b 0)
+    pub fault_22 : is_schema H.schema ≡ true → is_stype_in H.stype_in ≡ false → Err (refusal 22 At) ≡ refusal_of ((header v).codec.parse 0 b 0)
     fault_22 e2 e3 = rw (header_is v b f, t.0, t.1, e2, e3)
 
-    pub fault_23 : is_schema H.schema ≡ true → is_stype_in H.stype_in ≡ true → is_stype H.stype_out ≡ false → refusal 23 (At + 1) ≡ refusal_of ((header v).codec.parse 0 b 0)
+    pub fault_23 : is_schema H.schema ≡ true → is_stype_in H.stype_in ≡ true → is_stype H.stype_out ≡ false → Err (refusal 23 (At + 1)) ≡ refusal_of ((header v).codec.parse 0 b 0)
     fault_23 e2 e3 e4 = rw (header_is v b f, t.0, t.1, e2, e3, e4)
 
-    pub fault_0 : is_schema H.schema ≡ true → is_stype_in H.stype_in ≡ true → is_stype H.stype_out ≡ true → refusal 0 0 ≡ refusal_of ((header v).codec.parse 0 b 0)
+    pub fault_0 : is_schema H.schema ≡ true → is_stype_in H.stype_in ≡ true → is_stype H.stype_out ≡ true → Ok tt ≡ refusal_of ((header v).codec.parse 0 b 0)
     fault_0 e2 e3 e4 = rw (header_is v b f, t.0, t.1, e2, e3, e4)
 
   -- the tests by what each tells
@@ -179,7 +180,7 @@ module _ (v : MetadataLengths) (b : List ℕ) (f : Fixed v b) where
   of-header P p h j q = subst P (tests-only _ _ _ _ _ h j (sym header-tried ∙ q)) p
 
   -- the fields, one by one
-  pub fields-are : {a w st : ℕ} {sc en li si : Optional} (version m n : ℕ) → a ≡ trimmed_len (take (v.dataset_cstr_len - 0) (drop 0 b)) → sc ≡ schema_of H.schema → st ≡ H.start
+  pub fields-are : {a w st : ℕ} {sc en li si : Option ℕ} (version m n : ℕ) → a ≡ trimmed_len (take (v.dataset_cstr_len - 0) (drop 0 b)) → sc ≡ schema_of H.schema → st ≡ H.start
       → en ≡ end_of H.end → li ≡ limit_of H.limit → si ≡ stype_in_of H.stype_in → OfHeader v b (λ h. w ≡ width_of v h)
       → OfHeader v b (λ h. record {
         dataset_len = a;

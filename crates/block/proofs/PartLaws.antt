@@ -1,4 +1,5 @@
 -- The layout part and the symbology part from the bytes that a u32 length announces. Assumes nothing.
+use Rattle.std.specs.Prelude.{Ok, Err}
 use Prim.Native.Nat.{ℕ, ◌+◌, ◌-◌, ◌/◌, ◌≤◌, ◌<◌, zero-le}
 use native.Mathlib.Nat.{zero-add}
 use native.Mathlib.Omega.{arith}
@@ -11,6 +12,7 @@ use lib.Seq.{take_all}
 use lib.Dec.{eqb}
 use borrow.Author.Tests.{le-leb, lt-leb}
 use Rattle.refusal.specs.declared.Refusal.{Refusal}
+use Rattle.std.specs.Prelude.{Result, Err}
 use Rattle.refusal.specs.Places.{has_place}
 use Rattle.codec.specs.CaseLaws.{by_bool, by_le, no_true}
 use Rattle.codec.specs.Refusals.{In, all_pass}
@@ -27,53 +29,48 @@ use Rattle.layout.specs.LenientLaws.{light_same}
 use Rattle.layout.specs.LayoutOf.{D, layout_of}
 use Rattle.symbology_format.specs.Symbology.{Symbology, symbology}
 use Rattle.symbology.specs.Reader.{section_of}
-use Rattle.layout.specs.Answers.{wire_numbers, leave, verdict}
+use Rattle.layout.specs.Answers.{accepted, wire_numbers, leave, verdict}
 use Rattle.layout.specs.RefusalLaws.{layout_wire}
 use Rattle.symbology.specs.Answers.{SectionPromise}
 use Rattle.layout.specs.ReadLaws.{layout-whole, no_rows}
 use Rattle.symbology.specs.ReadLaws.{section-parse, rest-parse, refused-promise, moved_in, promise-moved}
-use Rattle.layout.specs.declared.Verdict.TheVariants as Verdict'
-use Rattle.symbology.specs.declared.SectionAnswer.{SectionAnswer}
-use Rattle.symbology.specs.declared.SectionAnswer.TheVariants as SectionAnswer'
+use Rattle.symbology.specs.declared.Section.{Section}
+use Rattle.symbology.specs.declared.Section.TheVariants as Section'
 use Rattle.item_rules.specs.Rules.{rule_numbers}
 use Rattle.rules.specs.Rules.{rules_of, ruled_of}
 use Rattle.rules.proofs.RefusalLaws.{ruled_either}
 use Rattle.rules.specs.RuleLaws.{ruled-is}
 use Rattle.block_format.specs.Block.{no_items, layout_part, symbology_part}
-use Rattle.block.specs.Parts.{in_block, span_of, span_at, SpanInside, within, outside, section_at, layout_table, LayoutReads, lays, lays-no, SymbologyReads}
+use Rattle.block.specs.Parts.{in_block, span_of, span_at, SpanInside, within, outside, section_at, layout_table, LayoutReads, lays, lays-no, SymbologyReads, Span}
 use Rattle.layout.specs.AnswerLaws.{verdict-ok, verdict-no, leave-ok, leave_anywhere}
 use Rattle.engines.specs.VerdictLaws.{ruled-layout}
-use Rattle.block.specs.declared.Span.{Span}
-use Rattle.block.specs.declared.Span.TheVariants.{Part}
-use Rattle.block.specs.declared.Span.TheVariants as Span'
-use Rattle.block.specs.declared.LayoutFound.TheVariants as LayoutFound'
 
 -- ---- spans
 
 module _ (k k' : ℕ) (b : List ℕ) (at : ℕ) where
-  pub span_none : length b < at + 4 → Span'.Refused (refusal k at) ≡ span_at k k' b at
+  pub span_none : length b < at + 4 → Err (refusal k at) ≡ span_at k k' b at
   unfolding span_at
   span_none h = rw (num-bad k 4 0 b at h)
 
   module _ (n : ℕ) (h : at + 4 ≤ length b) (e : n ≡ value (take 4 (drop at b))) where
-    pub span-past : length b < at + 4 + n → Span'.Refused (refusal k' (at + 4)) ≡ span_at k k' b at
+    pub span-past : length b < at + 4 + n → Err (refusal k' (at + 4)) ≡ span_at k k' b at
     unfolding span_at
     span-past g = rw (num_got k 4 0 b at h, ← e, raw-bad k' n 0 b (at + 4) g)
 
-    pub span-part : at + 4 + n ≤ length b → Part (at + 4) n ≡ span_at k k' b at
+    pub span-part : at + 4 + n ≤ length b → Ok ((at + 4), n) ≡ span_at k k' b at
     unfolding span_at
     span-part g = rw (num_got k 4 0 b at h, ← e, raw_got k' n 0 b (at + 4) g)
 
-pub within-at : {b : List ℕ} {at p n : ℕ} {r : Span} → SpanInside b at r → r ≡ Part p n → (at ≤ p) × (p + n ≤ length b)
+pub within-at : {b : List ℕ} {at p n : ℕ} {r : Span} → SpanInside b at r → r ≡ Ok (p, n) → (at ≤ p) × (p + n ≤ length b)
 within-at {b} {at} {p} {n} h e = go (rw e at h)
   where
-    go : SpanInside b at (Part p n) → (at ≤ p) × (p + n ≤ length b)
+    go : SpanInside b at (Ok (p, n)) → (at ≤ p) × (p + n ≤ length b)
     go (within x y) = (x, y)
 
-pub within-mk : {b : List ℕ} {at p n : ℕ} → at ≤ p → p + n ≤ length b → SpanInside b at (Part p n)
+pub within-mk : {b : List ℕ} {at p n : ℕ} → at ≤ p → p + n ≤ length b → SpanInside b at (Ok (p, n))
 within-mk {p = p} {n} x y = within {p = p} {n = n} x y
 
-pub outside-mk : {b : List ℕ} {at : ℕ} {k : Refusal} → SpanInside b at (Span'.Refused k)
+pub outside-mk : {b : List ℕ} {at : ℕ} {k : Refusal} → SpanInside b at (Err k)
 outside-mk {k = k} = outside {k = k}
 
 -- the bytes from p up to p + n
@@ -95,7 +92,7 @@ data Cut (k k' : ℕ) (b : List ℕ) (at : ℕ) (r : Refusal) : Type 0 where
   past : {n p : ℕ} → 0 < n → (num k 4).parse 0 b at ≡ ok n p → (raw k' n).parse 0 b p ≡ refuse r → Cut k k' b at r
 
 module _ (k k' : ℕ) (b : List ℕ) (at : ℕ) where
-  pub spanned : {p n : ℕ} → span_at k k' b at ≡ Part p n → p + n ≤ length b → Spanned k k' b at p n
+  pub spanned : {p n : ℕ} → span_at k k' b at ≡ Ok (p, n) → p + n ≤ length b → Spanned k k' b at p n
   unfolding span_at
   spanned {p} {n} e h =
       let (m, q, e1, e2) = bind_ok ((num k 4).parse 0 b at) _ n p (go ((num k 4).parse 0 b at >>= λ n p. (raw k' n).parse 0 b p >>= λ x j. ok n p) e) in
@@ -104,11 +101,11 @@ module _ (k k' : ℕ) (b : List ℕ) (at : ℕ) where
       let qp : q ≡ p = cc in
       record { number = e1 ∙ ap₂ (λ (a c : ℕ). ok a c) mn qp; bytes = raw_got k' n 0 b p h }
     where
-      go : (r : Res ℕ) → span_of r ≡ Part p n → r ≡ ok n p
-      go (ok m q) e = let mn : m ≡ n = cc in let qp : q ≡ p = cc in ap₂ (λ (a c : ℕ). ok a c) mn qp
+      go : (r : Res ℕ) → span_of r ≡ Ok (p, n) → r ≡ ok n p
+      go (ok m q) e = let z : ◌≡◌ {A = ℕ × ℕ} (q, m) (p, n) = cc in ap₂ (λ (a c : ℕ). ok a c) (ap (λ x. x.1) z) (ap (λ x. x.0) z)
       go (refuse k) e = absurd (let z : ◌≡◌ {A = ℕ} 0 1 = cc in omega arith)
 
-  cut : {r : Refusal} → span_at k k' b at ≡ Span'.Refused r → Cut k k' b at r
+  cut : {r : Refusal} → span_at k k' b at ≡ Err r → Cut k k' b at r
   cut {r} e =
       by_le (at + 4) (length b)
       (λ h.
@@ -127,7 +124,7 @@ module _ (k k' : ℕ) (b : List ℕ) (at : ℕ) where
 -- ---- a part with a length that counts no byte of its own, and is at least `least`, 0 or 1
 
 module _ {A : Type 0} (k k'' k' least : ℕ) (few : least ≤ 1) (inner : ℕ → ℕ) (spot : (ℕ → List ℕ → Type 0) → A → Type 0) (c : Codec A) (b : List ℕ) (at : ℕ) where
-  pub boxed-cut : {r : Refusal} → span_at k k' b at ≡ Span'.Refused r → (boxed k k'' k' 4 0 least inner spot c).parse 0 b at ≡ refuse r
+  pub boxed-cut : {r : Refusal} → span_at k k' b at ≡ Err r → (boxed k k'' k' 4 0 least inner spot c).parse 0 b at ≡ refuse r
   unfolding boxed
   boxed-cut {r} e = go (cut k k' b at e)
     where
@@ -192,7 +189,7 @@ module _ (sheet : List ℕ) (width : ℕ) where
       go (refuse k) = refl
 
 module _ (sheet : List ℕ) (width : ℕ) (b : List ℕ) where
-  pub layout-cut : (has : Bool) {k : Refusal} → span_at 24 44 b 100 ≡ Span'.Refused k → (layout_part has sheet width).codec.parse 0 b 100 ≡ refuse k
+  pub layout-cut : (has : Bool) {k : Refusal} → span_at 24 44 b 100 ≡ Err k → (layout_part has sheet width).codec.parse 0 b 100 ≡ refuse k
   unfolding layout_part named judged checked sized
   layout-cut true e = rw (boxed-cut 24 26 44 1 (omega arith) (λ p. 0) (λ P x. Unit {0}) (parts all_tests D).codec b 100 e)
   layout-cut false {k} e = rw (go (cut 24 44 b 100 e))
@@ -228,17 +225,17 @@ module _ (sheet : List ℕ) (width : ℕ) (b : List ℕ) where
       let e : ok n p ≡ ok (value (take 4 (drop 100 b))) 104 = sym s.number ∙ num_got 24 4 0 b 100 h in
       let z : p ≡ 104 = cc in z
 
-  module _ (has : Bool) {p n : ℕ} (e : span_at 24 44 b 100 ≡ Part p n) (w : (104 ≤ p) × (p + n ≤ length b)) (small : length b ≤ 4294967295) where
+  module _ (has : Bool) {p n : ℕ} (e : span_at 24 44 b 100 ≡ Ok (p, n)) (w : (104 ≤ p) × (p + n ≤ length b)) (small : length b ≤ 4294967295) where
     S : Spanned 24 44 b 100 p n
     S = spanned 24 44 b 100 e w.1
 
-    pub lays_26 : has ≡ true → n ≡ 0 → LayoutReads has sheet width b (LayoutFound'.Refused (refusal 26 100))
+    pub lays_26 : has ≡ true → n ≡ 0 → LayoutReads has sheet width b (Err (refusal 26 100))
     lays_26 t z = rw t (lays-no (layout_empty_26 sheet width b S w.1 z))
 
-    pub lays_25 : has ≡ false → 0 < n → LayoutReads has sheet width b (LayoutFound'.Refused (refusal 25 100))
+    pub lays_25 : has ≡ false → 0 < n → LayoutReads has sheet width b (Err (refusal 25 100))
     lays_25 t z = rw t (lays-no (layout-there_25 sheet width b S w.1 z))
 
-    pub lays-none : has ≡ false → n ≡ 0 → LayoutReads has sheet width b (LayoutFound'.Accepted 0 0 (p + n))
+    pub lays-none : has ≡ false → n ≡ 0 → LayoutReads has sheet width b (Ok (record { version = 0; rows = 0; end = p + n }))
     lays-none t z = rw t (lays (record {
       tree = no_items [];
       is = layout_empty sheet width b S w.1 z;
@@ -259,7 +256,7 @@ module _ (sheet : List ℕ) (width : ℕ) (b : List ℕ) where
       ruled : (layout_part true sheet width).codec.parse 0 b 100 ≡ (shifted p (layout_of part) >>= λ l _. ruling sheet width l (p + n))
       ruled = layout-ruled sheet width b S w.1 some' (omega (arith, w.1))
 
-      pub lays-bad : {k : Refusal} → Verdict'.Refused k ≡ verdict (ruled_of sheet width (take (p + n - p) (drop p b))) → LayoutReads has sheet width b (LayoutFound'.Refused (in_block p k))
+      pub lays-bad : {k : Refusal} → Err k ≡ verdict (ruled_of sheet width (take (p + n - p) (drop p b))) → LayoutReads has sheet width b (Err (in_block p k))
       lays-bad {k} q =
           let e = verdict-no (ruled_of sheet width part) (rw (slice p n b) at q) in
           rw t (lays-no {k = in_block p k} (go e (ruled_either sheet width part e)))
@@ -287,11 +284,11 @@ module _ (sheet : List ℕ) (width : ℕ) (b : List ℕ) where
           let (q, _) = need-ok (eqb 0 (rules_of sheet width (from_layout l).0)) (rules_of sheet width (from_layout l).0) 0 _ l j z in
           ruled ∙ rw (x, q)
 
-      pub lays-ok : {v m : ℕ} → Verdict'.Accepted v m ≡ verdict (ruled_of sheet width (take (p + n - p) (drop p b))) → LayoutReads has sheet width b (LayoutFound'.Accepted v m (p + n))
+      pub lays-ok : {v m : ℕ} → Ok (accepted v m) ≡ verdict (ruled_of sheet width (take (p + n - p) (drop p b))) → LayoutReads has sheet width b (Ok (record { version = v; rows = m; end = p + n }))
       lays-ok {v} {m} q =
           let (l, j, el, ev, em) = verdict-ok (ruled_of sheet width (take n (drop p b))) (rw (slice p n b) at q) in
           let (i, e1) = ruled-layout sheet width (take n (drop p b)) l j el in
-          subst (λ (h : Bool). LayoutReads h sheet width b (LayoutFound'.Accepted v m (p + n))) (sym t) (lays {v = v} {n = m} {e = p + n} (record {
+          subst (λ (h : Bool). LayoutReads h sheet width b (Ok (record { version = v; rows = m; end = p + n }))) (sym t) (lays {v = v} {n = m} {e = p + n} (record {
             tree = l;
             is = is_ok l i j e1 el;
             from = omega (arith, w.0);
@@ -304,7 +301,7 @@ module _ (sheet : List ℕ) (width : ℕ) (b : List ℕ) where
 -- ---- the symbology part
 
 module _ (width : ℕ) (b : List ℕ) (at : ℕ) where
-  pub symbology-cut : (has : Bool) {write : Bool} {t : List ℕ} {k : Refusal} → section_at has b at ≡ Span'.Refused k → SymbologyReads has write width b at t t (SectionAnswer'.Refused k)
+  pub symbology-cut : (has : Bool) {write : Bool} {t : List ℕ} {k : Refusal} → section_at has b at ≡ Err k → SymbologyReads has write width b at t t (Err k)
   unfolding symbology_part full
   symbology-cut true {k = k} e = record { part = refuse k; end = λ j. j; is = rw (boxed-cut 27 27 45 0 zero-le (λ p. p) (symbology utf8 nul_padded is_date width).codec.each (symbology utf8 nul_padded is_date width).codec b at e); sixes = refused-promise }
   symbology-cut false e = absurd (let z : ◌≡◌ {A = ℕ} 0 1 = cc in omega arith)
@@ -333,19 +330,20 @@ module _ (width : ℕ) (b : List ℕ) (at : ℕ) where
     symbology-rest h = rw (zero-add at, rest-parse width at (drop at b) (simp length-drop (omega arith)))
 
     -- one law for both: the bytes from p up to p + n
-    module _ (has : Bool) {p n : ℕ} (e : section_at has b at ≡ Part p n) (w : (at ≤ p) × (p + n ≤ length b)) where
+    module _ (has : Bool) {p n : ℕ} (e : section_at has b at ≡ Ok (p, n)) (w : (at ≤ p) × (p + n ≤ length b)) where
       section-is : has ≡ true → (symbology_part has width).codec.parse 0 b at ≡ (shifted p (section_of has width p (take (p + n - p) (drop p b))) >>= λ x _. ok x (p + n))
       section-is y = rw (y, slice p n b) (symbology-section (spanned 27 45 b at (rw y at e) w.1) w.1)
 
       rest-is : has ≡ false → (symbology_part has width).codec.parse 0 b at ≡ (shifted p (section_of has width p (take (p + n - p) (drop p b))) >>= λ x j. ok x (at + j))
       rest-is y =
-          let q : Part at (length b - at) ≡ Part p n = (rw y at e) in
-          let ap' : at ≡ p = cc in
-          let an : length b - at ≡ n = cc in
+          let q : Ok (at, (length b - at)) ≡ Ok (p, n) = (rw y at e) in
+          let z : ◌≡◌ {A = ℕ × ℕ} (at, length b - at) (p, n) = cc in
+          let ap' : at ≡ p = ap (λ x. x.0) z in
+          let an : length b - at ≡ n = ap (λ x. x.1) z in
           let l : length (drop at b) ≡ n = length-drop at b ∙ an in
           rw (y, slice p n b, ← ap', take_all n (drop at b) (omega (arith, l))) (symbology-rest (omega (arith, w.0, w.1)))
 
-      pub symbology-reads : {write : Bool} {t t' : List ℕ} {r r' : SectionAnswer} → SectionPromise write (section_of has width p (take (p + n - p) (drop p b))) t t' r → r ≡ r' → SymbologyReads has write width b at t t' (moved_in p r')
-      symbology-reads {write} {t} {t'} f q = subst (λ (x : SectionAnswer). SymbologyReads has write width b at t t' (moved_in p x)) q (by_bool has
+      pub symbology-reads : {write : Bool} {t t' : List ℕ} {r r' : Result Section Refusal} → SectionPromise write (section_of has width p (take (p + n - p) (drop p b))) t t' r → r ≡ r' → SymbologyReads has write width b at t t' (moved_in p r')
+      symbology-reads {write} {t} {t'} f q = subst (λ (x : Result Section Refusal). SymbologyReads has write width b at t t' (moved_in p x)) q (by_bool has
           (λ y. record { part = shifted p (section_of has width p (take (p + n - p) (drop p b))); end = λ _. p + n; is = section-is y; sixes = promise-moved p f })
           (λ y. record { part = shifted p (section_of has width p (take (p + n - p) (drop p b))); end = λ j. at + j; is = rest-is y; sixes = promise-moved p f }))

@@ -1,44 +1,37 @@
 // The header of a block: its tests and its fields.
 ghost use Rattle.std.specs.Prelude.{◌≡◌, ◌+◌, ◌≤◌, ◌<◌, length, take, drop};
-ghost use Rattle.codec.specs.Codec.{refusal, value};
+ghost use Rattle.codec.specs.Codec.{value};
 ghost use Rattle.block_format.specs.Block.{header, width_of, is_schema, is_stype, is_stype_in};
 ghost use Rattle.block_format.specs.Fields.{unless, end_of, fields_with};
 ghost use Rattle.block.specs.Parts.{Fixed, OfHeader, refusal_of};
 
-use block_format::{Fields, Optional};
+use block_format::Fields;
 use metadata_lengths::MetadataLengths;
-use padded::Padded;
+use padded::Fault;
 use refusal::Refusal;
 
-// The refusal of a header; its number is 0 where there is none.
-pub(crate) fn check_header(block: &[u8], v: MetadataLengths) -> Refusal
+// Whether a header is accepted.
+pub(crate) fn check_header(block: &[u8], v: MetadataLengths) -> Result<(), Refusal>
     requires { Fixed v block.now }
     ensures { result ≡ refusal_of ((header v).codec.parse 0 block.now 0) }
 {
     let end = v.dataset_cstr_len;
     match padded::check_padded(&block[0..end]) {
-        Padded::Fine => {}
-        Padded::NotUtf8 => return refused(refusal::DATASET_NOT_UTF8, 0),
-        Padded::AfterNul => return refused(refusal::DATASET_AFTER_NUL, 0),
+        Ok(()) => {}
+        Err(Fault::NotUtf8) => return refusal::refuse(refusal::DATASET_NOT_UTF8, 0),
+        Err(Fault::AfterNul) => return refusal::refuse(refusal::DATASET_AFTER_NUL, 0),
     }
     if !is_schema(half(block, end)) {
-        return refused(refusal::SCHEMA, end);
+        return refusal::refuse(refusal::SCHEMA, end);
     }
     let at = end + 26 + v.record_count_len;
     if !is_stype_in(block[at]) {
-        return refused(refusal::STYPE_IN, at);
+        return refusal::refuse(refusal::STYPE_IN, at);
     }
     if !is_stype(block[at + 1]) {
-        return refused(refusal::STYPE_OUT, at + 1);
+        return refusal::refuse(refusal::STYPE_OUT, at + 1);
     }
-    refused(0, 0)
-}
-
-// The refusal by a number at a place.
-fn refused(number: u32, place: usize) -> Refusal
-    ensures { result ≡ refusal number place }
-{
-    Refusal { number, place }
+    Ok(())
 }
 
 // The symbol width of an accepted header.
@@ -90,10 +83,7 @@ pub(crate) fn fields_of(
 fn is_schema(n: u64) -> bool
     ensures { result ≡ is_schema n }
 {
-    if n <= 19 {
-        return true;
-    }
-    n == 65535
+    n <= 19 || n == 65535
 }
 
 // Whether a stype's code is accepted.
@@ -107,29 +97,20 @@ fn is_stype(n: u8) -> bool
 fn is_stype_in(n: u8) -> bool
     ensures { result ≡ is_stype_in n }
 {
-    if n <= 12 {
-        return true;
-    }
-    n == 255
+    n <= 12 || n == 255
 }
 
-fn present_unless(absent: bool, n: u64) -> Optional
+fn present_unless(absent: bool, n: u64) -> Option<u64>
     ensures { result ≡ unless absent n }
 {
-    if absent {
-        return Optional::Absent;
-    }
-    Optional::Present(n)
+    if absent { None } else { Some(n) }
 }
 
 // The end, which 0 and the largest number leave out.
-fn end_of(n: u64) -> Optional
+fn end_of(n: u64) -> Option<u64>
     ensures { result ≡ end_of n }
 {
-    if n == 0 {
-        return Optional::Absent;
-    }
-    present_unless(n == 18446744073709551615, n)
+    present_unless(n == 0 || n == u64::MAX, n)
 }
 
 // The u64 at `at`.

@@ -2,11 +2,12 @@
 ghost use Rattle.std.specs.Prelude.{◌≡◌, ◌+◌, ◌-◌, ◌≤◌, length, take, drop};
 ghost use Rattle.block.specs.Parts.{in_block, span_at, SpanInside, section_at, layout_table, LayoutReads, SymbologyReads};
 
-use super::{LayoutFound, Span, header};
+use super::LayoutFound;
 use refusal::{
-    LAYOUT_LENGTH_MISSING, LAYOUT_PAST_END, Refusal, SYMBOLOGY_LENGTH_MISSING, SYMBOLOGY_PAST_END,
+    LAYOUT_BELOW_4, LAYOUT_LENGTH_MISSING, LAYOUT_PAST_END, NO_LAYOUT, Refusal,
+    SYMBOLOGY_LENGTH_MISSING, SYMBOLOGY_PAST_END,
 };
-use symbology::SectionAnswer;
+use symbology::Section;
 
 // The layout part at byte 100: read and ruled on in version 4, empty below.
 pub(crate) fn layout_part(
@@ -14,38 +15,28 @@ pub(crate) fn layout_part(
     has_layout: bool,
     width: u16,
     sheet: &[u16; 520],
-) -> LayoutFound
+) -> Result<LayoutFound, Refusal>
     requires { (100 ≤ length block.now) × (length block.now ≤ 4294967295) }
     ensures { LayoutReads has_layout sheet.now width block.now result }
 {
-    match span_at(block, 100, LAYOUT_LENGTH_MISSING, LAYOUT_PAST_END) {
-        Span::Part { start, len } => {
-            let end = start + len;
-            if has_layout {
-                if len == 0 {
-                    let number = refusal::NO_LAYOUT;
-                    return LayoutFound::Refused(Refusal { number, place: 100 });
-                }
-                let part = &block[start..end];
-                match engines::check_layout(part, width, sheet) {
-                    layout::Verdict::Accepted { version, rows } => {
-                        LayoutFound::Accepted { version, rows, end }
-                    }
-                    layout::Verdict::Refused(why) => LayoutFound::Refused(in_block(why, start)),
-                }
-            } else {
-                if len == 0 {
-                    return LayoutFound::Accepted {
-                        version: 0,
-                        rows: 0,
-                        end,
-                    };
-                }
-                let number = refusal::LAYOUT_BELOW_4;
-                LayoutFound::Refused(Refusal { number, place: 100 })
-            }
+    let (start, len) = span_at(block, 100, LAYOUT_LENGTH_MISSING, LAYOUT_PAST_END)?;
+    let end = start + len;
+    if !has_layout {
+        if len == 0 {
+            return Ok(LayoutFound {
+                version: 0,
+                rows: 0,
+                end,
+            });
         }
-        Span::Refused(why) => LayoutFound::Refused(why),
+        return refusal::refuse(LAYOUT_BELOW_4, 100);
+    }
+    if len == 0 {
+        return refusal::refuse(NO_LAYOUT, 100);
+    }
+    match engines::check_layout(&block[start..end], width, sheet) {
+        Ok(layout::Accepted { version, rows }) => Ok(LayoutFound { version, rows, end }),
+        Err(why) => Err(in_block(why, start)),
     }
 }
 
@@ -71,24 +62,16 @@ pub(crate) fn symbology_part(
     width: u16,
     write: bool,
     table: &mut [u32],
-) -> SectionAnswer
+) -> Result<Section, Refusal>
     requires { (at ≤ length block.now) × (length block.now ≤ 4294967295) }
     ensures { SymbologyReads has_layout write width block.now at table.old table.new result }
 {
-    match section_at(block, at, has_layout) {
-        Span::Part { start, len } => {
-            let end = start + len;
-            let part = &block[start..end];
-            match symbology::read_section_rows(part, start, width, has_layout, write, table) {
-                SectionAnswer::Read { rows, next } => SectionAnswer::Read { rows, next },
-                SectionAnswer::Counted(rows) => SectionAnswer::Counted(rows),
-                SectionAnswer::Refused(why) => SectionAnswer::Refused(Refusal {
-                    number: why.number,
-                    place: start + why.place,
-                }),
-            }
-        }
-        Span::Refused(why) => SectionAnswer::Refused(why),
+    let (start, len) = section_at(block, at, has_layout)?;
+    let end = start + len;
+    let part = &block[start..end];
+    match symbology::read_section_rows(part, start, width, has_layout, write, table) {
+        Ok(section) => Ok(section),
+        Err(why) => refusal::refuse(why.number, start + why.place),
     }
 }
 
@@ -100,42 +83,33 @@ pub(crate) fn put_layout(block: &[u8], has_layout: bool, end: usize, table: &mut
     if has_layout {
         let start = 104;
         let part = &block[start..end];
-        layout::read_layout_rows(part, true, table);
+        let _ = layout::read_layout_rows(part, true, table);
     }
 }
 
 // The bytes of the symbology from `at` on: a section in version 4, the rest below.
-fn section_at(block: &[u8], at: usize, has_layout: bool) -> Span
+fn section_at(block: &[u8], at: usize, has_layout: bool) -> Result<(usize, usize), Refusal>
     requires { at ≤ length block.now }
     ensures { (result ≡ section_at has_layout block.now at) × SpanInside block.now at result }
 {
     if has_layout {
         return span_at(block, at, SYMBOLOGY_LENGTH_MISSING, SYMBOLOGY_PAST_END);
     }
-    Span::Part {
-        start: at,
-        len: block.len() - at,
-    }
+    Ok((at, block.len() - at))
 }
 
 // Where the bytes stand that a u32 length at `at` announces; `missing` where there is no length, `past` where they run past the end.
-fn span_at(block: &[u8], at: usize, missing: u32, past: u32) -> Span
+fn span_at(block: &[u8], at: usize, missing: u32, past: u32) -> Result<(usize, usize), Refusal>
     requires { at ≤ length block.now }
     ensures { (result ≡ span_at missing past block.now at) × SpanInside block.now (at + 4) result }
 {
     if block.len() - at < 4 {
-        return Span::Refused(Refusal {
-            number: missing,
-            place: at,
-        });
+        return refusal::refuse(missing, at);
     }
     let start = at + 4;
     let len = filled_numbers::u32_of(block, at);
     if block.len() - start < len {
-        return Span::Refused(Refusal {
-            number: past,
-            place: start,
-        });
+        return refusal::refuse(past, start);
     }
-    Span::Part { start, len }
+    Ok((start, len))
 }

@@ -1,5 +1,5 @@
 -- Document 01's P10 and P11, computed: version 2, width 3, all else before the lists zero, a block of 123 bytes. Assumes nothing.
-use Rattle.std.specs.Prelude.{ℕ, false, ◌≡◌, refl, List, [], ◌∷◌, ◌++◌, replicate}
+use Rattle.std.specs.Prelude.{ℕ, false, ◌≡◌, refl, List, [], ◌∷◌, ◌++◌, replicate, Some, None}
 use Rattle.codec.specs.Codec.{ok, refuse, refusal, raw, skip, num, ◌then◌, ◌on◌, named, checked, placed, sized, limited, asks, whole, remainder}
 use Rattle.text.specs.Utf8.{utf8}
 use Rattle.symbology_format.specs.Symbology.{symbol, date, list, interval, mapping, symbology}
@@ -10,7 +10,6 @@ use Rattle.block_format.specs.Block.{header, layout_part, symbology_part, block,
 use Rattle.block_format.specs.Fields.{fields_with, fields_of}
 use Rattle.block_format.proofs.ReadLaws.{given}
 use Rattle.block_format.specs.declared.Fields.{Fields}
-use Rattle.block_format.specs.declared.Optional.TheVariants.{Absent, Present}
 
 -- the block, with the one symbol t
 abbrev pub listed : List ℕ → List ℕ
@@ -20,11 +19,11 @@ listed t = replicate 45 0 ++ (3 ∷ 0 ∷ []) ++ replicate 53 0 ++ replicate 4 0
 abbrev pub zero_fields : ℕ → ℕ → Fields
 zero_fields width n = record {
   dataset_len = 0;
-  schema = Present 0;
+  schema = Some 0;
   start = 0;
-  end = Absent;
-  limit = Absent;
-  stype_in = Present 0;
+  end = None;
+  limit = None;
+  stype_in = Some 0;
   stype_out = 0;
   ts_out = false;
   symbol_cstr_len = width;

@@ -1,5 +1,6 @@
 -- What an accepted block gives where both tables are long enough, and reading a block again. Assumes nothing.
-use Rattle.std.specs.Prelude.{ℕ, ◌*◌, ◌/◌, ◌≤◌, Bool, true, false, ◌&&◌, ◌≡◌, refl, List, ◌++◌, length, drop}
+use Rattle.block_format.specs.declared.ReadError.{ReadError}
+use Rattle.std.specs.Prelude.{ℕ, ◌*◌, ◌/◌, ◌≤◌, Bool, true, false, ◌&&◌, ◌≡◌, refl, List, ◌++◌, length, drop, Result, Ok, Err}
 use Rattle.std.proofs.Common.{arith, sym, ap, ◌∙◌, length-append, length-drop, leb-true, le-leb}
 use Rattle.std.proofs.Math.Seq.{drop-append_seam}
 use Rattle.refusal.specs.declared.Refusal.{Refusal}
@@ -14,19 +15,17 @@ use Rattle.block_format.specs.Block.{Block, block_of}
 use Rattle.block_format.specs.Fields.{fields_of}
 use Rattle.metadata_lengths.specs.declared.MetadataLengths.{MetadataLengths}
 use Rattle.block_format.specs.declared.Fields.{Fields}
-use Rattle.block_format.specs.declared.BlockAnswer.{BlockAnswer}
-use Rattle.block_format.specs.declared.BlockAnswer.TheVariants.{Read, Refused}
 use Rattle.block_format.specs.Read.{sixes, nines, roomy, answer_of, over, symbology_after, layout_after, block_answer, block_symbology, block_layout, Promise}
 
 -- ---- tables that are long enough
 
 -- an accepted block whose rows the tables hold: its fields, the symbology's rows by column, and the layout's over the front of its table
-pub record Held (v : ℕ) (z : Block) (s l : List ℕ) (r : BlockAnswer) (s' l' : List ℕ) : Type 0 where
-  pub answer : r ≡ Read (fields_of (lengths v) z)
+pub record Held (v : ℕ) (z : Block) (s l : List ℕ) (r : Result Fields ReadError) (s' l' : List ℕ) : Type 0 where
+  pub answer : r ≡ Ok (fields_of (lengths v) z)
   pub symbology : s' ≡ columns 6 (sixes z) s
   pub layout : l' ≡ over (nines z) 9 l
 
-pub held : {v : ℕ} {b t s l : List ℕ} {r : BlockAnswer} {s' l' : List ℕ} (z : Block × List ℕ) (k : ℕ) → Promise v b t s l r s' l' → block_of v t b ≡ ok z k
+pub held : {v : ℕ} {b t s l : List ℕ} {r : Result Fields ReadError} {s' l' : List ℕ} (z : Block × List ℕ) (k : ℕ) → Promise v b t s l r s' l' → block_of v t b ≡ ok z k
     → length (sixes z.0) ≤ length s / 6 → length (nines z.0) ≤ length l / 9 → Held v z.0 s l r s' l'
 unfolding block_answer block_symbology block_layout answer_of symbology_after layout_after
 held {s = s} {l = l} z k p e m n =
@@ -44,11 +43,11 @@ given v t b = gist (lengths v) (block_of v t b)
 
 -- both tables are long enough: the fields are answered, the rows stand in the tables, the rest of them is as it was
 pub read-given : (v : ℕ) (b t s l : List ℕ) (f : Fields) (six nine : List (List ℕ)) (k : ℕ) → given v t b ≡ ok (f, (six, nine)) k
-    → length six ≤ length s / 6 → length nine ≤ length l / 9 → Promise v b t s l (Read f) (columns 6 six s) (over nine 9 l)
+    → length six ≤ length s / 6 → length nine ≤ length l / 9 → Promise v b t s l (Ok f) (columns 6 six s) (over nine 9 l)
 read-given v b t s l f six nine k e hs hl = go (block_of v t b) refl e
   where
     go : (r : Res (Block × List ℕ)) → block_of v t b ≡ r → gist (lengths v) r ≡ ok (f, (six, nine)) k
-        → Promise v b t s l (Read f) (columns 6 six s) (over nine 9 l)
+        → Promise v b t s l (Ok f) (columns 6 six s) (over nine 9 l)
     go (refuse n) q e = absurd (let y : ◌≡◌ {A = ℕ} 0 1 = cc in omega arith)
     go (ok z j) q e =
         let x : ◌≡◌ {A = Fields × (List (List ℕ) × List (List ℕ))} (fields_of (lengths v) z.0, (sixes z.0, nines z.0)) (f, (six, nine)) = cc in
@@ -59,13 +58,13 @@ read-given v b t s l f six nine k e hs hl = go (block_of v t b) refl e
         let p : Promise v b t s l (block_answer v b t s l) (block_symbology v b t s l) (block_layout v b t s l) = record { answer = refl; symbology = refl; layout = refl } in
         let h = held z j p q h6 h9 in
         record {
-          answer = sym (h.answer ∙ ap (λ y. Read y.0) x);
+          answer = sym (h.answer ∙ ap (λ y. Ok y.0) x);
           symbology = sym (h.symbology ∙ ap (λ (rs : List (List ℕ)). columns 6 rs s) e6);
           layout = sym (h.layout ∙ ap (λ (rs : List (List ℕ)). over rs 9 l) e9);
         }
 
 -- a refused block leaves both tables
-pub refused-given : (v : ℕ) (b t s l : List ℕ) {k : Refusal} → block_of v t b ≡ refuse k → Promise v b t s l (Refused k) s l
+pub refused-given : (v : ℕ) (b t s l : List ℕ) {k : Refusal} → block_of v t b ≡ refuse k → Promise v b t s l (Err (ReadError.Refused k)) s l
 unfolding block_answer block_symbology block_layout answer_of symbology_after layout_after
 refused-given v b t s l e = record { answer = rw e; symbology = rw e; layout = rw e }
 

@@ -1,6 +1,7 @@
 -- Which numbers a block gives, and where.
 -- Assumes nothing.
-use Rattle.std.specs.Prelude.{ℕ, ◌≤◌, ◌≡◌, refl, ◌⊎◌, Bool, true, false, cond, List, ◌∷◌, length, leb}
+use Rattle.block_format.specs.declared.ReadError.{ReadError}
+use Rattle.std.specs.Prelude.{ℕ, ◌≤◌, ◌≡◌, refl, ◌⊎◌, Bool, true, false, cond, List, ◌∷◌, length, leb, Ok, Err}
 use Rattle.std.proofs.Common.{zero-le, arith, sym, ap, subst, inl, inr}
 use Rattle.refusal.specs.declared.Refusal.{Refusal}
 use Rattle.codec.specs.Codec.{Res, ok, refuse, refusal, ◌>>=◌, need, whole}
@@ -23,7 +24,6 @@ use Rattle.block_format.specs.Block.{Block, header, layout_part, symbology_part,
 use Rattle.block_format.specs.Fields.{fields_of}
 use Rattle.block_format.specs.Read.{sixes, nines, roomy, body_numbers, block_numbers, answer_of, block_answer, Promise}
 use Rattle.metadata_lengths.specs.declared.MetadataLengths.{MetadataLengths}
-use Rattle.block_format.specs.declared.BlockAnswer.TheVariants.{Read, Refused, Short}
 
 -- the numbers of a block of a version that there is
 abbrev P : ℕ → Type 0
@@ -85,35 +85,35 @@ block_within version sheet b {k} e = go (is_version version) e
     go true e =
         inr (within-is (size (leb 100 (length b)) _ (size (leb (length b) 4294967295) _ (within-whole (block sheet (lengths version)).codec (block sheet (lengths version)).inside 0 b))) e)
 
-answer-refused : (v : MetadataLengths) (r : Res (Block × List ℕ)) (m n : ℕ) {k : Refusal} → Refused k ≡ answer_of v r m n → r ≡ refuse k
+answer-refused : (v : MetadataLengths) (r : Res (Block × List ℕ)) (m n : ℕ) {k : Refusal} → Err (ReadError.Refused k) ≡ answer_of v r m n → r ≡ refuse k
 unfolding answer_of
 answer-refused v (ok z j) m n {k} e = absurd (go (roomy z.0 m n) e)
   where
-    go : (b : Bool) → Refused k ≡ cond b (Read (fields_of v z.0)) (Short (length (sixes z.0)) (length (nines z.0))) → ⊥
+    go : (b : Bool) → Err (ReadError.Refused k) ≡ cond b (Ok (fields_of v z.0)) (Err (ReadError.Short (length (sixes z.0)) (length (nines z.0)))) → ⊥
     go true e = let z : ◌≡◌ {A = ℕ} 0 1 = cc in omega arith
     go false e = let z : ◌≡◌ {A = ℕ} 0 1 = cc in omega arith
 answer-refused v (refuse j) m n {k} e = let q : j ≡ k = cc in ap refuse q
 
 module _ (v : ℕ) (b t s l : List ℕ) {k : Refusal} where
-  pub answer-refuses : Refused k ≡ block_answer v b t s l → In block_numbers k.number
+  pub answer-refuses : Err (ReadError.Refused k) ≡ block_answer v b t s l → In block_numbers k.number
   unfolding block_answer
   answer-refuses e = gives_is (In block_numbers) (block_gives v t b) (answer-refused (lengths v) (block_of v t b) (length s) (length l) e)
 
   -- a block of a version that there is is never refused by 11
-  pub answer-body : is_version v ≡ true → Refused k ≡ block_answer v b t s l → In (13 ∷ body_numbers) k.number
+  pub answer-body : is_version v ≡ true → Err (ReadError.Refused k) ≡ block_answer v b t s l → In (13 ∷ body_numbers) k.number
   unfolding block_answer
   answer-body h e = gives_is P (body_gives v t b h) (answer-refused (lengths v) (block_of v t b) (length s) (length l) e)
 
   -- and where
-  pub answer-within : Refused k ≡ block_answer v b t s l → (k ≡ refusal 11 3) ⊎ (k.place ≤ length b)
+  pub answer-within : Err (ReadError.Refused k) ≡ block_answer v b t s l → (k ≡ refusal 11 3) ⊎ (k.place ≤ length b)
   unfolding block_answer
   answer-within e = block_within v t b (answer-refused (lengths v) (block_of v t b) (length s) (length l) e)
 
   -- whatever tables are lent: the same number at the same place
-  pub refused_anyway : Refused k ≡ block_answer v b t s l → (s₂ l₂ : List ℕ) → block_answer v b t s₂ l₂ ≡ Refused k
+  pub refused_anyway : Err (ReadError.Refused k) ≡ block_answer v b t s l → (s₂ l₂ : List ℕ) → block_answer v b t s₂ l₂ ≡ Err (ReadError.Refused k)
   unfolding block_answer answer_of
   refused_anyway e s₂ l₂ = rw (answer-refused (lengths v) (block_of v t b) (length s) (length l) e)
 
   -- what the reader's answer refuses with
-  pub block-refuses : (s' l' : List ℕ) → Promise v b t s l (Refused k) s' l' → In block_numbers k.number
+  pub block-refuses : (s' l' : List ℕ) → Promise v b t s l (Err (ReadError.Refused k)) s' l' → In block_numbers k.number
   block-refuses s' l' p = answer-refuses p.answer

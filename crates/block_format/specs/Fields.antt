@@ -1,29 +1,27 @@
 -- What an accepted block gives besides its rows. Assumes nothing.
-use Rattle.std.specs.Prelude.{ℕ, Bool, true, false, not, ◌||◌, length, eqb}
+use Rattle.std.specs.Prelude.{ℕ, Bool, true, false, not, ◌||◌, length, eqb, Some, None, Option}
 use Rattle.text.specs.Trim.{trimmed_len}
 use Rattle.layout.specs.Rows.{rows}
 use Rattle.symbology_format.specs.SymbologyRows.{symbology_rows}
 use Rattle.block_format.specs.Block.{Header, Block, width_of}
 use Rattle.metadata_lengths.specs.declared.MetadataLengths.{MetadataLengths}
 use Rattle.block_format.specs.declared.Fields.{Fields}
-use Rattle.block_format.specs.declared.Optional.{Optional}
-use Rattle.block_format.specs.declared.Optional.TheVariants.{Absent, Present}
 
-abbrev pub unless : Bool → ℕ → Optional
-unless true n = Absent
-unless false n = Present n
+abbrev pub unless : Bool → ℕ → Option ℕ
+unless true n = None
+unless false n = Some n
 
--- Absent: schema 65535, stype_in 255, limit 0, end 0 or 2^64-1
-abbrev pub schema_of : ℕ → Optional
+-- None: schema 65535, stype_in 255, limit 0, end 0 or 2^64-1
+abbrev pub schema_of : ℕ → Option ℕ
 schema_of n = unless (eqb n 65535) n
 
-abbrev pub stype_in_of : ℕ → Optional
+abbrev pub stype_in_of : ℕ → Option ℕ
 stype_in_of n = unless (eqb n 255) n
 
-abbrev pub limit_of : ℕ → Optional
+abbrev pub limit_of : ℕ → Option ℕ
 limit_of n = unless (eqb n 0) n
 
-abbrev pub end_of : ℕ → Optional
+abbrev pub end_of : ℕ → Option ℕ
 end_of n = unless (eqb n 0 || eqb n 18446744073709551615) n
 
 -- ts_out is true for any nonzero byte

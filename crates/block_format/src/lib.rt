@@ -1,24 +1,20 @@
 // The block of versions 1 to 4: its format, what it gives, and their laws, in specs/. Of code there are the types alone.
 #![tactic(auto)]
 
-use refusal::Refusal;
+ghost use Rattle.std.specs.Prelude.{◌≡◌};
+ghost use Rattle.block_format.specs.declared.ReadError.{ReadError};
 
-// What may be absent.
-#[derive(Clone, Copy)]
-pub enum Optional {
-    Absent,
-    Present(u64),
-}
+use refusal::Refusal;
 
 // What an accepted block says besides its rows.
 #[derive(Clone, Copy)]
 pub struct Fields {
     pub dataset_len: usize,
-    pub schema: Optional,
+    pub schema: Option<u64>,
     pub start: u64,
-    pub end: Optional,
-    pub limit: Optional,
-    pub stype_in: Optional,
+    pub end: Option<u64>,
+    pub limit: Option<u64>,
+    pub stype_in: Option<u64>,
     pub stype_out: u8,
     pub ts_out: bool,
     pub symbol_cstr_len: usize,
@@ -27,10 +23,17 @@ pub struct Fields {
     pub layout_rows: usize,
 }
 
-// The fields of a block whose rows are written; the refusal; or the rows that both tables need.
+// Why a block isn't read: it is refused, or a table is short, with the rows that both need.
 #[derive(Clone, Copy)]
-pub enum BlockAnswer {
-    Read(Fields),
+pub enum ReadError {
     Refused(Refusal),
     Short { symbology: usize, layout: usize },
+}
+
+impl From<Refusal> for ReadError {
+    ghost from_gives = { λ e r. r ≡ ReadError.Refused e };
+
+    fn from(e: Refusal) -> ReadError {
+        ReadError::Refused(e)
+    }
 }

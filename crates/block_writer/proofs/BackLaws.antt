@@ -1,6 +1,7 @@
 -- What the block writer accepts, and that it reads back: the prelude, the fields, the rows, starts apart, and the names that were given.
 -- Assumes nothing.
-use Rattle.std.specs.Prelude.{ℕ, zero, suc, ◌+◌, ◌/◌, ◌≤◌, Bool, ◌&&◌, take, drop, ltb}
+use Rattle.block_format.specs.declared.ReadError.{ReadError}
+use Rattle.std.specs.Prelude.{ℕ, zero, suc, ◌+◌, ◌/◌, ◌≤◌, Bool, ◌&&◌, take, drop, ltb, Some, None, Option, Result, Ok}
 use native.Mathlib.Omega.{arith}
 use Rattle.std.proofs.Math.Path.{◌≡◌, refl, sym, ap}
 use Rattle.std.proofs.Common.{◌∙◌, subst, take_at}
@@ -48,16 +49,12 @@ use Rattle.block_format.specs.Read.{sixes, nines, over, Promise}
 use Rattle.block_format.proofs.ReadLaws.{held}
 use Rattle.metadata_lengths.specs.declared.MetadataLengths.{MetadataLengths}
 use Rattle.block_format.specs.declared.Fields.{Fields}
-use Rattle.block_format.specs.declared.Optional.{Optional}
-use Rattle.block_format.specs.declared.Optional.TheVariants.{Absent, Present}
-use Rattle.block_format.specs.declared.BlockAnswer.{BlockAnswer}
-use Rattle.block_format.specs.declared.BlockAnswer.TheVariants.{Read}
 use Rattle.columns_check.specs.Tree.{filled, symbology_of}
 use Rattle.columns_check.specs.FilledLaws.{filled-length, filled-trimmed, filled-back}
 use Rattle.columns_check.specs.BackLaws.{rows_at, texts_at, rows-length, rows_back, rows-count, texts-back}
 use Rattle.writer.specs.Write.{out_after}
 use Rattle.writer.proofs.RoundTripLaws.{out_written}
-use Rattle.writer.specs.declared.Written.TheVariants.{Length, Refused}
+use Rattle.std.specs.Prelude.{Ok, Err}
 use Rattle.header_bytes.specs.Numbers.{dataset_len, schema, start, end, limit, stype_in, stype_out, ts_out, width, layout_version, has}
 use Rattle.block_writer.specs.Fields.{dataset_text, option_fits}
 use Rattle.header_bytes.specs.Header.{header_of}
@@ -78,17 +75,17 @@ module _ (sheet : List ℕ) (version : ℕ) (fs t : List ℕ) (n : ℕ) (rows te
 
   -- what no number refuses is written where there is room
   pub accepts : (room : ℕ) → write_fault sheet version fs t n rows text ≡ 0 → length (start_bytes sheet version fs t n rows text) ≤ room
-      → write_block sheet version fs t n rows text room ≡ Length (length (start_bytes sheet version fs t n rows text))
+      → write_block sheet version fs t n rows text room ≡ Ok (length (start_bytes sheet version fs t n rows text))
   unfolding write_block
   accepts room e h = rw (e, le-leb (length (start_bytes sheet version fs t n rows text)) room h)
 
   -- and nothing else
-  pub accepted : (room k : ℕ) → write_block sheet version fs t n rows text room ≡ Length k → Accepts room k
+  pub accepted : (room k : ℕ) → write_block sheet version fs t n rows text room ≡ Ok k → Accepts room k
   unfolding write_block
   accepted room k e = go (eqb 0 (write_fault sheet version fs t n rows text)) refl (leb (length (start_bytes sheet version fs t n rows text)) room) refl e
     where
       go : (b : Bool) → eqb 0 (write_fault sheet version fs t n rows text) ≡ b → (c : Bool) → leb (length (start_bytes sheet version fs t n rows text)) room ≡ c
-          → cond b (cond c (Length (length (start_bytes sheet version fs t n rows text))) (Refused (refusal 112 0))) (Refused (refusal (write_fault sheet version fs t n rows text) 0)) ≡ Length k
+          → cond b (cond c (Ok (length (start_bytes sheet version fs t n rows text))) (Err (refusal 112 0))) (Err (refusal (write_fault sheet version fs t n rows text) 0)) ≡ Ok k
           → Accepts room k
       go true y true z e =
           let m : k ≡ length (start_bytes sheet version fs t n rows text) = cc in
@@ -125,8 +122,8 @@ module _ (sheet : List ℕ) (version : ℕ) (fs t : List ℕ) (n : ℕ) (rows te
 -- ---- the fields
 
 -- a value that is there, or none
-abbrev pub given : Bool → ℕ → Optional
-given here x = cond here (Present x) Absent
+abbrev pub given : Bool → ℕ → Option ℕ
+given here x = cond here (Some x) None
 
 -- the fields that the numbers say, as a reader gives them, with the counts of rows
 unfoldable pub fields_given : List ℕ → ℕ → ℕ → Fields
@@ -253,7 +250,7 @@ module _ (sheet : List ℕ) (version : ℕ) (fs t : List ℕ) (n : ℕ) (rows te
 
   pub record ReadsBack : Type 0 where
     -- the prelude says the version and the block's length
-    pub prelude : prelude_of (start_bytes sheet version fs t n rows text) ≡ Whole version (length bytes)
+    pub prelude : prelude_of (start_bytes sheet version fs t n rows text) ≡ Ok (Whole version (length bytes))
     -- the block's bytes are read as the block, and none follow it
     pub accepted : block_of version sheet bytes ≡ ok (written_block, []) (length bytes)
     -- the fields and the rows are those given, starts apart
@@ -309,7 +306,7 @@ module _ (sheet : List ℕ) (version : ℕ) (fs t : List ℕ) (n : ℕ) (rows te
     unfolding block_bytes
     read = let told = block-told version sheet tree (block_shaped p.ready rows small octets p.whole) in told.fine (sym told.number ∙ p.read)
 
-    prelude-read : prelude_of (start_bytes sheet version fs t n rows text) ≡ Whole version (length bytes)
+    prelude-read : prelude_of (start_bytes sheet version fs t n rows text) ≡ Ok (Whole version (length bytes))
     unfolding start_bytes prelude_bytes
     prelude-read = prelude-back (record { version = version; len = length bytes }) bytes p.ready.known (omega (arith, block-bytes-length p.ready sheet rows small octets)) parts-fine.0
 
@@ -412,7 +409,7 @@ module _ (sheet : List ℕ) (version : ℕ) (fs t : List ℕ) (n : ℕ) (rows te
       names = by_bool v.has_layout names_with names_without;
     }
 
-  module _ (room k : ℕ) (small : Small fs) (octets : Bytes text) (e : write_block sheet version fs t n rows text room ≡ Length k) where
+  module _ (room k : ℕ) (small : Small fs) (octets : Bytes text) (e : write_block sheet version fs t n rows text room ≡ Ok k) where
     -- THE ROUND TRIP: what is written reads back
     pub reads-back : ReadsBack
     reads-back = back small octets (accepted sheet version fs t n rows text room k e).none
@@ -428,12 +425,12 @@ module _ (sheet : List ℕ) (version : ℕ) (fs t : List ℕ) (n : ℕ) (rows te
   -- ---- over the promises of write_block and read_block
 
   -- what reading the written block into the tables s and l answers and leaves: the fields given, and the rows of the block
-  pub record ReadBack (s l s' l' : List ℕ) (r : BlockAnswer) : Type 0 where
-    pub answer : r ≡ Read (fields_given fs n (length (rows_in rows)))
+  pub record ReadBack (s l s' l' : List ℕ) (r : Result Fields ReadError) : Type 0 where
+    pub answer : r ≡ Ok (fields_given fs n (length (rows_in rows)))
     pub symbology : s' ≡ columns 6 (sixes written_block) s
     pub layout : l' ≡ over (nines written_block) 9 l
 
-  module _ (out out' : List ℕ) (k : ℕ) (w : WritesBlock sheet version fs t n rows text out out' (Length k)) where
+  module _ (out out' : List ℕ) (k : ℕ) (w : WritesBlock sheet version fs t n rows text out out' (Ok k)) where
     pub length-is : k ≡ length (start_bytes sheet version fs t n rows text)
     length-is = (accepted sheet version fs t n rows text (length out) k (sym w.is)).count
 
@@ -455,11 +452,11 @@ module _ (sheet : List ℕ) (version : ℕ) (fs t : List ℕ) (n : ℕ) (rows te
     block-is = ap (drop 8) written_is ∙ drop_at (prelude_bytes version (length bytes)) bytes 8 (prelude-length version (length bytes))
 
     -- what is written reads back into tables that hold the rows
-    pub round_trip_read : Small fs → Bytes text → (s l s' l' : List ℕ) (r : BlockAnswer) → n ≤ length s / 6 → length (rows_in rows) ≤ length l / 9
+    pub round_trip_read : Small fs → Bytes text → (s l s' l' : List ℕ) (r : Result Fields ReadError) → n ≤ length s / 6 → length (rows_in rows) ≤ length l / 9
         → Promise version (drop 8 (take k out')) sheet s l r s' l' → ReadBack s l s' l' r
     round_trip_read small octets s l s' l' r a b p =
         let z = reads-back (length out) k small octets (sym w.is) in
         let m : length (sixes written_block) ≡ n = sym (length-map (sixes written_block) no_start6) ∙ ap length z.same_sixes ∙ length-map (rows_at t 0 n) no_start6 ∙ rows-length t 0 n in
         let o : length (nines written_block) ≡ length (rows_in rows) = sym (length-map (nines written_block) no_start) ∙ ap length z.same_nines ∙ length-map (rows_in rows) no_start in
         let h = held (written_block, []) (length bytes) (subst (λ u. Promise version u sheet s l r s' l') block-is p) z.accepted (omega arith) (omega arith) in
-        record { answer = h.answer ∙ ap Read z.same_fields; symbology = h.symbology; layout = h.layout }
+        record { answer = h.answer ∙ ap Ok z.same_fields; symbology = h.symbology; layout = h.layout }

@@ -19,7 +19,7 @@ use Rattle.block_format.proofs.RefusalLaws.{block_gives}
 use Rattle.writer.specs.Write.{out_after}
 use Rattle.writer.proofs.RoundTripLaws.{out-refused}
 use Rattle.writer.proofs.RefusalLaws.{Placeless, judged-refuses, room-refuses}
-use Rattle.writer.specs.declared.Written.TheVariants.{Length, Refused}
+use Rattle.std.specs.Prelude.{Ok, Err}
 use Rattle.block_writer.specs.Tree.{block_bytes}
 use Rattle.block_writer.specs.Write.{formed, slim, start_bytes, write_fault, write_block, WritesBlock}
 
@@ -54,16 +54,16 @@ module _ (sheet : List ℕ) (version : ℕ) (fs t : List ℕ) (n : ℕ) (rows te
       (first-fault (fault true rows text) (fault_of r) (λ z. in_more row_numbers start_numbers refl (fault true rows text) (check_fault true rows text z))
       (read-fault r (gives_more (In block_numbers) P (in_more block_numbers start_numbers refl) r (block_gives version sheet (block_bytes sheet version fs t n rows text)))))))
 
-  answer_placeless : (room : ℕ) {k : Refusal} → write_block sheet version fs t n rows text room ≡ Refused k → Placeless start_numbers k
+  answer_placeless : (room : ℕ) {k : Refusal} → write_block sheet version fs t n rows text room ≡ Err k → Placeless start_numbers k
   unfolding write_block
   answer_placeless room e =
       let m = length (start_bytes sheet version fs t n rows text) in
-      judged-refuses start_numbers (write_fault sheet version fs t n rows text) (cond (leb m room) (Length m) (Refused (refusal 112 0))) write_fault_lem (room-refuses start_numbers (leb m room) m 112 refl) e
+      judged-refuses start_numbers (write_fault sheet version fs t n rows text) (cond (leb m room) (Ok m) (Err (refusal 112 0))) write_fault_lem (room-refuses start_numbers (leb m room) m 112 refl) e
 
-  pub answer-refuses : (room : ℕ) {k : Refusal} → write_block sheet version fs t n rows text room ≡ Refused k → In start_numbers k.number
+  pub answer-refuses : (room : ℕ) {k : Refusal} → write_block sheet version fs t n rows text room ≡ Err k → In start_numbers k.number
   answer-refuses room e = (answer_placeless room e).0
 
-  module _ (out out' : List ℕ) {k : Refusal} (p : WritesBlock sheet version fs t n rows text out out' (Refused k)) where
+  module _ (out out' : List ℕ) {k : Refusal} (p : WritesBlock sheet version fs t n rows text out out' (Err k)) where
     -- what the writer's answer refuses with
     pub write_refuses : In start_numbers k.number
     write_refuses = answer-refuses (length out) (sym p.is)

@@ -1,7 +1,8 @@
 -- What storing the parts of a start, one after the other, needs and makes. Assumes nothing.
 use Rattle.std.specs.Prelude.{ℕ, ◌+◌, ◌≤◌, ◌<◌, ◌≡◌, Bool, true, List, ◌++◌, eqb}
 use Rattle.std.proofs.Common.{arith, ◌∙◌, subst}
-use Rattle.std.proofs.Math.Path.{sym, ap}
+use Rattle.std.proofs.Math.Path.{sym, ap, refl}
+use Rattle.refusal.specs.declared.Refusal.{Refusal}
 use Rattle.std.proofs.Math.ListN.{length, length-append}
 use borrow.Author.Tests.{lt-leb, ne_eqb}
 use Rattle.codec.specs.Codec.{refusal}
@@ -10,7 +11,7 @@ use Rattle.put.specs.Output.{RoomFor, Wrote}
 use Rattle.put.specs.OutputLaws.{room-front, wrote-filled}
 use Rattle.writer.specs.Write.{out_after}
 use Rattle.writer.proofs.RoundTripLaws.{out_written, out-refused}
-use Rattle.writer.specs.declared.Written.TheVariants.{Length, Refused}
+use Rattle.std.specs.Prelude.{Ok, Err}
 use Rattle.metadata_lengths.specs.Lengths.{lengths}
 use Rattle.block_format.specs.Block.{header, layout_part, symbology_part}
 use Rattle.block_format.specs.LengthsLaws.{lengths-layout}
@@ -64,37 +65,36 @@ module _ (sheet : List ℕ) (version : ℕ) (fs t : List ℕ) (n : ℕ) (rows te
       let b = block_bytes sheet version fs t n rows text in
       length-append (prelude_bytes version (length b)) b ∙ ap (λ m. m + length b) (prelude-length version (length b))
 
-  answer-refused : (room k : ℕ) → k ≡ write_fault sheet version fs t n rows text → (k ≡ 0 → ⊥) → write_block sheet version fs t n rows text room ≡ Refused (refusal k 0)
+  answer-refused : (room k : ℕ) → k ≡ write_fault sheet version fs t n rows text → (k ≡ 0 → ⊥) → write_block sheet version fs t n rows text room ≡ Err (refusal k 0)
   unfolding write_block
-  answer-refused room k e h = rw (ne_eqb 0 (write_fault sheet version fs t n rows text) (λ j. h (e ∙ sym j))) (ap (λ m. Refused (refusal m 0)) (sym e))
+  answer-refused room k e h = rw (ne_eqb 0 (write_fault sheet version fs t n rows text) (λ j. h (e ∙ sym j))) (ap (λ m. Err (refusal m 0)) (sym e))
 
-  answer-short : (room : ℕ) → write_fault sheet version fs t n rows text ≡ 0 → room < length (start_bytes sheet version fs t n rows text) → write_block sheet version fs t n rows text room ≡ Refused (refusal 112 0)
+  answer-short : (room : ℕ) → write_fault sheet version fs t n rows text ≡ 0 → room < length (start_bytes sheet version fs t n rows text) → write_block sheet version fs t n rows text room ≡ Err (refusal 112 0)
   unfolding write_block
   answer-short room e h = rw (e, lt-leb (length (start_bytes sheet version fs t n rows text)) room h)
 
   -- a refusal leaves the output
-  pub leaves-out : (out : List ℕ) {k : ℕ} → write_block sheet version fs t n rows text (length out) ≡ Refused (refusal k 0) → WritesBlock sheet version fs t n rows text out out (Refused (refusal k 0))
+  pub leaves-out : (out : List ℕ) {k : ℕ} → write_block sheet version fs t n rows text (length out) ≡ Err (refusal k 0) → WritesBlock sheet version fs t n rows text out out (Err (refusal k 0))
   leaves-out out {k} e = record { is = sym e; leaves = sym (ap (λ r. out_after r (start_bytes sheet version fs t n rows text) out) e ∙ out-refused (refusal k 0) (start_bytes sheet version fs t n rows text) out) }
 
-  module _ {p : Plan} (y : Planned sheet version fs t n rows text p) (out : List ℕ) where
-    -- by a number
-    pub refused-by : (p.number ≡ 0 → ⊥) → WritesBlock sheet version fs t n rows text out out (Refused (refusal p.number 0))
-    refused-by h = leaves-out out (answer-refused (length out) p.number y.number h)
+  -- by a number
+  pub refused-by : {e : Refusal} → Planned sheet version fs t n rows text (Err e) → (out : List ℕ) → WritesBlock sheet version fs t n rows text out out (Err e)
+  refused-by y out = rw y.told.1 (leaves-out out (answer-refused (length out) (write_fault sheet version fs t n rows text) refl y.told.0))
 
-    module _ (none : p.number ≡ 0) where
-      long : length (start_bytes sheet version fs t n rows text) ≡ 8 + p.len
-      long = start-length ∙ ap (λ m. 8 + m) (sym (y.sizes none).len)
+  module _ {p : Plan} (y : Planned sheet version fs t n rows text (Ok p)) (out : List ℕ) where
+    long : length (start_bytes sheet version fs t n rows text) ≡ 8 + p.len
+    long = start-length ∙ ap (λ m. 8 + m) (sym y.told.1.len)
 
-      -- by 112
-      pub too_short : length out < 8 + p.len → WritesBlock sheet version fs t n rows text out out (Refused (refusal 112 0))
-      too_short h = leaves-out out (answer-short (length out) (sym y.number ∙ none) (omega (arith, long)))
+    -- by 112
+    pub too_short : length out < 8 + p.len → WritesBlock sheet version fs t n rows text out out (Err (refusal 112 0))
+    too_short h = leaves-out out (answer-short (length out) y.told.0 (omega (arith, long)))
 
-      pub roomy : 8 + p.len ≤ length out → RoomFor 0 (start_bytes sheet version fs t n rows text) out
-      roomy h = room-front (omega (arith, long))
+    pub roomy : 8 + p.len ≤ length out → RoomFor 0 (start_bytes sheet version fs t n rows text) out
+    roomy h = room-front (omega (arith, long))
 
-      -- written
-      pub written_out_lem : {out' : List ℕ} {r : ℕ} → 8 + p.len ≤ length out → Wrote 0 (start_bytes sheet version fs t n rows text) out out' r → WritesBlock sheet version fs t n rows text out out' (Length (8 + p.len))
-      written_out_lem h w =
-          let s = start_bytes sheet version fs t n rows text in
-          let e : write_block sheet version fs t n rows text (length out) ≡ Length (length s) = accepts sheet version fs t n rows text (length out) (sym y.number ∙ none) (omega (arith, long)) in
-          record { is = ap Length (sym long) ∙ sym e; leaves = (wrote-filled w).bytes ∙ sym (ap (λ r. out_after r s out) e ∙ out_written (length s) s out) }
+    -- written
+    pub written_out_lem : {out' : List ℕ} {r : ℕ} → 8 + p.len ≤ length out → Wrote 0 (start_bytes sheet version fs t n rows text) out out' r → WritesBlock sheet version fs t n rows text out out' (Ok (8 + p.len))
+    written_out_lem h w =
+        let s = start_bytes sheet version fs t n rows text in
+        let e : write_block sheet version fs t n rows text (length out) ≡ Ok (length s) = accepts sheet version fs t n rows text (length out) y.told.0 (omega (arith, long)) in
+        record { is = ap Ok (sym long) ∙ sym e; leaves = (wrote-filled w).bytes ∙ sym (ap (λ r. out_after r s out) e ∙ out_written (length s) s out) }

@@ -1,11 +1,10 @@
 -- What is known of a block before a byte of it is written. Assumes nothing.
-use Rattle.std.specs.Prelude.{ℕ, ◌+◌, ◌≤◌, ◌<◌, ◌≡◌, Bool, true, List, length}
-use Rattle.text.specs.Utf8.{utf8}
-use Rattle.padded.specs.Padded.{nul_padded}
-use Rattle.dates.specs.Date.{is_date}
+use Rattle.std.specs.Prelude.{ℕ, ◌+◌, ◌≤◌, ◌<◌, ◌≡◌, Bool, true, List, length, Result}
+use Rattle.std.specs.Result.{MatchResult}
+use Rattle.refusal.specs.declared.Refusal.{Refusal}
+use Rattle.codec.specs.Codec.{refusal}
 use Rattle.prelude.specs.Prelude.{is_version}
 use Rattle.rows_check.specs.Check.{fault}
-use Rattle.symbology_format.specs.SymbologyFaults.{symbology_fault}
 use Rattle.metadata_lengths.specs.Lengths.{lengths}
 use Rattle.block_format.specs.BlockFaults.{layout_bytes, layout_fault, symbology_bytes}
 use Rattle.columns_check.specs.Tree.{kind_of, symbol_rows, partial_rows, not_found_rows, symbology_of}
@@ -22,26 +21,12 @@ pub record Ready (version : ℕ) (fs t : List ℕ) (n : ℕ) (text : List ℕ) :
   pub formed : formed version fs t n text ≡ true
   pub slim : slim version fs t n ≡ true
 
--- the plan of a symbology of `size` bytes with these counts, and a number
-abbrev pub names_plan : ℕ → ℕ → ℕ → ℕ → ℕ → ℕ → Plan
-names_plan k size a b c m = record { number = k; len = 0; layout = 0; names = size; symbols = a; partial = b; not_found = c; mappings = m }
-
--- a plan with another number, and the lengths of the block and of its layout
-abbrev pub with_lengths : ℕ → ℕ → ℕ → Plan → Plan
-with_lengths k len layout p = record { number = k; len = len; layout = layout; names = p.names; symbols = p.symbols; partial = p.partial; not_found = p.not_found; mappings = p.mappings }
-
 -- how many symbols of each list and how many mappings there are
 pub record Counts (width : ℕ) (t : List ℕ) (n : ℕ) (text : List ℕ) (p : Plan) : Type 0 where
   pub symbols : p.symbols ≡ symbol_rows t n
   pub partial : p.partial ≡ partial_rows t n
   pub not_found : p.not_found ≡ not_found_rows t n
   pub mappings : p.mappings ≡ length (symbology_of width t n text).mappings
-
--- a plan of the symbology alone: its length, and the number by which the reader would refuse it
-pub record Names (fs t : List ℕ) (n : ℕ) (text : List ℕ) (p : Plan) : Type 0 where
-  pub number : p.number ≡ symbology_fault utf8 nul_padded is_date (width fs) (symbology_of (width fs) t n text)
-  pub names : p.names ≡ length (symbology_bytes (width fs) (symbology_of (width fs) t n text))
-  pub counts : Counts (width fs) t n text p
 
 -- nothing refuses what is about to be written, and how long all is
 pub record Sizes (sheet : List ℕ) (version : ℕ) (fs t : List ℕ) (n : ℕ) (rows text : List ℕ) (p : Plan) : Type 0 where
@@ -54,10 +39,11 @@ pub record Sizes (sheet : List ℕ) (version : ℕ) (fs t : List ℕ) (n : ℕ) 
   pub names : p.names ≡ length (symbology_bytes (width fs) (symbology_of (width fs) t n text))
   pub counts : Counts (width fs) t n text p
 
--- the number that refuses to write; where it is 0, how long all is
-pub record Planned (sheet : List ℕ) (version : ℕ) (fs t : List ℕ) (n : ℕ) (rows text : List ℕ) (p : Plan) : Type 0 where
-  pub number : p.number ≡ write_fault sheet version fs t n rows text
-  pub sizes : p.number ≡ 0 → Sizes sheet version fs t n rows text p
+-- how long all is, where no number refuses to write; or the refusal by it
+pub record Planned (sheet : List ℕ) (version : ℕ) (fs t : List ℕ) (n : ℕ) (rows text : List ℕ) (r : Result Plan Refusal) : Type 0 where
+  pub told : MatchResult r
+      (λ p. (write_fault sheet version fs t n rows text ≡ 0) × Sizes sheet version fs t n rows text p)
+      (λ e. (write_fault sheet version fs t n rows text ≡ 0 → ⊥) × (e ≡ refusal (write_fault sheet version fs t n rows text) 0))
 
 -- ---- what the parts need to be stored
 

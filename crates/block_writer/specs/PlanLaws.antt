@@ -36,7 +36,7 @@ use Rattle.columns_check.specs.Tree.{symbology_of}
 use Rattle.columns_check.specs.Check.{well_formed, narrow}
 use Rattle.columns_check.specs.FilledLaws.{nuls-bytes, filled-length, filled-bytes}
 use Rattle.columns_check.specs.SizedLaws.{symbology-sized}
-use Rattle.header_bytes.specs.Numbers.{dataset_len, schema, start, end, limit, stype_in, stype_out, ts_out, width, layout_version, present, dataset_start, has}
+use Rattle.header_bytes.specs.Numbers.{dataset_len, schema, end, limit, stype_in, stype_out, ts_out, width, layout_version, present, dataset_start, has}
 use Rattle.block_writer.specs.Fields.{dataset_text, option_fits, options_fit, numbers_fit, dataset_fits, fields_fit, fields_narrow}
 use Rattle.header_bytes.specs.Header.{header_of}
 use Rattle.header_bytes.specs.HeaderLaws.{header_is}

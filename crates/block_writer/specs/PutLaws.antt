@@ -12,9 +12,8 @@ use Rattle.symbology_format.specs.Symbology.{Symbology}
 use Rattle.rows_check.specs.Check.{fault, printed}
 use Rattle.rows_check.specs.SectionLaws.{printed-is}
 use Rattle.rules.specs.RowRules.{rows_rules}
-use Rattle.writer.specs.Write.{Writes}
+use Rattle.writer.specs.Write.{Written, Writes}
 use Rattle.writer.proofs.RoundTripLaws.{accepts, out_written}
-use Rattle.writer.specs.declared.Written.{Written}
 use Rattle.put.specs.Output.{RoomFor, Wrote, Filled, Stored}
 use Rattle.put.specs.OutputLaws.{Left, left-start, left_stored, left-rest, lent_length, lent_wrote}
 use Rattle.metadata_lengths.specs.Lengths.{lengths}

@@ -1,14 +1,12 @@
 -- What writing a block answers and what it leaves of the output: 11, 110, 111, 90 to 95, then the reader's number for the block that is about to be
 -- written, then 112. Each is about no byte: its place is 0.
 -- Assumes nothing.
-use Rattle.std.specs.Prelude.{ℕ, Bool, true, ◌&&◌, cond, ◌≡◌, List, ◌++◌, length, leb, eqb}
+use Rattle.std.specs.Prelude.{ℕ, Bool, true, ◌&&◌, cond, ◌≡◌, List, ◌++◌, length, leb, eqb, Ok, Err}
 use Rattle.codec.specs.Codec.{refusal, fault_of}
 use Rattle.codec.specs.Faults.{unless, first}
 use Rattle.prelude.specs.Prelude.{is_version}
 use Rattle.rows_check.specs.Check.{fault}
-use Rattle.writer.specs.Write.{out_after}
-use Rattle.writer.specs.declared.Written.{Written}
-use Rattle.writer.specs.declared.Written.TheVariants.{Length, Refused}
+use Rattle.writer.specs.Write.{Written, out_after}
 use Rattle.block_format.specs.Block.{block_of}
 use Rattle.columns_check.specs.Check.{well_formed, narrow}
 use Rattle.header_bytes.specs.Numbers.{width}
@@ -37,7 +35,7 @@ module _ (sheet : List ℕ) (version : ℕ) (fs t : List ℕ) (n : ℕ) (rows te
   -- by how long the output is
   unfoldable pub write_block : ℕ → Written
   write_block room =
-      cond (eqb 0 write_fault) (cond (leb (length start_bytes) room) (Length (length start_bytes)) (Refused (refusal 112 0))) (Refused (refusal write_fault 0))
+      cond (eqb 0 write_fault) (cond (leb (length start_bytes) room) (Ok (length start_bytes)) (Err (refusal 112 0))) (Err (refusal write_fault 0))
 
   -- THE PROMISE of write_block
   pub record WritesBlock (out out' : List ℕ) (r : Written) : Type 0 where

@@ -79,12 +79,8 @@ fn put_rows(
     ensures { Wrote at (printed_rows width table.now text.now from n) out.old out.new result }
 {
     let mut a = at;
-    let mut r = from;
-    let mut todo = n;
-    while 0 < todo {
+    for r in from..from + n {
         a = row_bytes::put_row(out, a, table, text, width, r);
-        r += 1;
-        todo -= 1;
     }
     a
 }

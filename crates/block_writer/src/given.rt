@@ -1,12 +1,15 @@
 // The fields given: which are malformed, which are too wide, and by which number the reader would refuse them.
 ghost use Rattle.std.specs.Prelude.{◌≡◌, true, ◌&&◌, cond, ◌<◌, leb, ltb, eqb, length, get_or};
 ghost use Rattle.block_format.specs.BlockFaults.{header_fault};
+ghost use Rattle.codec.specs.Telling.{passed};
 ghost use Rattle.header_bytes.specs.Header.{header_of};
 ghost use Rattle.header_bytes.specs.Numbers.{has};
 ghost use Rattle.block_writer.specs.Fields.{option_fits, options_fit, numbers_fit, dataset_fits, fields_fit, fields_narrow, dataset_text};
 ghost use Rattle.block_writer.specs.PlanLaws.{Small};
 
-use padded::Padded;
+use super::refused;
+use padded::Fault;
+use refusal::Refusal;
 
 // Whether presence bit `bit` is set.
 pub(crate) fn has(fields: &[u64; 16], bit: u64) -> bool
@@ -142,24 +145,24 @@ pub(crate) fn dataset<'a>(fields: &[u64; 16], text: &'a [u8]) -> &'a [u8]
     &text[start..start + fields[0] as usize]
 }
 
-// The number by which the reader would refuse the header, 0 for none: 20, 29, 21, 22, 23.
-pub(crate) fn header_fault(version: u8, fields: &[u64; 16], text: &[u8]) -> u32
+// What the reader would refuse the header by: 20, 29, 21, 22, 23.
+pub(crate) fn header_fault(version: u8, fields: &[u64; 16], text: &[u8]) -> Result<(), Refusal>
     requires { fields_fit version fields.now text.now ≡ true }
-    ensures { result ≡ header_fault (header_of version fields.now (dataset_text fields.now text.now)) }
+    ensures { result ≡ passed (header_fault (header_of version fields.now (dataset_text fields.now text.now))) }
 {
     match padded::check_padded(dataset(fields, text)) {
-        Padded::Fine => {}
-        Padded::NotUtf8 => return refusal::DATASET_NOT_UTF8,
-        Padded::AfterNul => return refusal::DATASET_AFTER_NUL,
+        Ok(()) => {}
+        Err(Fault::NotUtf8) => return Err(refused(refusal::DATASET_NOT_UTF8)),
+        Err(Fault::AfterNul) => return Err(refused(refusal::DATASET_AFTER_NUL)),
     }
     if 19 < fields[1] {
-        return refusal::SCHEMA;
+        return Err(refused(refusal::SCHEMA));
     }
     if 12 < fields[5] {
-        return refusal::STYPE_IN;
+        return Err(refused(refusal::STYPE_IN));
     }
     if 12 < fields[6] {
-        return refusal::STYPE_OUT;
+        return Err(refused(refusal::STYPE_OUT));
     }
-    0
+    Ok(())
 }

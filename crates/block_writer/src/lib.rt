@@ -13,13 +13,11 @@ ghost use Rattle.block_writer.specs.Write.{start_bytes, WritesBlock};
 ghost use Rattle.block_writer.specs.Plan.{Sizes};
 
 use refusal::Refusal;
-use writer::Written;
 
-// What is about to be written: the number that refuses it, 0 for none; the bytes of the block, of its layout and of its symbology; and how many symbols of
-// each list and how many mappings there are.
+// What is about to be written: the bytes of the block, of its layout and of its symbology; and how many symbols of each list and how many
+// mappings there are.
 #[derive(Clone, Copy)]
 pub struct Plan {
-    pub number: u32,
     pub len: usize,
     pub layout: usize,
     pub names: usize,
@@ -41,19 +39,16 @@ pub fn write_block(
     text: &[u8],
     sheet: &[u16; 520],
     out: &mut [u8],
-) -> Written
+) -> Result<usize, Refusal>
     ensures { WritesBlock sheet.now version fields.now table.now count rows.now text.now out.old out.new result }
 {
-    let p = judge::judge(version, fields, table, count, rows, text, sheet);
-    if p.number != 0 {
-        return refused(p.number);
-    }
-    let whole = 8 + p.len;
+    let plan = judge::judge(version, fields, table, count, rows, text, sheet)?;
+    let whole = 8 + plan.len;
     if out.len() < whole {
-        return refused(refusal::START_OUTPUT_SHORT);
+        return Err(refused(refusal::START_OUTPUT_SHORT));
     }
-    put_start(out, version, fields, table, count, rows, text, sheet, p);
-    Written::Length(whole)
+    put_start(out, version, fields, table, count, rows, text, sheet, plan);
+    Ok(whole)
 }
 
 // Prelude, header, layout and symbology, one after the other.
@@ -80,8 +75,9 @@ fn put_start(
     columns::put_symbology(out, c, has, p.names, p, table, count, text, width)
 }
 
-fn refused(number: u32) -> Written
-    ensures { result ≡ Written.Refused (refusal number 0) }
+// The refusal by that number, which is about no byte.
+fn refused(number: u32) -> Refusal
+    ensures { result ≡ refusal number 0 }
 {
-    Written::Refused(Refusal { number, place: 0 })
+    Refusal { number, place: 0 }
 }

@@ -31,7 +31,7 @@ pub(crate) fn put_layout(
 {
     let after = put::put_little(out, at, len, 4);
     if has {
-        writer::write_layout(
+        let _ = writer::write_layout(
             rows,
             text,
             fields[9] as u16,

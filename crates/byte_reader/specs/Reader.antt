@@ -1,18 +1,16 @@
 -- A reader that keeps its section and its place together: where it stands after a step, and what a step promises.
 -- What is read is said by the definitions of the slice's readers (`wire`'s Reader.antt).
 -- Assumes nothing.
-use Rattle.std.specs.Prelude.{ℕ, ◌≡◌, List}
-use Rattle.numbers.specs.Numbers.{u16_at, got_on, Past}
+use Rattle.std.specs.Prelude.{ℕ, ◌≡◌, List, Ok, Err}
+use Rattle.numbers.specs.Numbers.{u16_at, got_on, Past, Got}
 use Rattle.wire.specs.Reader.{all_tests, name_at}
-use Rattle.numbers.specs.declared.Got.{Got}
-use Rattle.numbers.specs.declared.Got.TheVariants.{Value, Refused}
 use Rattle.byte_reader.specs.declared.ByteReader.{ByteReader}
 use Rattle.byte_reader.specs.declared.Label.{Label}
 
 -- past what was read, or where it stood when nothing was
 abbrev pub after : Got → ℕ → ℕ
-after (Value v p) at = p
-after (Refused k) at = at
+after (Ok (v, p)) at = p
+after (Err k) at = at
 
 -- the reader of the same section, at the place after the answer
 abbrev pub moved : ByteReader → Got → ByteReader
@@ -28,7 +26,7 @@ pub record Stepped (b m : ℕ) (f : List ℕ → ℕ → Got) (d d' : ByteReader
 pub record LabelAfter (s : List ℕ) (c : Got) (r : Label) : Type 0 where
   pub code : r.code ≡ c
   pub name : r.name ≡ got_on c (λ _ p. name_at all_tests s p)
-  pub past : (v p : ℕ) → c ≡ Value v p → Past 256 2 s p r.name
+  pub past : (v p : ℕ) → c ≡ Ok (v, p) → Past 256 2 s p r.name
 
 -- the label at `at`
 pub record LabelIs (s : List ℕ) (at : ℕ) (r : Label) : Type 0 where

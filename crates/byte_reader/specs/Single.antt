@@ -1,9 +1,9 @@
 -- Each public promise allows one answer: two outcomes that meet it are equal.
 -- Assumes nothing.
+use Rattle.numbers.specs.Numbers.{Got}
 use Rattle.std.specs.Prelude.{ℕ, ◌≡◌, List}
 use Rattle.std.proofs.Common.{sym, ap, ◌∙◌}
 use Rattle.std.specs.Borrow.{Bor}
-use Rattle.numbers.specs.declared.Got.{Got}
 use Rattle.byte_reader.specs.Reader.{moved, Stepped, LabelIs}
 use Rattle.byte_reader.specs.declared.ByteReader.{ByteReader}
 use Rattle.byte_reader.specs.declared.Label.{Label}

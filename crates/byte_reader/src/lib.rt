@@ -8,7 +8,7 @@ ghost use Rattle.numbers.specs.Numbers.{take_at, num_at};
 ghost use Rattle.wire.specs.Reader.{all_tests, name_at};
 ghost use Rattle.byte_reader.specs.Reader.{after, Stepped, LabelAfter, LabelIs};
 
-use numbers::Got;
+use refusal::Refusal;
 
 // A section, and the place in it where the next read begins.
 #[derive(Drop)]
@@ -26,7 +26,7 @@ impl<'a> ByteReader<'a> {
     }
 
     // Passes over n bytes. Where the section ends first it answers `why`, and the place stays.
-    pub fn take(&mut self, n: usize, why: u32) -> Got
+    pub fn take(&mut self, n: usize, why: u32) -> Result<(usize, usize), Refusal>
         ensures { Stepped (n + 1) n (take_at why n) self.old self.new result }
     {
         let got = numbers::take(self.buf, self.pos, n, why);
@@ -35,7 +35,7 @@ impl<'a> ByteReader<'a> {
     }
 
     // The next u16. Where the section ends first it answers `why`, and the place stays.
-    pub fn u16(&mut self, why: u32) -> Got
+    pub fn u16(&mut self, why: u32) -> Result<(usize, usize), Refusal>
         ensures { Stepped 65536 2 (num_at why 2) self.old self.new result }
     {
         let got = numbers::u16_at(self.buf, self.pos, why);
@@ -44,7 +44,7 @@ impl<'a> ByteReader<'a> {
     }
 
     // The length of the next name's text, which starts one byte after the place. On a refusal the place stays.
-    pub fn name(&mut self) -> Got
+    pub fn name(&mut self) -> Result<(usize, usize), Refusal>
         ensures { Stepped 256 2 (name_at all_tests) self.old self.new result }
     {
         let got = wire::name_at(self.buf, self.pos);
@@ -56,8 +56,8 @@ impl<'a> ByteReader<'a> {
 // A label: its code, and the length of its name's text.
 #[derive(Clone, Copy)]
 pub struct Label {
-    pub code: Got,
-    pub name: Got,
+    pub code: Result<(usize, usize), Refusal>,
+    pub name: Result<(usize, usize), Refusal>,
 }
 
 // The label at `at`: its name stands after its code. Where the code is refused no name is looked for, and that refusal is the name's too.
@@ -70,27 +70,27 @@ pub fn label_in(s: &[u8], at: usize) -> Label
 }
 
 // The label of a code: its name, where the code was read.
-fn label_after(s: &[u8], code: Got) -> Label
+fn label_after(s: &[u8], code: Result<(usize, usize), Refusal>) -> Label
     ensures { LabelAfter s.now code result }
 {
     match code {
-        Got::Value { value: _, next } => {
+        Ok((_, next)) => {
             let name = wire::name_at(s, next);
             Label { code, name }
         }
-        Got::Refused(why) => {
-            let name = Got::Refused(why);
+        Err(why) => {
+            let name = Err(why);
             Label { code, name }
         }
     }
 }
 
 // Where a reader that stood at `pos` stands after this answer.
-fn place_after(got: Got, pos: usize) -> usize
+fn place_after(got: Result<(usize, usize), Refusal>, pos: usize) -> usize
     ensures { result ≡ after got pos }
 {
     match got {
-        Got::Value { value: _, next } => next,
-        Got::Refused(_) => pos,
+        Ok((_, next)) => next,
+        Err(_) => pos,
     }
 }

@@ -1,6 +1,7 @@
 -- ONE ANSWER: two outcomes that meet a promise are equal.
 -- Assumes nothing.
-use Rattle.std.specs.Prelude.{ℕ, ◌≡◌, List}
+use Rattle.block_format.specs.declared.ReadError.{ReadError}
+use Rattle.std.specs.Prelude.{ℕ, ◌≡◌, List, Result}
 use Rattle.block_format.specs.declared.Fields.{Fields}
 use Rattle.feed.specs.Feeding.{answer_number}
 use Rattle.feed.specs.declared.Answer.{Answer}
@@ -8,7 +9,7 @@ use Rattle.c_texts.specs.Single.{one}
 use Rattle.c_answer.specs.Numbers.{fields_out, answer_out}
 
 -- of put_answer: number and `out`
-pub one_answer : (a : Answer) (o : List ℕ) {r q : ℕ} {o1 o2 : List ℕ}
+pub one_answer : (a : Result Answer ReadError) (o : List ℕ) {r q : ℕ} {o1 o2 : List ℕ}
     → (r ≡ answer_number a) × (o1 ≡ answer_out a o) → (q ≡ answer_number a) × (o2 ≡ answer_out a o) → (r ≡ q) × (o1 ≡ o2)
 one_answer a o f g = (one f.0 g.0, one f.1 g.1)
 

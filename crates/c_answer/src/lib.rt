@@ -7,27 +7,27 @@ ghost use Rattle.feed.specs.Feeding.{answer_number};
 ghost use Rattle.c_texts.specs.Numbers.{bit};
 ghost use Rattle.c_answer.specs.Numbers.{value_of, is_present, presence, fields_out, answer_out};
 
-use block::{Fields, Optional};
+use block::{Fields, ReadError};
 use feed::Answer;
 
 // What an answer gives: its number, and its values in `out`.
-pub fn put_answer(a: Answer, out: &mut [u64; 20]) -> u32
+pub fn put_answer(a: Result<Answer, ReadError>, out: &mut [u64; 20]) -> u32
     ensures { (result ≡ answer_number a) × (out.new ≡ answer_out a out.old) }
 {
     match a {
-        Answer::Needs(n) => {
+        Ok(Answer::Needs(n)) => {
             out[18] = n as u64;
             0
         }
-        Answer::Done(f) => {
+        Ok(Answer::Done(f)) => {
             put_fields(f, out);
             0
         }
-        Answer::Refused(e) => {
+        Err(ReadError::Refused(e)) => {
             c_texts::put_place(e, out);
             e.number
         }
-        Answer::Short { symbology, layout } => {
+        Err(ReadError::Short { symbology, layout }) => {
             out[10] = symbology as u64;
             out[11] = layout as u64;
             refusal::TABLE_SHORT
@@ -39,12 +39,7 @@ pub fn put_answer(a: Answer, out: &mut [u64; 20]) -> u32
 fn put_fields(f: Fields, out: &mut [u64; 20])
     ensures { out.new ≡ sets out.old 0 (fields_out f) }
 {
-    let values = fields_out(f);
-    let mut i = 0;
-    while i < 16 {
-        out[i] = values[i];
-        i += 1;
-    }
+    out[..16].copy_from_slice(&fields_out(f));
 }
 
 // A block's fields as sixteen numbers: 0 for what is absent, and which are present as bits at 12.
@@ -76,30 +71,29 @@ pub fn fields_out(f: Fields) -> [u64; 16]
 }
 
 // Which are present, as bits: 1, 2, 4, 8.
-fn present_bits(schema: Optional, end: Optional, limit: Optional, stype_in: Optional) -> u64
+fn present_bits(
+    schema: Option<u64>,
+    end: Option<u64>,
+    limit: Option<u64>,
+    stype_in: Option<u64>,
+) -> u64
     ensures { result ≡ presence schema end limit stype_in }
 {
     present(schema) + 2 * present(end) + 4 * present(limit) + 8 * present(stype_in)
 }
 
 // The value, or 0 where it is absent.
-fn value(o: Optional) -> u64
+fn value(o: Option<u64>) -> u64
     ensures { result ≡ value_of o }
 {
-    match o {
-        Optional::Absent => 0,
-        Optional::Present(x) => x,
-    }
+    o.unwrap_or(0)
 }
 
 // 1 where there is a value, else 0.
-fn present(o: Optional) -> u64
+fn present(o: Option<u64>) -> u64
     ensures { (result ≡ is_present o) × (result ≤ 1) }
 {
-    match o {
-        Optional::Absent => 0,
-        Optional::Present(_) => 1,
-    }
+    bit(o.is_some())
 }
 
 // 1 for true, 0 for false.

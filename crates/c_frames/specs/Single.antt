@@ -1,6 +1,6 @@
 -- ONE ANSWER, and which numbers it can be.
 -- Assumes nothing.
-use Rattle.std.specs.Prelude.{ℕ, ◌≡◌, refl, List, ◌∷◌}
+use Rattle.std.specs.Prelude.{ℕ, ◌≡◌, refl, List, ◌∷◌, Result, Ok, Err}
 use Rattle.std.proofs.Common.{sym, subst}
 use Rattle.refusal.specs.declared.Refusal.{Refusal}
 use Rattle.codec.specs.Refusals.{In}
@@ -21,7 +21,7 @@ one-frame k st p o r q st1 o1 st2 o2 f g = (one f.number g.number, (one f.store 
 pub frame-number : (k : ℕ) (st p o : List ℕ) (r : ℕ) (st' o' : List ℕ) → FrameC k st p o r st' o' → In (0 ∷ frame_numbers) r
 frame-number k st p o r st' o' f = subst (In (0 ∷ frame_numbers)) (sym f.number) (go (framed_answer k st p) (λ e i. answer-refused _ _ i))
   where
-    go : (a : Answer) → ((e : Refusal) → a ≡ Answer.Refused e → In frame_numbers e.number) → In (0 ∷ frame_numbers) (answer_number a)
-    go (Answer'.Needs n) h = refl
-    go (Answer'.Frame w t) h = refl
-    go (Answer'.Refused e) h = in_more frame_numbers (0 ∷ frame_numbers) refl e.number (h e refl)
+    go : (a : Result Answer Refusal) → ((e : Refusal) → a ≡ Err e → In frame_numbers e.number) → In (0 ∷ frame_numbers) (answer_number a)
+    go (Ok (Answer'.Needs n)) h = refl
+    go (Ok (Answer'.Frame w t)) h = refl
+    go (Err e) h = in_more frame_numbers (0 ∷ frame_numbers) refl e.number (h e refl)

@@ -6,6 +6,7 @@ ghost use Rattle.frames.specs.Frames.{answer_number};
 ghost use Rattle.c_frames.specs.Numbers.{answer_out, FrameC};
 
 use frames::{Answer, State};
+use refusal::Refusal;
 
 // A piece of the records comes after the first `held` bytes of the store, 0 for a new frame. `out` has the count taken at 0, the count then
 // held at 1 and the count still needed at 2, which is 0 with a frame or a refusal; a frame also has its length at 3 and its rtype at 4.
@@ -25,19 +26,19 @@ pub fn dbn_frame(held: u64, store: &mut [u8], piece: &[u8], out: &mut [u64; 5]) 
 }
 
 // What an answer gives: its number, and its values in `out`.
-fn put_answer(a: Answer, out: &mut [u64; 5]) -> u32
+fn put_answer(a: Result<Answer, Refusal>, out: &mut [u64; 5]) -> u32
     ensures { (result ≡ answer_number a) × (out.new ≡ answer_out a out.old) }
 {
     match a {
-        Answer::Needs(n) => {
+        Ok(Answer::Needs(n)) => {
             out[2] = n as u64;
             0
         }
-        Answer::Frame { len, rtype } => {
+        Ok(Answer::Frame { len, rtype }) => {
             out[3] = len as u64;
             out[4] = rtype as u64;
             0
         }
-        Answer::Refused(e) => e.number,
+        Err(e) => e.number,
     }
 }

@@ -5,8 +5,9 @@ ghost use Rattle.std.specs.Prelude.{◌≡◌};
 ghost use Rattle.house.specs.Start.{number_of};
 ghost use Rattle.c_house.specs.Numbers.{held_out, StoreC, LoadC};
 
+use block::ReadError;
 use feed::Answer;
-use house::{Loaded, Stored};
+use house::Held;
 
 // Stores the start of a stream, prelude and block, as a house file: `out` gets the length written at 0. A refusal leaves the output as it
 // was, and tells its place at 13 of `out` where its number has one, counted as dbn_feed counts it.
@@ -19,11 +20,11 @@ pub fn dbn_house_store(
     ensures { StoreC stream.now sheet.now output.old out.old result output.new out.new }
 {
     match house::store_start(stream, sheet, output) {
-        Stored::Written(n) => {
+        Ok(n) => {
             out[0] = n as u64;
             0
         }
-        Stored::Refused(e) => {
+        Err(e) => {
             c_texts::put_place(e, out);
             e.number
         }
@@ -44,13 +45,13 @@ pub fn dbn_house_load(
     ensures { LoadC file.now store.old sheet.now symbology.old layout.old out.old result store.new symbology.new layout.new out.new }
 {
     match house::load_start(file, store, sheet, symbology, layout) {
-        Loaded::Refused(n) => n,
-        Loaded::Held { len, answer } => put_held(len, answer, out),
+        Err(e) => e.number,
+        Ok(Held { len, answer }) => put_held(len, answer, out),
     }
 }
 
 // How many bytes are held, and the reader's answer on them, of which bytes that are still needed are 134.
-fn put_held(len: usize, answer: Answer, out: &mut [u64; 20]) -> u32
+fn put_held(len: usize, answer: Result<Answer, ReadError>, out: &mut [u64; 20]) -> u32
     ensures { (result ≡ number_of answer) × (out.new ≡ held_out len answer out.old) }
 {
     out[16] = 0;
@@ -58,12 +59,7 @@ fn put_held(len: usize, answer: Answer, out: &mut [u64; 20]) -> u32
     out[18] = 0;
     let number = c_answer::put_answer(answer, out);
     match answer {
-        Answer::Needs(_) => refusal::HOUSE_NEEDS,
-        Answer::Done(_) => number,
-        Answer::Refused(_) => number,
-        Answer::Short {
-            symbology: _,
-            layout: _,
-        } => number,
+        Ok(Answer::Needs(_)) => refusal::HOUSE_NEEDS,
+        Ok(Answer::Done(_)) | Err(_) => number,
     }
 }

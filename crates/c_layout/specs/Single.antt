@@ -1,14 +1,14 @@
 -- ONE ANSWER: two outcomes that meet a promise of a C function are equal.
 -- Assumes nothing.
-use Rattle.std.specs.Prelude.{ℕ, ◌/◌, ◌≡◌, List, length, leb}
+use Rattle.std.specs.Prelude.{ℕ, ◌/◌, ◌≡◌, List, length, leb, Ok, Err}
 use Rattle.std.proofs.Common.{◌∙◌}
 use Rattle.codec.specs.Codec.{Res, ok, refuse}
 use Rattle.codec.specs.CaseLaws.{by_bool}
 use Rattle.layout.specs.Layout.{Layout}
 use Rattle.layout.specs.Rows.{rows}
-use Rattle.layout.specs.Answers.{verdict, judge, layout_number, verdict_number}
+use Rattle.layout.specs.Answers.{accepted, verdict, judge, layout_number, verdict_number}
+use Rattle.layout.specs.declared.ReadError.TheVariants.{Short}
 use Rattle.layout.specs.AnswerLaws.{verdict-accepted, verdict-refused, judge-ok, judge-no}
-use Rattle.layout.specs.declared.Answer.TheVariants.{Read, Short}
 use Rattle.rules.specs.Rules.{ruled_of}
 use Rattle.c_texts.specs.Single.{one}
 use Rattle.c_layout.specs.Numbers.{layout_out, verdict_out, LayoutC, LayoutPlainC, WriteC}
@@ -32,10 +32,10 @@ plain-layout b w sheet t o r q t1 o1 o2 f g n = go (ruled_of sheet w b) f.number
         let v = verdict-accepted l j in
         by_bool (leb (length (rows l)) (length t / 9))
         (λ e.
-        let i : judge (length t / 9) (ok l j) ≡ Read l.version (length (rows l)) = judge-ok (length t / 9) l j ∙ rw e in
+        let i : judge (length t / 9) (ok l j) ≡ Ok (accepted l.version (length (rows l))) = judge-ok (length t / 9) l j ∙ rw e in
         (one (rw i at a) (rw v at c), one (rw i at b) (rw v at d)))
         (λ e.
-        let i : judge (length t / 9) (ok l j) ≡ Short l.version (length (rows l)) = judge-ok (length t / 9) l j ∙ rw e in
+        let i : judge (length t / 9) (ok l j) ≡ Err (Short (accepted l.version (length (rows l)))) = judge-ok (length t / 9) l j ∙ rw e in
         absurd (n (rw i at a)))
     go (refuse k) a b c d =
         let i = judge-no (length t / 9) k in

@@ -3,7 +3,7 @@
 
 ghost use Rattle.c_layout.specs.Numbers.{LayoutC, LayoutPlainC, WriteC};
 
-use writer::Written;
+use layout::ReadError;
 
 // Reads a layout given with a symbol width, its rows into the table. `out` gets the version at 9 and the rows at 11; with 3 the rows
 // needed at 11; with 50 to 55 the place in the layout at 13. All else in `out` is as it was.
@@ -17,19 +17,16 @@ pub fn dbn_layout(
     ensures { LayoutC layout.now width sheet.now rows.old out.old result rows.new out.new }
 {
     match given_layout::read_layout(layout, width, sheet, rows) {
-        layout::Answer::Read { version, rows: n } => {
-            out[9] = version as u64;
-            out[11] = n as u64;
+        Ok(read) => {
+            out[9] = read.version as u64;
+            out[11] = read.rows as u64;
             0
         }
-        layout::Answer::Short {
-            version: _,
-            rows: n,
-        } => {
-            out[11] = n as u64;
+        Err(ReadError::Short(needed)) => {
+            out[11] = needed.rows as u64;
             refusal::TABLE_SHORT
         }
-        layout::Answer::Refused(e) => {
+        Err(ReadError::Refused(e)) => {
             c_texts::put_place(e, out);
             e.number
         }
@@ -42,12 +39,12 @@ pub fn dbn_layout_plain(layout: &[u8], width: u16, sheet: &[u16; 520], out: &mut
     ensures { LayoutPlainC layout.now width sheet.now out.old result out.new }
 {
     match engines::check_layout_plain(layout, width, sheet) {
-        layout::Verdict::Accepted { version, rows } => {
-            out[9] = version as u64;
-            out[11] = rows as u64;
+        Ok(accepted) => {
+            out[9] = accepted.version as u64;
+            out[11] = accepted.rows as u64;
             0
         }
-        layout::Verdict::Refused(e) => {
+        Err(e) => {
             c_texts::put_place(e, out);
             e.number
         }
@@ -67,10 +64,10 @@ pub fn dbn_write_layout(
     ensures { WriteC rows.now text.now version width sheet.now output.old out.old result output.new out.new }
 {
     match writer::write_layout(rows, text, version, width, sheet, output) {
-        Written::Length(n) => {
+        Ok(n) => {
             out[0] = n as u64;
             0
         }
-        Written::Refused(e) => e.number,
+        Err(e) => e.number,
     }
 }

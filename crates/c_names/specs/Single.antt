@@ -1,28 +1,26 @@
 -- ONE ANSWER, and which numbers it can be.
 -- Assumes nothing.
-use Rattle.std.specs.Prelude.{ℕ, ◌/◌, ◌≡◌, refl, List, [], ◌∷◌, length}
+use Rattle.std.specs.Prelude.{ℕ, ◌/◌, ◌≡◌, refl, List, [], ◌∷◌, length, Err, Ok}
 use Rattle.std.proofs.Common.{sym, ap, subst, ◌∙◌}
 use Rattle.refusal.specs.declared.Refusal.{Refusal}
 use Rattle.codec.specs.Codec.{refusal}
 use Rattle.codec.specs.Refusals.{In}
 use Rattle.table.specs.Columns.{cell, row_cell}
-use Rattle.names.specs.Names.{symbol_text, item_text, symbology_span, layout_span, span_number}
+use Rattle.names.specs.Names.{symbol_text, item_text, symbology_span, layout_span, span_number, spanned, Spanned}
 use Rattle.names.specs.RefusalLaws.{span-refuses}
-use Rattle.names.specs.declared.Span.{Span}
-use Rattle.names.specs.declared.Span.TheVariants.{Part, Refused}
 use Rattle.c_names.specs.Numbers.{span_out}
 
 -- what either function promises of a span: the number, and `out`
-abbrev pub SpanC : Span → ℕ → List ℕ → Type 0
+abbrev pub SpanC : Spanned → ℕ → List ℕ → Type 0
 SpanC x r o = (r ≡ span_number x) × (o ≡ span_out x)
 
-one_span : (x : Span) {r q : ℕ} {o1 o2 : List ℕ} → SpanC x r o1 → SpanC x q o2 → (r ≡ q) × (o1 ≡ o2)
+one_span : (x : Spanned) {r q : ℕ} {o1 o2 : List ℕ} → SpanC x r o1 → SpanC x q o2 → (r ≡ q) × (o1 ≡ o2)
 one_span x f g = (f.0 ∙ sym g.0, f.1 ∙ sym g.1)
 
 -- 0, or 90 where that is all that refuses it
-span-number : (x : Span) {r : ℕ} → r ≡ span_number x → ((k : Refusal) → x ≡ Refused k → k ≡ refusal 90 0) → In (0 ∷ 90 ∷ []) r
-span-number (Part b n) e h = subst (In (0 ∷ 90 ∷ [])) (sym e) refl
-span-number (Refused k) e h = subst (In (0 ∷ 90 ∷ [])) (sym (e ∙ ap (λ (m : Refusal). m.number) (h k refl))) refl
+span-number : (x : Spanned) {r : ℕ} → r ≡ span_number x → ((k : Refusal) → x ≡ Err k → k ≡ refusal 90 0) → In (0 ∷ 90 ∷ []) r
+span-number (Ok s) e h = subst (In (0 ∷ 90 ∷ [])) (sym e) refl
+span-number (Err k) e h = subst (In (0 ∷ 90 ∷ [])) (sym (e ∙ ap (λ (m : Refusal). m.number) (h k refl))) refl
 
 module _ (n : ℕ) (rows : List ℕ) (index : ℕ) {r q : ℕ} {o1 o2 : List ℕ} where
   -- two outcomes of dbn_symbology_name are equal

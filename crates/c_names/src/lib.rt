@@ -6,6 +6,7 @@ ghost use Rattle.names.specs.Names.{symbology_span, layout_span, span_number};
 ghost use Rattle.c_names.specs.Numbers.{span_out};
 
 use names::Span;
+use refusal::Refusal;
 
 // The text of a symbology row, as a part of the block: 0 with {start, length}, or 90 with {0, 0}.
 pub fn dbn_symbology_name(block: &[u8], rows: &[u32], index: u64, out: &mut [u64; 2]) -> u32
@@ -22,15 +23,15 @@ pub fn dbn_layout_name(layout: &[u8], rows: &[u32], index: u64, out: &mut [u64; 
 }
 
 // What a span gives: its number, and its start and length in `out`.
-fn put_span(span: Span, out: &mut [u64; 2]) -> u32
+fn put_span(span: Result<Span, Refusal>, out: &mut [u64; 2]) -> u32
     ensures { (result ≡ span_number span) × (out.new ≡ span_out span) }
 {
     match span {
-        Span::Part { start, len } => {
+        Ok(Span { start, len }) => {
             *out = [start as u64, len as u64];
             0
         }
-        Span::Refused(e) => {
+        Err(e) => {
             *out = [0, 0];
             e.number
         }

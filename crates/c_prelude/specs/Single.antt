@@ -1,13 +1,14 @@
 -- ONE ANSWER, and which numbers it can be.
 -- Assumes nothing.
-use Rattle.std.specs.Prelude.{ℕ, ◌≡◌, refl, List, ◌∷◌}
+use Rattle.std.specs.Prelude.{ℕ, ◌≡◌, refl, List, ◌∷◌, Result, Ok, Err}
 use Rattle.std.proofs.Common.{sym, subst, ◌∙◌}
+use Rattle.refusal.specs.declared.Refusal.{Refusal}
 use Rattle.codec.specs.Refusals.{In}
 use Rattle.codec.proofs.RefusalLaws.{in_more}
 use Rattle.prelude.specs.Prelude.{prelude_numbers, prelude_of, stage_number}
 use Rattle.prelude.proofs.RefusalLaws.{prelude-refuses}
 use Rattle.prelude.specs.declared.Stage.{Stage}
-use Rattle.prelude.specs.declared.Stage.TheVariants.{Needs, Refused, Whole}
+use Rattle.prelude.specs.declared.Stage.TheVariants.{Needs, Whole}
 use Rattle.c_prelude.specs.Numbers.{prelude_out}
 
 -- two outcomes of dbn_prelude are equal: number, `out`
@@ -19,7 +20,7 @@ one-prelude s o r q o1 o2 f g = (f.0 ∙ sym g.0, f.1 ∙ sym g.1)
 pub prelude-number : (s : List ℕ) (r : ℕ) → r ≡ stage_number (prelude_of s) → In (0 ∷ prelude_numbers) r
 prelude-number s r e = subst (In (0 ∷ prelude_numbers)) (sym e) (go (prelude_of s) refl)
   where
-    go : (x : Stage) → prelude_of s ≡ x → In (0 ∷ prelude_numbers) (stage_number x)
-    go (Needs n) q = refl
-    go (Refused k) q = in_more prelude_numbers (0 ∷ prelude_numbers) refl k.number (prelude-refuses s q)
-    go (Whole v n) q = refl
+    go : (x : Result Stage Refusal) → prelude_of s ≡ x → In (0 ∷ prelude_numbers) (stage_number x)
+    go (Ok (Needs n)) q = refl
+    go (Err k) q = in_more prelude_numbers (0 ∷ prelude_numbers) refl k.number (prelude-refuses s q)
+    go (Ok (Whole v n)) q = refl

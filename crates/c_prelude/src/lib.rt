@@ -13,17 +13,17 @@ pub fn dbn_prelude(s: &[u8], out: &mut [u64; 4]) -> u32
     ensures { (result ≡ stage_number (prelude_of s.now)) × (out.new ≡ prelude_out (prelude_of s.now) out.old) }
 {
     match prelude::prelude(s) {
-        Stage::Needs(n) => {
+        Ok(Stage::Needs(n)) => {
             *out = [n as u64, 0, 0, 0];
             0
         }
-        Stage::Refused(e) => {
-            out[3] = e.place as u64;
-            e.number
-        }
-        Stage::Whole { version, len } => {
+        Ok(Stage::Whole { version, len }) => {
             *out = [0, version as u64, len as u64, 0];
             0
+        }
+        Err(e) => {
+            out[3] = e.place as u64;
+            e.number
         }
     }
 }

@@ -3,7 +3,7 @@
 
 ghost use Rattle.c_start.specs.Numbers.{BlockC, FeedC};
 
-use block::BlockAnswer;
+use block::ReadError;
 use feed::State;
 
 // Reads a block given whole: its rows go into the tables, its fields into `out`. With 3 the rows needed are at 10 and 11; a refusal from
@@ -19,18 +19,20 @@ pub fn dbn_block(
     ensures { BlockC version block.now sheet.now symbology.old layout.old out.old result symbology.new layout.new out.new }
 {
     match block::read_block(version, block, sheet, symbology, layout) {
-        BlockAnswer::Read(f) => {
+        Ok(f) => {
             *out = c_answer::fields_out(f);
             0
         }
-        BlockAnswer::Refused(e) => {
+        Err(ReadError::Refused(e)) => {
             c_texts::put_place(e, out);
             e.number
         }
-        BlockAnswer::Short {
-            symbology: s,
-            layout: l,
-        } => {
+        Err(
+            ReadError::Short {
+                symbology: s,
+                layout: l,
+            },
+        ) => {
             out[10] = s as u64;
             out[11] = l as u64;
             refusal::TABLE_SHORT

@@ -1,11 +1,10 @@
 -- ONE ANSWER: two outcomes that meet a promise of a C function are equal.
 -- Assumes nothing.
-use Rattle.std.specs.Prelude.{ℕ, ◌≡◌, List}
+use Rattle.std.specs.Prelude.{ℕ, Option, ◌≡◌, List}
 use Rattle.std.proofs.Common.{sym, ◌∙◌}
 use Rattle.refusal.specs.declared.Refusal.{Refusal}
 use Rattle.text.specs.Utf8.{utf8}
 use Rattle.dates.specs.Day.{day_on, date_on}
-use Rattle.dates.specs.declared.Calendar.{Calendar}
 use Rattle.c_texts.specs.Numbers.{bit, calendar_number, calendar_out, place_out}
 
 -- a promise that is one equation, or several, of results and buffers that are lists
@@ -17,7 +16,7 @@ pub one-text : (s : List ℕ) {r q : ℕ} → r ≡ bit (utf8 s) → q ≡ bit (
 one-text s f g = one f g
 
 -- of dbn_date, from the date, and of dbn_day, from the day: number and `out`
-pub one_calendar : (says : ℕ → Calendar) (n : ℕ) (o : List ℕ) {r q : ℕ} {o1 o2 : List ℕ}
+pub one_calendar : (says : ℕ → Option ℕ) (n : ℕ) (o : List ℕ) {r q : ℕ} {o1 o2 : List ℕ}
     → (r ≡ calendar_number (says n)) × (o1 ≡ calendar_out (says n) o) → (q ≡ calendar_number (says n)) × (o2 ≡ calendar_out (says n) o) → (r ≡ q) × (o1 ≡ o2)
 one_calendar says n o f g = (one f.0 g.0, one f.1 g.1)
 

@@ -6,7 +6,6 @@ ghost use Rattle.text.specs.Utf8.{utf8};
 ghost use Rattle.dates.specs.Day.{day_on, date_on};
 ghost use Rattle.c_texts.specs.Numbers.{bit, calendar_number, calendar_out, place_out};
 
-use dates::Calendar;
 use refusal::Refusal;
 
 // 1 where the bytes are UTF-8, else 0.
@@ -31,15 +30,15 @@ pub fn dbn_day(day: u32, out: &mut [u64; 1]) -> u32
 }
 
 // 1 and what the calendar has, else 0.
-fn put_answer(answer: Calendar, out: &mut [u64; 1]) -> u32
+fn put_answer(answer: Option<u32>, out: &mut [u64; 1]) -> u32
     ensures { (result ≡ calendar_number answer) × (out.new ≡ calendar_out answer out.old) }
 {
     match answer {
-        Calendar::Has(n) => {
+        Some(n) => {
             out[0] = n as u64;
             1
         }
-        Calendar::Lacks => 0,
+        None => 0,
     }
 }
 

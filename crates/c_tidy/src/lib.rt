@@ -3,8 +3,6 @@
 
 ghost use Rattle.c_tidy.specs.Numbers.{TidyC};
 
-use tidy::Tidy;
-
 // 0 where a layout given with a symbol width is tidy: it is the bytes that dbn_write_layout gives for the rows that it reads to, with its
 // version. Else the reader's number, or the first of 120 to 123 in wire order, with the place in the layout at 13 of `out` where the number
 // has one. All else in `out` is as it was.
@@ -12,8 +10,8 @@ pub fn dbn_tidy(layout: &[u8], width: u16, sheet: &[u16; 520], out: &mut [u64; 1
     ensures { TidyC layout.now width sheet.now out.old result out.new }
 {
     match tidy::check_tidy(layout, width, sheet) {
-        Tidy::Yes => 0,
-        Tidy::Refused(e) => {
+        Ok(()) => 0,
+        Err(e) => {
             c_texts::put_place(e, out);
             e.number
         }

@@ -3,8 +3,6 @@
 
 ghost use Rattle.c_write.specs.Numbers.{WriteBlockC};
 
-use writer::Written;
-
 // Writes prelude and block from fields, `rows` symbology rows by column, layout rows and a text; `out` gets the length written at 0. A
 // refusal leaves the output and `out` as they were.
 pub fn dbn_write_block(
@@ -24,10 +22,10 @@ pub fn dbn_write_block(
     match block_writer::write_block(
         version, fields, symbology, count, layout, text, sheet, output,
     ) {
-        Written::Length(n) => {
+        Ok(n) => {
             out[0] = n as u64;
             0
         }
-        Written::Refused(e) => e.number,
+        Err(e) => e.number,
     }
 }

@@ -9,10 +9,13 @@ use lib.ListN.{length}
 use borrow.Author.Tests.{le-leb, lt-leb}
 use Rattle.columns_check.specs.Tree.{run, symbol_rows, partial_rows, not_found_rows, list_rows, symbology_of}
 use Rattle.columns_check.specs.Check.{every, row_fits, mapped, well_formed, narrow, columns_of}
+use Rattle.codec.specs.Telling.{passed}
 use Rattle.columns_check.specs.RowFaults.{heads, rows_fault}
 use Rattle.columns_check.specs.RowLaws.{symbols-count, mappings-count}
 use Rattle.columns_check.specs.FaultLaws.{symbology-fault}
-use Rattle.columns_check.specs.declared.Columns.TheVariants.{Malformed, Wide, Rows}
+use Rattle.std.specs.Prelude.{Result, Ok, Err}
+use Rattle.refusal.specs.declared.Refusal.{Refusal}
+use Rattle.columns_check.specs.declared.Unfit.TheVariants.{Malformed, Wide}
 
 -- ---- where the lists end
 
@@ -53,16 +56,16 @@ module _ (t : List ℕ) (n : ℕ) (text : List ℕ) where
 -- ---- the answer
 
 module _ (width : ℕ) (t : List ℕ) (n : ℕ) (text : List ℕ) where
-  pub malformed : well_formed t n text ≡ false → Malformed ≡ columns_of width t n text
+  pub malformed : well_formed t n text ≡ false → Err Malformed ≡ columns_of width t n text
   unfolding columns_of
   malformed e = rw e
 
-  pub wide : well_formed t n text ≡ true → narrow width t n ≡ false → Wide ≡ columns_of width t n text
+  pub wide : well_formed t n text ≡ true → narrow width t n ≡ false → Err Wide ≡ columns_of width t n text
   unfolding columns_of
   wide e e' = rw (e, e')
 
-  pub rows : {one two lists m k : ℕ} → well_formed t n text ≡ true → narrow width t n ≡ true → Ends t n one two lists → m ≡ heads t lists (n - lists) → k ≡ rows_fault width t text 0 n
-      → Rows one (two - one) (lists - two) m k ≡ columns_of width t n text
+  pub rows : {one two lists m : ℕ} {k : Result (Unit {0}) Refusal} → well_formed t n text ≡ true → narrow width t n ≡ true → Ends t n one two lists → m ≡ heads t lists (n - lists) → k ≡ passed (rows_fault width t text 0 n)
+      → Ok (record { symbols = one; partial = two - one; not_found = lists - two; mappings = m; fault = k }) ≡ columns_of width t n text
   unfolding columns_of symbology_of
   rows e e' at m k =
       let p : symbol_rows t n + partial_rows t n - symbol_rows t n ≡ partial_rows t n = omega arith in

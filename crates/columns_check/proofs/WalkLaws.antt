@@ -2,14 +2,18 @@
 use Prim.Native.Nat.{ℕ, suc, ◌+◌, ◌-◌, ◌≤◌, ◌<◌}
 use native.Mathlib.Nat.{add-zero}
 use native.Mathlib.Omega.{arith}
-use mathlib.Core.Path.{◌≡◌, ap, ◌∙◌}
+use mathlib.Core.Path.{◌≡◌, ap, sym, ◌∙◌}
 use mathlib.Core.Bool.{Bool, true, false, ◌&&◌}
 use mathlib.Core.List.{List}
 use lib.ListN.{take, drop}
 use lib.Dec.{eqb}
 use borrow.Author.Tests.{eq-eqb, ne_eqb}
+use Rattle.std.specs.Prelude.{Ok, Err}
+use Rattle.refusal.specs.declared.Refusal.{Refusal}
+use Rattle.codec.specs.Telling.{is_passed, passed_refuses}
 use Rattle.columns_check.specs.Tree.{kind_of, x_of, owner_of, run}
 use Rattle.columns_check.specs.Check.{every, mapped}
+use Rattle.codec.specs.Telling.{passed}
 use Rattle.columns_check.specs.RowFaults.{head, heads, row_fault, rows_fault}
 
 -- ---- what is left
@@ -96,3 +100,10 @@ module _ (width : ℕ) (t text : List ℕ) (r n : ℕ) where
 
   pub fault-none : n ≤ r → rows_fault width t text r (n - r) ≡ 0
   fault-none h = left-none (rows_fault width t text r) r n h
+
+  -- what stops at a row refuses the rows, and what passes a row leaves the others
+  pub fault-stops : r < n → {e : Refusal} → Err e ≡ passed (row_fault width t text r) → Err e ≡ passed (rows_fault width t text r (n - r))
+  fault-stops h {e} p = p ∙ ap passed (sym (fault-here h (passed_refuses (row_fault width t text r) p).0))
+
+  pub fault-goes : r < n → {u : Unit {0}} → Ok u ≡ passed (row_fault width t text r) → rows_fault width t text r (n - r) ≡ rows_fault width t text (r + 1) (n - (r + 1))
+  fault-goes h p = fault-more h (is_passed (row_fault width t text r) p)

@@ -1,14 +1,16 @@
 -- Number 110 of symbology rows lent by column, and 111 of their texts, in document 02's words.
 -- Assumes nothing.
-use Rattle.std.specs.Prelude.{ℕ, zero, suc, ◌+◌, ◌-◌, ◌/◌, Bool, true, ◌&&◌, cond, List, length, leb, eqb}
+use Rattle.std.specs.Prelude.{ℕ, zero, suc, ◌+◌, ◌-◌, ◌/◌, Bool, true, ◌&&◌, cond, List, length, leb, eqb, Result, Ok, Err}
 use Rattle.text.specs.Utf8.{utf8}
 use Rattle.padded.specs.Padded.{nul_padded}
 use Rattle.text.specs.Trim.{trimmed_len}
 use Rattle.dates.specs.Date.{is_date}
 use Rattle.symbology_format.specs.SymbologyFaults.{symbology_fault}
 use Rattle.columns_check.specs.Tree.{kind_of, start_of, len_of, x_of, y_of, owner_of, text_of, list_rows, symbology_of}
-use Rattle.columns_check.specs.declared.Columns.{Columns}
-use Rattle.columns_check.specs.declared.Columns.TheVariants.{Malformed, Wide, Rows}
+use Rattle.codec.specs.Telling.{passed}
+use Rattle.columns_check.specs.declared.Counts.{Counts}
+use Rattle.columns_check.specs.declared.Unfit.{Unfit}
+use Rattle.columns_check.specs.declared.Unfit.TheVariants.{Malformed, Wide}
 
 -- f holds of n rows from row r on
 abbrev pub every : (ℕ → Bool) → ℕ → ℕ → Bool
@@ -60,10 +62,21 @@ narrow width t n = every (λ r. leb (len_of t r) width) 0 n
 
 -- ---- the answer
 
+-- the number of document 02
+abbrev pub unfit_number : Unfit → ℕ
+unfit_number Malformed = 110
+unfit_number Wide = 111
+
+-- what rows make, or why they are no symbology
+abbrev pub Columns : Type 0
+Columns = Result Counts Unfit
+
 -- 110, 111, or how many symbols, partial, not found and mappings there are, and by which number the reader would refuse them, 0 for none
 unfoldable pub columns_of : ℕ → List ℕ → ℕ → List ℕ → Columns
 columns_of width t n text =
     let s = symbology_of width t n text in
     cond (well_formed t n text)
-    (cond (narrow width t n) (Rows (length s.symbols) (length s.partial) (length s.not_found) (length s.mappings) (symbology_fault utf8 nul_padded is_date width s)) Wide)
-    Malformed
+    (cond (narrow width t n)
+    (Ok (record { symbols = length s.symbols; partial = length s.partial; not_found = length s.not_found; mappings = length s.mappings; fault = passed (symbology_fault utf8 nul_padded is_date width s) }))
+    (Err Wide))
+    (Err Malformed)

@@ -1,5 +1,7 @@
 -- What the walks over the rows find: the mappings, and the first number by which the reader would refuse a row's text. Assumes nothing.
-use Rattle.std.specs.Prelude.{ℕ, zero, suc, ◌+◌, cond, List, leb, eqb}
+use Rattle.std.specs.Prelude.{ℕ, zero, suc, ◌+◌, cond, List, leb, eqb, Result, Ok, Err}
+use Rattle.refusal.specs.declared.Refusal.{Refusal}
+use Rattle.codec.specs.Codec.{refusal}
 use Rattle.codec.specs.Faults.{unless, first}
 use Rattle.text.specs.Utf8.{utf8}
 use Rattle.padded.specs.Padded.{nul_padded}

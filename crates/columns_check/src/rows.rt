@@ -8,12 +8,10 @@ ghost use Rattle.columns_check.specs.RowFaults.{head, heads};
 pub(crate) fn all_fit(table: &[u32], text: &[u8], n: usize) -> bool
     ensures { result ≡ every (row_fits table.now text.now) 0 n }
 {
-    let mut r = 0;
-    while r < n {
+    for r in 0..n {
         if !row_fits(table, text, r) {
             return false;
         }
-        r += 1;
     }
     true
 }
@@ -61,24 +59,21 @@ fn numbers_fit(table: &[u32], r: usize) -> bool
 pub(crate) fn run_end(kind: u32, table: &[u32], from: usize, end: usize) -> usize
     ensures { result ≡ from + run kind table.now from (end - from) }
 {
-    let mut r = from;
-    while r < end {
+    for r in from..end {
         if table::number_at(table, r, 0) != kind {
             return r;
         }
-        r += 1;
     }
-    r
+    from.max(end)
 }
 
 // Whether the rows from `from` up to `end` are mappings, each with its intervals.
 pub(crate) fn are_mapped(table: &[u32], from: usize, end: usize) -> bool
     ensures { result ≡ mapped table.now from (end - from) 0 0 }
 {
-    let mut r = from;
     let mut owner = 0;
     let mut due = 0;
-    while r < end {
+    for r in from..end {
         let kind = table::number_at(table, r, 0);
         if due == 0 {
             if kind != 3 {
@@ -86,7 +81,6 @@ pub(crate) fn are_mapped(table: &[u32], from: usize, end: usize) -> bool
             }
             owner = r;
             due = table::number_at(table, r, 3) as usize;
-            r += 1;
             continue;
         }
         if kind != 4 {
@@ -96,7 +90,6 @@ pub(crate) fn are_mapped(table: &[u32], from: usize, end: usize) -> bool
             return false;
         }
         due -= 1;
-        r += 1;
     }
     due == 0
 }
@@ -105,11 +98,9 @@ pub(crate) fn are_mapped(table: &[u32], from: usize, end: usize) -> bool
 pub(crate) fn heads(table: &[u32], from: usize, end: usize) -> usize
     ensures { result ≡ heads table.now from (end - from) }
 {
-    let mut r = from;
     let mut m = 0;
-    while r < end {
+    for r in from..end {
         m += head(table, r);
-        r += 1;
     }
     m
 }

@@ -2,43 +2,39 @@
 ghost use Rattle.std.specs.Prelude.{◌≡◌, true, ◌+◌, ◌≤◌, ◌<◌, length};
 ghost use Rattle.columns_check.specs.Tree.{start_of, len_of};
 ghost use Rattle.columns_check.specs.Check.{every, row_fits, narrow};
+ghost use Rattle.codec.specs.Telling.{passed};
 ghost use Rattle.columns_check.specs.RowFaults.{text_fault, row_fault, rows_fault};
+ghost use Rattle.codec.specs.Codec.{refusal};
 
-use padded::Padded;
+use padded::Fault;
+use refusal::Refusal;
 
 // Whether no text of the first n rows is longer than the width.
 pub(crate) fn are_narrow(table: &[u32], n: usize, width: usize) -> bool
     ensures { result ≡ narrow width table.now n }
 {
-    let mut r = 0;
-    while r < n {
+    for r in 0..n {
         if width < table::number_at(table, r, 2) as usize {
             return false;
         }
-        r += 1;
     }
     true
 }
 
-// The first number by which a text of the first n rows would be refused, 0 for none.
-pub(crate) fn first_fault(table: &[u32], text: &[u8], n: usize, width: usize) -> u32
+// The refusal of the first of the first n rows whose text would be refused.
+pub(crate) fn first_fault(table: &[u32], text: &[u8], n: usize, width: usize) -> Result<(), Refusal>
     requires { every (row_fits table.now text.now) 0 n ≡ true }
-    ensures { result ≡ rows_fault width table.now text.now 0 n }
+    ensures { result ≡ passed (rows_fault width table.now text.now 0 n) }
 {
-    let mut r = 0;
-    while r < n {
-        let k = row_fault(table, text, r, width);
-        if k != 0 {
-            return k;
-        }
-        r += 1;
+    for r in 0..n {
+        row_fault(table, text, r, width)?;
     }
-    0
+    Ok(())
 }
 
-fn row_fault(table: &[u32], text: &[u8], r: usize, width: usize) -> u32
+fn row_fault(table: &[u32], text: &[u8], r: usize, width: usize) -> Result<(), Refusal>
     requires { start_of table.now r + len_of table.now r ≤ length text.now }
-    ensures { result ≡ row_fault width table.now text.now r }
+    ensures { result ≡ passed (row_fault width table.now text.now r) }
 {
     let start = table::number_at(table, r, 1) as usize;
     let end = start + table::number_at(table, r, 2) as usize;
@@ -46,7 +42,7 @@ fn row_fault(table: &[u32], text: &[u8], r: usize, width: usize) -> u32
     let kind = table::number_at(table, r, 0);
     if kind <= 2 {
         if width == 0 {
-            return refusal::LIST_COUNT_LARGE;
+            return Err(refused(refusal::LIST_COUNT_LARGE));
         }
         return text_fault(part, refusal::LIST_NOT_UTF8, refusal::LIST_AFTER_NUL);
     }
@@ -60,14 +56,21 @@ fn row_fault(table: &[u32], text: &[u8], r: usize, width: usize) -> u32
     text_fault(part, refusal::SYMBOL_NOT_UTF8, refusal::SYMBOL_AFTER_NUL)
 }
 
-// The one number where a text is not UTF-8, the other where a byte follows a NUL, 0 where it is fine.
-fn text_fault(part: &[u8], not_utf8: u32, after_nul: u32) -> u32
-    requires { 0 < not_utf8 }
-    ensures { result ≡ text_fault not_utf8 after_nul part.now }
+// The one refusal where a text is not UTF-8, the other where a byte follows a NUL.
+fn text_fault(part: &[u8], not_utf8: u32, after_nul: u32) -> Result<(), Refusal>
+    requires { (0 < not_utf8) × (0 < after_nul) }
+    ensures { result ≡ passed (text_fault not_utf8 after_nul part.now) }
 {
     match padded::check_padded(part) {
-        Padded::Fine => 0,
-        Padded::NotUtf8 => not_utf8,
-        Padded::AfterNul => after_nul,
+        Ok(()) => Ok(()),
+        Err(Fault::NotUtf8) => Err(refused(not_utf8)),
+        Err(Fault::AfterNul) => Err(refused(after_nul)),
     }
+}
+
+// The refusal by that number, which is about no byte.
+fn refused(number: u32) -> Refusal
+    ensures { result ≡ refusal number 0 }
+{
+    Refusal { number, place: 0 }
 }

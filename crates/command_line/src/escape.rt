@@ -26,11 +26,5 @@ fn escape(out: &mut impl Write, x: u8) -> io::Result<()> {
 
 // Printable ASCII but for the backslash.
 fn is_plain(x: u8) -> bool {
-    if x < b' ' {
-        return false;
-    }
-    if b'~' < x {
-        return false;
-    }
-    x != b'\\'
+    matches!(x, b' '..=b'~') && x != b'\\'
 }

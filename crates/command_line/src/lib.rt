@@ -3,46 +3,52 @@
 #![tactic(auto)]
 
 pub mod escape;
-pub mod words;
 
-ghost use Rattle.std.specs.Prelude.{◌≡◌, ◌≢◌, ◌≤◌, ◌⊎◌, length, take, true, false, MatchResult};
+ghost use Rattle.std.specs.Prelude.{◌≡◌, ◌≢◌, ◌≤◌, ◌⊎◌, length, take, true, false, None, Some, MatchResult};
+ghost use Rattle.command_line.specs.declared.Fault.TheVariants as Fault';
 
 use std::env::{Env, FillError};
 use std::fs::OpenOptions;
 use std::io;
 use std::io::{Cursor, Write};
 use std::rt::Files;
-use type_sheet::Loaded;
+use type_sheet::LoadError;
 
 // Where the status goes, if it is asked for: file descriptor 3.
 const STATUS_FILE: &str = "/dev/fd/3";
 
-// What can be wrong with an argument, by number: no such option, and a name that is missing after --sheet. A program has others of its own.
-pub const UNKNOWN: u64 = 1;
+// What can be wrong with an argument: no such option, and a name that is missing after --sheet.
+#[derive(Clone, Copy)]
+pub enum Fault {
+    Unknown,
+    NoSheet,
+}
 
-pub const NO_SHEET: u64 = 2;
+// A fault, and the argument that it is about.
+#[derive(Clone, Copy)]
+pub struct BadArgument {
+    pub fault: Fault,
+    pub at: usize,
+}
 
-// What the arguments ask for: the help, the status, and which argument names the sheet, 0 for none. A fault is a number, 0 for none, and
-// `at` the argument that it is about.
+// What the arguments ask for: the help, the status, and which argument names the sheet. `wrong` is what is wrong with them.
 #[derive(Clone, Copy)]
 pub struct Asked {
     pub help: bool,
     pub status: bool,
-    pub sheet: usize,
-    pub fault: u64,
-    pub at: usize,
+    pub sheet: Option<usize>,
+    pub wrong: Option<BadArgument>,
 }
 
 // What no arguments ask for.
 pub fn nothing() -> Asked
-    ensures { result ≡ record { help = false; status = false; sheet = 0; fault = 0; at = 0 } }
+    ensures { result ≡ record { help = false; status = false; sheet = None; wrong = None } }
 {
     Asked {
         help: false,
         status: false,
-        sheet: 0,
-        fault: 0,
-        at: 0,
+        sheet: None,
+        wrong: None,
     }
 }
 
@@ -77,23 +83,22 @@ pub fn argument(rt: &impl Env, i: usize, buf: &mut [u8]) -> usize
 }
 
 // What is asked for with a fault of argument i.
-pub fn wrong(asked: Asked, fault: u64, i: usize) -> Asked
-    ensures { result ≡ record asked { fault = fault; at = i } }
+pub fn wrong(asked: Asked, fault: Fault, i: usize) -> Asked
+    ensures { result ≡ record asked { wrong = Some (record { fault = fault; at = i }) } }
 {
     let mut asked = asked;
-    asked.fault = fault;
-    asked.at = i;
+    asked.wrong = Some(BadArgument { fault, at: i });
     asked
 }
 
 // What is asked for with argument i, before the argument `next`. The word after --sheet is the name of a sheet, whatever it is. A word that
 // is none of the three options is a fault.
 pub fn taken(rt: &impl Env, asked: Asked, i: usize, next: usize) -> Asked
-    ensures name { asked.sheet ≡ i → result ≡ asked }
-    ensures word { asked.sheet ≢ i → (result ≡ record asked { help = true }) ⊎ ((result ≡ record asked { status = true }) ⊎ ((result ≡ record asked { sheet = next }) ⊎ (result ≡ record asked { fault = UNKNOWN; at = i }))) }
+    ensures name { asked.sheet ≡ Some i → result ≡ asked }
+    ensures word { asked.sheet ≢ Some i → (result ≡ record asked { help = true }) ⊎ ((result ≡ record asked { status = true }) ⊎ ((result ≡ record asked { sheet = Some next }) ⊎ (result ≡ record asked { wrong = Some (record { fault = Fault'.Unknown; at = i }) }))) }
 {
     let mut asked = asked;
-    if asked.sheet == i {
+    if asked.sheet == Some(i) {
         return asked;
     }
     if is_word(rt, i, b"--help") {
@@ -101,20 +106,20 @@ pub fn taken(rt: &impl Env, asked: Asked, i: usize, next: usize) -> Asked
     } else if is_word(rt, i, b"--status") {
         asked.status = true;
     } else if is_word(rt, i, b"--sheet") {
-        asked.sheet = next;
+        asked.sheet = Some(next);
     } else {
-        return wrong(asked, UNKNOWN, i);
+        return wrong(asked, Fault::Unknown, i);
     }
     asked
 }
 
 // What all n words ask for, the program's own name among them: no name is missing after the last.
 pub fn complete(asked: Asked, n: usize) -> Asked
-    ensures missing { asked.sheet ≡ n → result ≡ record asked { fault = NO_SHEET; at = n } }
-    ensures whole { asked.sheet ≢ n → result ≡ asked }
+    ensures missing { asked.sheet ≡ Some n → result ≡ record asked { wrong = Some (record { fault = Fault'.NoSheet; at = n }) } }
+    ensures whole { asked.sheet ≢ Some n → result ≡ asked }
 {
-    if asked.sheet == n {
-        return wrong(asked, NO_SHEET, n);
+    if asked.sheet == Some(n) {
+        return wrong(asked, Fault::NoSheet, n);
     }
     asked
 }
@@ -135,18 +140,18 @@ pub fn load_sheet<R: Env + Files>(
     asked: Asked,
     sheet: &mut [u16; 520],
 ) -> bool
-    ensures none { asked.sheet ≡ 0 → (result ≡ true) × (sheet.new ≡ sheet.old) }
+    ensures none { asked.sheet ≡ None → (result ≡ true) × (sheet.new ≡ sheet.old) }
     ensures unread { result ≡ false → sheet.new ≡ sheet.old }
 {
-    if asked.sheet == 0 {
+    let Some(i) = asked.sheet else {
         return true;
-    }
+    };
     let mut path = [0u8; 4096];
-    let n = argument(rt, asked.sheet, &mut path);
+    let n = argument(rt, i, &mut path);
     let said = match type_sheet::load(rt, &path[..n], sheet) {
-        Loaded::Read => return true,
-        Loaded::Unopened(why) => failed(err, program, &path[..n], why),
-        Loaded::Unfit => unfit(err, program, &path[..n]),
+        Ok(()) => return true,
+        Err(LoadError::Unopened(why)) => failed(err, program, &path[..n], why),
+        Err(LoadError::Unfit) => unfit(err, program, &path[..n]),
     };
     // What standard error does not take is lost.
     let _ = said;
@@ -181,17 +186,10 @@ fn reason(text: &[u8], why: io::Error) -> &[u8] {
     }
 }
 
-// Says on standard error what is wrong with the named thing: the entry of a text by its number.
-pub fn say_wrong(
-    err: &mut impl Write,
-    program: &[u8],
-    name: &[u8],
-    text: &[u8],
-    fault: u64,
-) -> io::Result<()> {
+// Says on standard error what is wrong with the named thing.
+pub fn say_wrong(err: &mut impl Write, program: &[u8], name: &[u8], text: &str) -> io::Result<()> {
     named(err, program, name)?;
-    words::say(err, text, fault)?;
-    err.write_all(b"\n")
+    writeln!(err, "{text}")
 }
 
 // The same of argument i.
@@ -200,12 +198,11 @@ pub fn say_wrong_argument(
     err: &mut impl Write,
     program: &[u8],
     i: usize,
-    text: &[u8],
-    fault: u64,
+    text: &str,
 ) -> io::Result<()> {
     let mut word = [0u8; 4096];
     let n = argument(rt, i, &mut word);
-    say_wrong(err, program, &word[..n], text, fault)
+    say_wrong(err, program, &word[..n], text)
 }
 
 // The program's name, and that of what it says something about.

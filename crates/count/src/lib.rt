@@ -4,7 +4,7 @@
 ghost use Rattle.std.specs.Prelude.{◌≡◌, ◌+◌, ◌<◌};
 ghost use Rattle.count.specs.Count.{clipped, raised, counted, counted_end};
 
-// Where the counts stand: that of a refusal number at the number itself, the others after them.
+// Where the counts stand: that of a refusal number at the number itself, the others after them. `counted` and the sum of all are of such a list.
 pub const ACCEPTED: usize = 256;
 
 pub const CUT: usize = 257;
@@ -17,6 +17,7 @@ pub const TOTAL: usize = 259;
 const MOST: u64 = 18446744073709551615;
 
 // What came of one input: accepted, with so many symbology rows; refused by a number; or cut, where the bytes ended inside it.
+// The number stays one: `counted` counts it at the place that is the number.
 #[derive(Clone, Copy)]
 pub enum Outcome {
     Accepted { rows: u64 },

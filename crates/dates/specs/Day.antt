@@ -1,9 +1,7 @@
 -- The number of a day, and the date of a number: 1 January of year 0 is 0, and each day counts those before it.
 -- Assumes nothing.
-use Rattle.std.specs.Prelude.{Bool, cond, ℕ, zero, suc, ◌+◌, ◌-◌, ◌*◌, ◌/◌, ◌%◌, leb, ltb}
+use Rattle.std.specs.Prelude.{Option, Some, None, Bool, cond, ℕ, zero, suc, ◌+◌, ◌-◌, ◌*◌, ◌/◌, ◌%◌, leb, ltb}
 use Rattle.dates.specs.Date.{days_in, is_date}
-use Rattle.dates.specs.declared.Calendar.{Calendar}
-use Rattle.dates.specs.declared.Calendar.TheVariants.{Has, Lacks}
 
 -- the days of the years, or of the months, before the one of this number
 unfoldable pub days_before : (ℕ → ℕ) → ℕ → ℕ
@@ -57,9 +55,9 @@ date_after n =
     (cond (ltb (n / 100 % 100) 12) (n / 100 * 100 + 101) (n / 10000 * 10000 + 10101))
 
 -- what the date check gives: the day's number, where there is such a day
-unfoldable pub day_on : ℕ → Calendar
-day_on n = cond (is_date n) (Has (day_of n)) Lacks
+unfoldable pub day_on : ℕ → Option ℕ
+day_on n = cond (is_date n) (Some (day_of n)) None
 
 -- and back: the date, where there is one of that number
-unfoldable pub date_on : ℕ → Calendar
-date_on k = cond (is_day_number k) (Has (date_of_day k)) Lacks
+unfoldable pub date_on : ℕ → Option ℕ
+date_on k = cond (is_day_number k) (Some (date_of_day k)) None

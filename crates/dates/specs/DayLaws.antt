@@ -1,7 +1,7 @@
 -- What the calendar's rule says of day numbers: how many days are before a year and a month, that a later date has a larger
 -- number, that the date of a number is the one that has it, and that the day after is one more.
 -- Assumes nothing.
-use Rattle.std.specs.Prelude.{◌≡◌, Bool, true, false, cond, T, leb, ltb, eqb, get_or}
+use Rattle.std.specs.Prelude.{Some, ◌≡◌, Bool, true, false, cond, T, leb, ltb, eqb, get_or}
 use Rattle.std.proofs.Math.Path.{refl, sym, ap}
 use Rattle.std.proofs.Common.{subst, ◌∙◌, not-suc-le-zero, mod-lt, eqb→eq, leb→le}
 use Prim.Native.Nat.{ℕ, zero, suc, ◌+◌, ◌-◌, ◌*◌, ◌/◌, ◌%◌, ◌≤◌, ◌<◌}
@@ -13,7 +13,6 @@ use Rattle.codec.specs.CaseLaws.{by_le, by_order, by_eqb, by_bool, no_true}
 use Rattle.codec.specs.Every.{both, both_left, both_right}
 use Rattle.dates.specs.Date.{is_leap, months, days_in, is_day, is_date}
 use Rattle.dates.specs.Day.{days_before, days_of_year, days_to, day_number, day_of, is_day_number, last_by, year_of, month_of, in_year, date_of_day, date_after, date_on}
-use Rattle.dates.specs.declared.Calendar.TheVariants.{Has}
 
 -- ---- years or months that follow each other, each of so many days
 
@@ -199,7 +198,7 @@ unfolding multiples
 all_days = let e = year-before 10000 in omega arith
 
 -- so a number up to the last of them has a date
-pub date-on : (k : ℕ) → k ≤ 3652424 → date_on k ≡ Has (date_of_day k)
+pub date-on : (k : ℕ) → k ≤ 3652424 → date_on k ≡ Some (date_of_day k)
 unfolding date_on is_day_number
 date-on k h = let e : k < days_before days_of_year 10000 = omega (arith, all_days) in rw (lt-ltb k (days_before days_of_year 10000) e)
 

@@ -1,5 +1,5 @@
 -- Months that are kept change no answer. Assumes nothing.
-use Rattle.std.specs.Prelude.{◌≡◌, refl, cond, List, ℕ, ◌+◌, ◌-◌, ◌/◌, ◌%◌, ◌≤◌, ◌<◌, leb, eqb, get_or, set, length, replicate}
+use Rattle.std.specs.Prelude.{Some, None, ◌≡◌, refl, cond, List, ℕ, ◌+◌, ◌-◌, ◌/◌, ◌%◌, ◌≤◌, ◌<◌, leb, eqb, get_or, set, length, replicate}
 use Rattle.std.proofs.Math.Path.{sym, ap}
 use Rattle.std.proofs.Common.{subst, ◌∙◌, get_or-set_same, get_or-set_other}
 use Rattle.std.proofs.Math.Bool.{true, false}
@@ -11,7 +11,6 @@ use borrow.Author.Tests.{le-leb, lt-leb}
 use Rattle.codec.specs.CaseLaws.{by_le, by_bool, by_eqb}
 use Rattle.dates.specs.Date.{is_leap, days_in, is_day, is_date}
 use Rattle.dates.specs.Day.{days_before, days_to, day_number, day_of, day_on}
-use Rattle.dates.specs.declared.Calendar.TheVariants.{Has, Lacks}
 use Rattle.dates.specs.DayLaws.{month-most, month-below, year-most}
 use Rattle.dates.specs.Months.{days_of, month_word, kept, entry_at, word_in, months_after, months_tested, is_date_in, day_in, Right}
 
@@ -60,19 +59,19 @@ module _ (n : ℕ) (small : n ≤ 4294967295) where
   day-by_word = rw (word_first (n / 100) begins, year)
 
   -- what the calendar says of a number, by the tests of the code
-  pub no-first : n % 100 < 1 → day_on n ≡ Lacks
+  pub no-first : n % 100 < 1 → day_on n ≡ None
   unfolding day_on
   no-first lt = let no : is_date n ≡ false = sym date-by_word ∙ rw (lt-leb 1 (n % 100) lt) in rw no
 
-  pub no_last : 1 ≤ n % 100 → month_word (n / 100) / 268435456 < n % 100 → day_on n ≡ Lacks
+  pub no_last : 1 ≤ n % 100 → month_word (n / 100) / 268435456 < n % 100 → day_on n ≡ None
   unfolding day_on
   no_last le lt = let no : is_date n ≡ false = sym date-by_word ∙ rw (le-leb 1 (n % 100) le, lt-leb (n % 100) (month_word (n / 100) / 268435456) lt) in rw no
 
-  pub a-day : 1 ≤ n % 100 → n % 100 ≤ month_word (n / 100) / 268435456 → day_on n ≡ Has (month_word (n / 100) % 268435456 + n % 100 - 1)
+  pub a-day : 1 ≤ n % 100 → n % 100 ≤ month_word (n / 100) / 268435456 → day_on n ≡ Some (month_word (n / 100) % 268435456 + n % 100 - 1)
   unfolding day_on
   a-day le le' =
       let yes : is_date n ≡ true = sym date-by_word ∙ rw (le-leb 1 (n % 100) le, le-leb (n % 100) (month_word (n / 100) / 268435456) le') in
-      rw yes (ap Has (omega (arith, day-by_word)))
+      rw yes (ap Some (omega (arith, day-by_word)))
 
 -- ---- months that are kept
 

@@ -1,18 +1,17 @@
 -- ONE ANSWER: each public promise is an equation for each output, so two outcomes that meet it are equal.
 -- Assumes nothing.
-use Rattle.std.specs.Prelude.{◌≡◌, Bool, List, ℕ, ◌/◌}
+use Rattle.std.specs.Prelude.{Option, ◌≡◌, Bool, List, ℕ, ◌/◌}
 use Rattle.std.proofs.Common.{sym, ◌∙◌}
 use Rattle.dates.specs.Day.{day_on, date_on}
 use Rattle.dates.specs.Months.{is_date_in, day_in, months_after, months_tested}
-use Rattle.dates.specs.declared.Calendar.{Calendar}
 
 one : {A : Type 0} {x y z : A} → x ≡ z → y ≡ z → x ≡ y
 one f g = f ∙ sym g
 
-pub day-of-one : (n : ℕ) (a b : Calendar) → a ≡ day_on n → b ≡ day_on n → a ≡ b
+pub day-of-one : (n : ℕ) (a b : Option ℕ) → a ≡ day_on n → b ≡ day_on n → a ≡ b
 day-of-one n a b f g = one f g
 
-pub date-of-day-one : (k : ℕ) (a b : Calendar) → a ≡ date_on k → b ≡ date_on k → a ≡ b
+pub date-of-day-one : (k : ℕ) (a b : Option ℕ) → a ≡ date_on k → b ≡ date_on k → a ≡ b
 date-of-day-one k a b f g = one f g
 
 -- an answer, and the months that are kept

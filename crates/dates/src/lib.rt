@@ -12,37 +12,27 @@ const DAYS: u64 = 268435456;
 
 const MONTH: u64 = 8589934592;
 
-// What the calendar of the years 0 to 9999 says of a date or of a day's number: the other of the two, where it has such a day.
-#[derive(Clone, Copy)]
-pub enum Calendar {
-    Has(u32),
-    Lacks,
-}
-
-// The number of the day of this date.
-pub fn day_of(date: u32) -> Calendar
+// The number of the day of this date, where the calendar of the years 0 to 9999 has it.
+pub fn day_of(date: u32) -> Option<u32>
     ensures { result ≡ day_on date }
 {
     let word = month_word(date / 100);
     let d = date % 100;
-    if d < 1 {
-        return Calendar::Lacks;
+    if d < 1 || word / DAYS < d as u64 {
+        return None;
     }
-    if word / DAYS < d as u64 {
-        return Calendar::Lacks;
-    }
-    Calendar::Has((word % DAYS) as u32 + d - 1)
+    Some((word % DAYS) as u32 + d - 1)
 }
 
-// The date of the day of this number.
-pub fn date_of_day(day: u32) -> Calendar
+// The date of the day of this number, where the years 0 to 9999 have so many days.
+pub fn date_of_day(day: u32) -> Option<u32>
     ensures { result ≡ date_on day }
 {
     if day > 3652424 {
-        return Calendar::Lacks;
+        return None;
     }
     let y = year_of(day);
-    Calendar::Has(y * 10000 + in_year(y, day - days_before_year(y)))
+    Some(y * 10000 + in_year(y, day - days_before_year(y)))
 }
 
 // Whether n is a date, by the months that are kept: zeros at first, and then what these functions made of them.
@@ -51,10 +41,7 @@ pub fn is_date_in(months: &mut [u64; 64], n: u32) -> bool
 {
     let days = days_known(months, n / 100);
     let d = n % 100;
-    if d < 1 {
-        return false;
-    }
-    d <= days
+    1 <= d && d <= days
 }
 
 // The number of the day of the date n, by the months that are kept. Of any other number, the days of the years and months before it, and
@@ -128,32 +115,28 @@ fn leap(y: u32) -> bool
     ensures { result ≡ is_leap y }
 {
     if y % 100 == 0 {
-        return y % 400 == 0;
+        y % 400 == 0
+    } else {
+        y % 4 == 0
     }
-    y % 4 == 0
 }
 
 // The days of month m of the year y: none where m is no month.
 fn days_in(y: u32, m: u32) -> u32
     ensures { result ≡ days_in y m }
 {
-    if m == 2 {
-        return 28 + leap_day(y);
+    match m {
+        2 => 28 + leap_day(y),
+        1..=12 => 30 + (m + m / 8) % 2,
+        _ => 0,
     }
-    if m < 1 {
-        return 0;
-    }
-    if 12 < m {
-        return 0;
-    }
-    30 + (m + m / 8) % 2
 }
 
 // 1 in a leap year, else 0.
 fn leap_day(y: u32) -> u32
     ensures { result ≡ leap_day y }
 {
-    if leap(y) { 1 } else { 0 }
+    u32::from(leap(y))
 }
 
 // The days of the years before y.

@@ -1,6 +1,6 @@
 -- Demand 2, over the public promises: however a stream is cut, the outcome is one; and what the writer accepts reads back.
 -- Assumes nothing.
-use Rattle.std.specs.Prelude.{ℕ, ◌*◌, ◌/◌, ◌≤◌, ◌<◌, ◌≡◌, refl, true, List, ◌++◌, map, length, take, drop, leb}
+use Rattle.std.specs.Prelude.{ℕ, ◌*◌, ◌/◌, ◌≤◌, ◌<◌, ◌≡◌, refl, true, List, ◌++◌, map, length, take, drop, leb, Ok}
 use Rattle.std.proofs.Common.{sym, ap, ap₂, ◌∙◌, subst, take_at, le-leb}
 use Rattle.std.proofs.lemmas.List.{length-map}
 use Rattle.codec.specs.Codec.{ok, Bytes}
@@ -9,10 +9,8 @@ use Rattle.table.specs.Table.{flat}
 use Rattle.layout.specs.Layout.{Layout}
 use Rattle.layout.specs.LayoutOf.{D}
 use Rattle.layout.specs.LayoutLaws.{layout-octets}
-use Rattle.layout.specs.Answers.{judge, leave}
+use Rattle.layout.specs.Answers.{accepted as accepted', Answer, judge, leave}
 use Rattle.layout.specs.AnswerLaws.{judge-ok, leave-ok}
-use Rattle.layout.specs.declared.Answer.{Answer}
-use Rattle.layout.specs.declared.Answer.TheVariants.{Read}
 use Rattle.layout.specs.Rows.{rows}
 use Rattle.layout.specs.RowLaws.{no_start}
 use Rattle.layout.specs.TextLaws.{row_text}
@@ -26,7 +24,6 @@ use Rattle.rows_check.specs.SectionLaws.{printed-is}
 use Rattle.rows_check.specs.Check.{printed}
 use Rattle.writer.specs.Write.{out_after, Writes}
 use Rattle.writer.proofs.RoundTripLaws.{Accepts, accepted, reads-back, out_written}
-use Rattle.writer.specs.declared.Written.TheVariants.{Length}
 use Rattle.feed.specs.Feeding.{Feeding}
 use Rattle.feed.proofs.PieceLaws.{Lent, Handed, any_cutting, any_cutting_handed}
 use Rattle.feed.specs.Single.{Same}
@@ -52,7 +49,7 @@ pub record Back (sheet : List ℕ) (width version : ℕ) (table text written : L
   pub names_same : map (row_text written) (rows layout) ≡ map (row_text text) (rows_in table)
 
 -- the first n bytes of the output, where `write_layout` promises n written bytes: the bytes of the layout that the rows stand for
-module _ (sheet : List ℕ) (width version : ℕ) (table text out out' : List ℕ) (n : ℕ) (w : Writes sheet width version table text out out' (Length n)) where
+module _ (sheet : List ℕ) (width version : ℕ) (table text out out' : List ℕ) (n : ℕ) (w : Writes sheet width version table text out out' (Ok n)) where
   accepts : Accepts sheet width version table text (length out) n
   accepts = accepted sheet width version table text (length out) n (sym w.is)
 
@@ -72,7 +69,7 @@ module _ (sheet : List ℕ) (width version : ℕ) (table text out out' : List �
 
 -- THE ROUND TRIP: where `write_layout` promises n written bytes, the first n bytes of the output read back
 pub round_trip : (sheet : List ℕ) (width version : ℕ) (table text out out' : List ℕ) (n : ℕ) → Bytes text → version < 65536
-    → Writes sheet width version table text out out' (Length n) → Back sheet width version table text (take n out')
+    → Writes sheet width version table text out out' (Ok n) → Back sheet width version table text (take n out')
 round_trip sheet width version table text out out' n bytes v w =
     let b = reads-back sheet width version table text (length out) n bytes v (sym w.is) in
     subst (λ z. Back sheet width version table text z) (sym (written_is sheet width version table text out out' n w))
@@ -81,7 +78,7 @@ round_trip sheet width version table text out out' n bytes v w =
 -- what reading the written bytes into the table t answers, r, and leaves, t'
 pub record ReadBack (version : ℕ) (table text written t t' : List ℕ) (r : Answer) : Type 0 where
   -- the version and the number of the rows that were written
-  pub answer : r ≡ Read version (length (rows_in table))
+  pub answer : r ≡ Ok (accepted' version (length (rows_in table)))
   -- rows that are the written ones but for their starts stand at the front of the table, and the rest of it is as it was
   pub rows : List (List ℕ)
   pub rows_same : map no_start rows ≡ map no_start (rows_in table)
@@ -95,7 +92,7 @@ pub record ReadBack (version : ℕ) (table text written t t' : List ℕ) (r : An
 -- THE ROUND TRIP over the promise of `read_layout`: the first n bytes of the output, read with the writer's width and sheet into a table
 -- that is long enough
 pub round_trip_read : (sheet : List ℕ) (width version : ℕ) (table text out out' : List ℕ) (n : ℕ) → Bytes text → version < 65536
-    → Writes sheet width version table text out out' (Length n) → (t t' : List ℕ) (r : Answer) → length (rows_in table) ≤ length t / 9
+    → Writes sheet width version table text out out' (Ok n) → (t t' : List ℕ) (r : Answer) → length (rows_in table) ≤ length t / 9
     → Ruled (take n out') width sheet t t' r → ReadBack version table text (take n out') t t' r
 round_trip_read sheet width version table text out out' n bytes v w t t' r room c =
     let b = round_trip sheet width version table text out out' n bytes v w in
@@ -108,7 +105,7 @@ round_trip_read sheet width version table text out out' n bytes v w t t' r room 
     (ruled-named sheet width s x (length s) (drop (9 * length (rows x)) t) (written_bytes sheet width version table text out out' n w bytes v) b.accepted) in
     let M = formed-named table text (formed sheet width version table text out out' n w) in
     record {
-      answer = c.is ∙ ap (judge (length t / 9)) b.accepted ∙ judge-ok (length t / 9) x (length s) ∙ rw h (ap₂ Read b.version-same l);
+      answer = c.is ∙ ap (judge (length t / 9)) b.accepted ∙ judge-ok (length t / 9) x (length s) ∙ rw h (ap₂ (λ (v n : ℕ). Ok (accepted' v n)) b.version-same l);
       rows = rows x;
       rows_same = b.rows_same;
       leaves = a;

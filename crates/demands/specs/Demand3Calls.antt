@@ -1,7 +1,9 @@
 -- Demand 3, of what a caller gets: two calls that read an accepted version 4 block and an edit of it give the same answer, the same
 -- rows in both tables, each start moved by what was put in before it, and the same names.
 -- Assumes nothing.
-use Rattle.std.specs.Prelude.{ℕ, ◌+◌, ◌/◌, ◌≤◌, ◌<◌, ◌≡◌, refl, true, List, ◌++◌, map, length}
+use Rattle.block_format.specs.declared.Fields.{Fields}
+use Rattle.block_format.specs.declared.ReadError.{ReadError}
+use Rattle.std.specs.Prelude.{ℕ, ◌+◌, ◌/◌, ◌≤◌, ◌<◌, ◌≡◌, refl, true, List, ◌++◌, map, length, Result, Ok}
 use Rattle.std.proofs.Common.{arith, sym, ap, ◌∙◌, subst}
 use Rattle.std.proofs.lemmas.List.{length-map}
 use Rattle.codec.specs.Codec.{ok, Bytes}
@@ -9,16 +11,13 @@ use Rattle.codec.specs.Edits.{Marked, bytes_of, Edit, put}
 use Rattle.table.specs.Columns.{columns}
 use Rattle.layout.specs.ReadLaws.{rows-nine}
 use Rattle.symbology_format.specs.WidthLaws.{rows-of-six}
-use Rattle.names.specs.declared.Span.TheVariants.{Part}
 use Rattle.names.proofs.SpanLaws.{symbol-no_field, item-no_field}
-use Rattle.names.specs.Names.{symbol_text, item_text, symbology_span, layout_span, part_in}
+use Rattle.names.specs.Names.{symbol_text, item_text, symbology_span, layout_span, part_in, spanned}
 use Rattle.metadata_lengths.specs.Lengths.{lengths}
 use Rattle.block_format.specs.Block.{Block, block_of}
 use Rattle.block_format.specs.Fields.{fields_of}
 use Rattle.block_format.specs.Read.{sixes, nines, over, block_answer, block_symbology, block_layout, Promise}
 use Rattle.block_format.proofs.ReadLaws.{held}
-use Rattle.block_format.specs.declared.BlockAnswer.{BlockAnswer}
-use Rattle.block_format.specs.declared.BlockAnswer.TheVariants.{Read}
 use Rattle.demands.specs.LayoutRows.{move_row}
 use Rattle.demands.specs.Edited.{layout_in}
 use Rattle.demands.specs.Demand3.{marking, SameRead, demand3}
@@ -28,7 +27,7 @@ use Rattle.demands.specs.PublicNames.{kind_of, start_of, length_of, names_same, 
 pub record Call : Type 0 where
   pub symbology : List ℕ
   pub layout : List ℕ
-  pub answer : BlockAnswer
+  pub answer : Result Fields ReadError
   pub symbology-after : List ℕ
   pub layout-after : List ℕ
 
@@ -41,7 +40,7 @@ pub record Reads (sheet b : List ℕ) (z : Block) (c : Call) : Type 0 where
 -- the call c on the block b, read as z, and the call d on the edited block b': `before n` bytes were put in before place n of b
 pub record SameCalls (sheet b : List ℕ) (z : Block) (b' : List ℕ) (before : ℕ → ℕ) (c d : Call) : Type 0 where
   -- the same answer: the block's fields
-  pub answer : c.answer ≡ Read (fields_of (lengths 4) z)
+  pub answer : c.answer ≡ Ok (fields_of (lengths 4) z)
   pub same_answer : d.answer ≡ c.answer
   -- both symbology tables have the rows by column, after the second call each start moved; the rest of each is as it was
   pub symbology : c.symbology-after ≡ columns 6 (sixes z) c.symbology
@@ -50,13 +49,13 @@ pub record SameCalls (sheet b : List ℕ) (z : Block) (b' : List ℕ) (before : 
   pub layout : c.layout-after ≡ over (nines z) 9 c.layout
   pub layout-moved : d.layout-after ≡ over (map (move_row (λ n. n + before (104 + n))) (nines z)) 9 d.layout
   -- asked for by index, every symbology row gives its start and length, and never 90; the second call's start is moved
-  pub parts : (i : ℕ) → i < length (sixes z) → symbology_span (length b) c.symbology-after i ≡ Part (start_of (sixes z) i) (length_of (sixes z) i)
-  pub parts-moved : (i : ℕ) → i < length (sixes z) → symbology_span (length b') d.symbology-after i ≡ Part (start_of (sixes z) i + before (start_of (sixes z) i)) (length_of (sixes z) i)
+  pub parts : (i : ℕ) → i < length (sixes z) → symbology_span (length b) c.symbology-after i ≡ spanned (start_of (sixes z) i) (length_of (sixes z) i)
+  pub parts-moved : (i : ℕ) → i < length (sixes z) → symbology_span (length b') d.symbology-after i ≡ spanned (start_of (sixes z) i + before (start_of (sixes z) i)) (length_of (sixes z) i)
   -- so does every layout row whose kind has a text
   pub layout-parts : (i : ℕ) → i < length (nines z) → item_text (kind_of (nines z) i) ≡ true
-      → layout_span (length (layout_in sheet b)) c.layout-after i ≡ Part (start_of (nines z) i) (length_of (nines z) i)
+      → layout_span (length (layout_in sheet b)) c.layout-after i ≡ spanned (start_of (nines z) i) (length_of (nines z) i)
   pub layout-parts-moved : (i : ℕ) → i < length (nines z) → item_text (kind_of (nines z) i) ≡ true
-      → layout_span (length (layout_in sheet b')) d.layout-after i ≡ Part (start_of (nines z) i + before (104 + start_of (nines z) i)) (length_of (nines z) i)
+      → layout_span (length (layout_in sheet b')) d.layout-after i ≡ spanned (start_of (nines z) i + before (104 + start_of (nines z) i)) (length_of (nines z) i)
   -- each name the same bytes
   pub names : (i : ℕ) → i < length (sixes z) → part_in b' (symbology_span (length b') d.symbology-after i) ≡ part_in b (symbology_span (length b) c.symbology-after i)
   pub layout-names : (i : ℕ) → i < length (nines z)

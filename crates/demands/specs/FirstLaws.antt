@@ -1,6 +1,6 @@
 -- What is untidy is told in wire order: the places rise strictly and lie within the layout, so the first that is told is the first by place.
 -- Assumes nothing.
-use Rattle.std.specs.Prelude.{ℕ, suc, ◌+◌, ◌-◌, ◌≤◌, ◌<◌, ◌≡◌, refl, Bool, true, false, cond, List, [], ◌∷◌, ◌++◌, length, leb, eqb}
+use Rattle.std.specs.Prelude.{ℕ, suc, ◌+◌, ◌-◌, ◌≤◌, ◌<◌, ◌≡◌, refl, Bool, true, false, cond, List, [], ◌∷◌, ◌++◌, length, leb, eqb, Err}
 use Rattle.std.proofs.Common.{arith, ap, ◌∙◌, subst, length-append}
 use Rattle.refusal.specs.declared.Refusal.{Refusal}
 use Rattle.codec.specs.Codec.{Codec, times_print, TimesLegal, little, ok, refusal, Bytes}
@@ -11,7 +11,6 @@ use Rattle.layout.specs.LawfulLaws.{record_inside, struct_inside, label_def_body
 use Rattle.layout.specs.NameCountLaws.{AllOf}
 use Rattle.layout.specs.PrintLaws.{entry-print, label-print, label_body-print, fields-print, struct_body-print, record_body-print}
 use Rattle.rules.specs.Rules.{ruled_of}
-use Rattle.tidy.specs.declared.Tidy.TheVariants.{Refused}
 use Rattle.tidy.specs.Tidy.{leftover, nonzero, each_from, in_entry, in_fields, in_labels, in_record, in_struct, in_label_def, structs_at, labels_at, untidy, first_of, told, tidy_of}
 use Rattle.demands.specs.PlainLaws.{ruled_parsed}
 
@@ -151,7 +150,7 @@ rises-after n l none = tt
 rises-after n l (next a b h) = (omega arith, rises-after n (omega arith) h)
 
 -- the first of what is told
-first-of : (s : List ℕ) (t : Layout) {p : ℕ} (ks : List Refusal) (k : Refusal) → untidy t ≡ ks → Rises p (length s) ks → first_of ks ≡ Refused k → First s t k
+first-of : (s : List ℕ) (t : Layout) {p : ℕ} (ks : List Refusal) (k : Refusal) → untidy t ≡ ks → Rises p (length s) ks → first_of ks ≡ Err k → First s t k
 unfolding first_of
 first-of s t [] k u h e = absurd (let z : ◌≡◌ {A = ℕ} 0 1 = cc in omega arith)
 first-of s t (m ∷ ks) k u (next a b h) e =
@@ -159,7 +158,7 @@ first-of s t (m ∷ ks) k u (next a b h) e =
     subst (First s t) q (record { later = ks; all = u; least = rises-after m.place (omega arith) h; inside = b })
 
 -- where a layout passes the rules and is not tidy, the answer is its first untidy thing in wire order
-pub tidy_first : (sheet : List ℕ) (width : ℕ) (s : List ℕ) (t : Layout) (j : ℕ) (k : Refusal) → Bytes s → ruled_of sheet width s ≡ ok t j → tidy_of sheet width s ≡ Refused k → First s t k
+pub tidy_first : (sheet : List ℕ) (width : ℕ) (s : List ℕ) (t : Layout) (j : ℕ) (k : Refusal) → Bytes s → ruled_of sheet width s ≡ ok t j → tidy_of sheet width s ≡ Err k → First s t k
 unfolding told
 tidy_first sheet width s t j k b e y =
     let p = ruled_parsed sheet width s t j b e in

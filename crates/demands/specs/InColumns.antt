@@ -1,5 +1,7 @@
 -- The symbology table that a call leaves, cell by cell. Assumes nothing.
-use Rattle.std.specs.Prelude.{ℕ, ◌*◌, ◌/◌, ◌≤◌, ◌<◌, ◌≡◌, List, [], length, get_or}
+use Rattle.block_format.specs.declared.Fields.{Fields}
+use Rattle.block_format.specs.declared.ReadError.{ReadError}
+use Rattle.std.specs.Prelude.{ℕ, ◌*◌, ◌/◌, ◌≤◌, ◌<◌, ◌≡◌, List, [], length, get_or, Result}
 use Rattle.std.proofs.Common.{arith, ap, ◌∙◌}
 use Rattle.codec.specs.Codec.{ok}
 use Rattle.table.specs.Columns.{cell}
@@ -7,7 +9,6 @@ use Rattle.table.proofs.ColumnLaws.{columns-length, cell_row, cell-kept, after_k
 use Rattle.block_format.specs.Block.{Block, block_of}
 use Rattle.block_format.specs.Read.{sixes, nines, Promise}
 use Rattle.block_format.proofs.ReadLaws.{held}
-use Rattle.block_format.specs.declared.BlockAnswer.{BlockAnswer}
 
 -- the table s' has the rows rs, and else what s had
 pub record InColumns (rs : List (List ℕ)) (s s' : List ℕ) : Type 0 where
@@ -19,7 +20,7 @@ pub record InColumns (rs : List (List ℕ)) (s s' : List ℕ) : Type 0 where
   pub long : length s' ≡ length s
 
 -- an accepted block of any version, read into tables that hold its rows
-pub in_columns : (version : ℕ) (sheet b s l s' l' : List ℕ) (r : BlockAnswer) (z : Block × List ℕ) (k : ℕ) → Promise version b sheet s l r s' l' → block_of version sheet b ≡ ok z k
+pub in_columns : (version : ℕ) (sheet b s l s' l' : List ℕ) (r : Result Fields ReadError) (z : Block × List ℕ) (k : ℕ) → Promise version b sheet s l r s' l' → block_of version sheet b ≡ ok z k
     → length (sixes z.0) ≤ length s / 6 → length (nines z.0) ≤ length l / 9 → InColumns (sixes z.0) s s'
 in_columns version sheet b s l s' l' r z k p e hs hl =
     let rs = sixes z.0 in

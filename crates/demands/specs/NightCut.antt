@@ -1,6 +1,9 @@
 -- ANY CUTTING OF A NIGHT: pieces one after the other leave state, store, tables and counts as one piece of all their bytes does. The night may
 -- stand anywhere. Assumes nothing.
-use Rattle.std.specs.Prelude.{ℕ, zero, suc, ◌+◌, ◌-◌, ◌≤◌, ◌<◌, ◌≡◌, true}
+use Rattle.refusal.specs.declared.Refusal.{Refusal}
+use Rattle.block_format.specs.declared.Fields.{Fields}
+use Rattle.block_format.specs.declared.ReadError.{ReadError}
+use Rattle.std.specs.Prelude.{ℕ, zero, suc, ◌+◌, ◌-◌, ◌≤◌, ◌<◌, ◌≡◌, true, Result, Ok, Err}
 use Rattle.std.proofs.Common.{le_refl, ◌∙◌}
 use native.Mathlib.Omega.{arith}
 use Rattle.std.proofs.Math.Path.{refl, sym, ap, ap₂}
@@ -14,12 +17,11 @@ use Rattle.held.specs.Held.{need_of}
 use Rattle.held.proofs.StageLaws.{stage-head, stage-small, taken-most, after-length}
 use Rattle.held.proofs.PieceLaws.{taken_none, both-taken, both-store, taken-some, needs_all}
 use Rattle.held.specs.declared.Holding.{Holding}
-use Rattle.held.specs.declared.Holding.TheVariants.{Needs, Refused, Whole}
+use Rattle.held.specs.declared.Holding.TheVariants.{Needs, Whole}
 use Rattle.feed.specs.Feeding.{start, stage_of, block_in, block_says, answer_at, symbology_at, layout_at, taken_of, held_after, store_after}
 use Rattle.feed.proofs.StageLaws.{start-law}
 use Rattle.feed.specs.declared.Answer.TheVariants as Answer'
 use Rattle.block_format.specs.Read.{block_answer}
-use Rattle.block_format.specs.declared.BlockAnswer.{BlockAnswer}
 use Rattle.count.specs.Count.{counted_all}
 use Rattle.frames.proofs.CutLaws.{joined}
 use Rattle.night.specs.Night.{kept, Night, judged, turned, turns, through}
@@ -40,39 +42,39 @@ module _ (t : List ℕ) (x : Night) (p : List ℕ) where
   abbrev pub store_then : List ℕ
   store_then = store_after x.held x.store p
 
-  abbrev pub stage_then : Holding
+  abbrev pub stage_then : Result Holding Refusal
   stage_then = stage_of held_then store_then
 
   -- more is needed: all of the piece is held, and nothing else has changed
-  pub turned_needs : (n : ℕ) → stage_then ≡ Needs n
+  pub turned_needs : (n : ℕ) → stage_then ≡ Ok (Needs n)
       → turned t x p ≡ record { held = held_then; ended = false; store = store_then; symbology = x.symbology; layout = x.layout; counts = x.counts }
   unfolding turned answer_at symbology_at layout_at counted_all
   turned_needs n e = rw e
 
-  pub left-none : (n : ℕ) → stage_then ≡ Needs n → length left ≡ 0
+  pub left-none : (n : ℕ) → stage_then ≡ Ok (Needs n) → length left ≡ 0
   left-none n e = omega (arith, needs_all start start-law x.held x.store p n e, length-drop taken p)
 
   -- else nothing is needed, and the next input begins
-  pub by-stage : {P : Type 0} → ((n : ℕ) → stage_then ≡ Needs n → P) → (need_of stage_then ≡ 0 → (turned t x p).held ≡ 0 → P) → P
+  pub by-stage : {P : Type 0} → ((n : ℕ) → stage_then ≡ Ok (Needs n) → P) → (need_of stage_then ≡ 0 → (turned t x p).held ≡ 0 → P) → P
   unfolding turned answer_at block_says
   by-stage {P} needs settled = go stage_then refl
     where
-      says : (b : BlockAnswer) → kept held_then (block_says b) ≡ 0
-      says (BlockAnswer.Read f) = refl
-      says (BlockAnswer.Refused e) = refl
-      says (BlockAnswer.Short m n) = refl
+      says : (b : Result Fields ReadError) → kept held_then (block_says b) ≡ 0
+      says (Ok f) = refl
+      says (Err (ReadError.Refused e)) = refl
+      says (Err (ReadError.Short m n)) = refl
 
-      go : (h : Holding) → stage_then ≡ h → P
-      go (Needs n) e = needs n e
-      go (Refused e) q = settled (ap need_of q) (rw q)
-      go (Whole w v) q = settled (ap need_of q) (rw q (says (block_answer v (block_in store_then w) t x.symbology x.layout)))
+      go : (h : Result Holding Refusal) → stage_then ≡ h → P
+      go (Ok (Needs n)) e = needs n e
+      go (Err e) q = settled (ap need_of q) (rw q)
+      go (Ok (Whole w v)) q = settled (ap need_of q) (rw q (says (block_answer v (block_in store_then w) t x.symbology x.layout)))
 
 -- a store below the prelude ends the reading at once
 turned-small : (t : List ℕ) (x : Night) (p : List ℕ) → x.held ≡ 0 → length x.store < 8 → (turned t x p).ended ≡ true
 unfolding turned answer_at
 turned-small t x p z h =
     let n : taken_of x.held x.store p ≡ 0 = taken_none start start-law x.held x.store p (ap need_of (stage-small start x.held x.store (omega arith) h)) in
-    let e : stage_of (held_after x.held x.store p) (store_after x.held x.store p) ≡ Refused (refusal 2 0) =
+    let e : stage_of (held_after x.held x.store p) (store_after x.held x.store p) ≡ Err (refusal 2 0) =
     stage-small start _ _ (omega arith) (omega (arith, after-length start start-law x.held x.store p)) in
     rw e
 
@@ -116,7 +118,7 @@ module _ (t : List ℕ) where
 
   module _ (x : Night) (p q : List ℕ) where
     -- where more is needed, the second goes on as both would
-    needs_both : (n : ℕ) → stage_then t x p ≡ Needs n → (turned t (turned t x p) q ≡ turned t x (p ++ q)) × (left t (turned t x p) q ≡ left t x (p ++ q))
+    needs_both : (n : ℕ) → stage_then t x p ≡ Ok (Needs n) → (turned t (turned t x p) q ≡ turned t x (p ++ q)) × (left t (turned t x p) q ≡ left t x (p ++ q))
     unfolding turned
     needs_both n e =
         let all : taken t x p ≡ length p = needs_all start start-law x.held x.store p n e in
@@ -165,7 +167,7 @@ module _ (t : List ℕ) where
         enough-held (suc (length (left t x p ++ q))) (length (p ++ q)) (turned t x p) (left t x p ++ q) h (omega arith) (omega (arith, length-append p q, length-append (left t x p) q)) in
         ap (λ i. through t i q) first ∙ after z h ∙ last ∙ sym (both ∙ ap₂ (turns (length (p ++ q)) t) same rest))
       where
-        onward : (n : ℕ) → stage_then t x p ≡ Needs n → 0 < length (p ++ q) → through t (turned t x p) q ≡ turns (length (p ++ q)) t (turned t x (p ++ q)) (left t x (p ++ q))
+        onward : (n : ℕ) → stage_then t x p ≡ Ok (Needs n) → 0 < length (p ++ q) → through t (turned t x p) q ≡ turns (length (p ++ q)) t (turned t x (p ++ q)) (left t x (p ++ q))
         onward n e many =
             by_le (length q) 0
             (λ none.

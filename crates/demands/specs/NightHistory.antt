@@ -1,7 +1,9 @@
 -- THE COUNTS OF A NIGHT: however its bytes come in pieces, what is counted is the history of all of them. Assumes nothing.
+use Rattle.block_format.specs.declared.Fields.{Fields}
+use Rattle.block_format.specs.declared.ReadError.{ReadError}
 use Prim.Native.Nat.{ℕ, zero, suc, ◌+◌, ◌-◌, ◌/◌, ◌≤◌, ◌<◌}
 use Rattle.std.proofs.Common.{arith, ap₂, subst, ◌∙◌, length-append, length-take-le, take-add, drop_at}
-use Rattle.std.specs.Prelude.{◌≡◌, Bool, true, false, not, get_or, take, drop, leb}
+use Rattle.std.specs.Prelude.{◌≡◌, Bool, true, false, not, get_or, take, drop, leb, Result, Ok, Err}
 use Rattle.std.proofs.Math.Path.{refl, sym, ap}
 use mathlib.Core.List.{List, [], ◌∷◌}
 use Rattle.std.proofs.Math.ListN.{length, length-drop}
@@ -23,11 +25,10 @@ use Rattle.held.proofs.PieceLaws.{needs_all}
 use Rattle.held.proofs.StreamLaws.{Long, first-whole, Count, Found, finds_first}
 use Rattle.held.proofs.RefusalLaws as why
 use Rattle.held.specs.declared.Holding.{Holding}
-use Rattle.held.specs.declared.Holding.TheVariants.{Needs, Refused, Whole}
+use Rattle.held.specs.declared.Holding.TheVariants.{Needs, Whole}
 use Rattle.block_format.specs.Block.{Block, block_of}
 use Rattle.block_format.specs.Read.{sixes, nines, roomy, body_numbers, symbology_after, layout_after, block_answer, block_symbology, block_layout}
 use Rattle.block_format.proofs.RefusalLaws.{answer-body}
-use Rattle.block_format.specs.declared.BlockAnswer.{BlockAnswer}
 use Rattle.feed.specs.Feeding.{announced, start, stage_of, block_in, block_says, answer_at, symbology_at, layout_at, taken_of, held_after, store_after}
 use Rattle.feed.proofs.StageLaws.{start-law, whole-prelude}
 use Rattle.count.specs.Count.{History, counted, counted_all, counted_end}
@@ -45,14 +46,14 @@ use Rattle.demands.specs.NightCut.{turned_needs, left-none, passed, any_cutting}
 pub start-long : Long start
 start-long s w v h q = let (len, _, e) = whole-prelude s w v q in omega arith
 
-tests-version : (a b c : Bool) (u m v len : ℕ) → tests a b c u m ≡ Stage.Whole v len → (b ≡ true) × (u ≡ v)
+tests-version : (a b c : Bool) (u m v len : ℕ) → tests a b c u m ≡ Ok (Stage.Whole v len) → (b ≡ true) × (u ≡ v)
 tests-version false b c u m v len e = absurd (let z : ◌≡◌ {A = ℕ} 0 1 = cc in omega arith)
 tests-version true false c u m v len e = absurd (let z : ◌≡◌ {A = ℕ} 0 1 = cc in omega arith)
 tests-version true true false u m v len e = absurd (let z : ◌≡◌ {A = ℕ} 0 1 = cc in omega arith)
 tests-version true true true u m v len e = (refl, cc)
 
 -- a prelude that is accepted names a version that there is
-whole-version : (s : List ℕ) (v len : ℕ) → prelude_of s ≡ Stage.Whole v len → is_version v ≡ true
+whole-version : (s : List ℕ) (v len : ℕ) → prelude_of s ≡ Ok (Stage.Whole v len) → is_version v ≡ true
 whole-version s v len e =
     by_le 8 (length s)
     (λ h.
@@ -61,13 +62,13 @@ whole-version s v len e =
     (λ h. let q = sym (prelude-few s h) ∙ e in absurd (let z : ◌≡◌ {A = ℕ} 0 1 = cc in omega arith))
 
 -- a refusal before the block ends it
-pub stage-ends : (k : ℕ) (st : List ℕ) {e : Refusal} → stage_of k st ≡ Refused e → among e.number end_numbers ≡ true
+pub stage-ends : (k : ℕ) (st : List ℕ) {e : Refusal} → stage_of k st ≡ Err e → among e.number end_numbers ≡ true
 stage-ends k st {e} q = go (why.why start k st q)
   where
-    said : (x : Stage) → announced x ≡ Refused e → x ≡ Stage'.Refused e
-    said (Stage'.Needs m) i = absurd (let z : ◌≡◌ {A = ℕ} 0 1 = cc in omega arith)
-    said (Stage'.Refused j) i = let z : j ≡ e = cc in ap Stage'.Refused z
-    said (Stage'.Whole v len) i = absurd (let z : ◌≡◌ {A = ℕ} 0 1 = cc in omega arith)
+    said : (x : Result Stage Refusal) → announced x ≡ Err e → x ≡ Err e
+    said (Ok (Stage'.Needs m)) i = absurd (let z : ◌≡◌ {A = ℕ} 0 1 = cc in omega arith)
+    said (Err j) i = let z : j ≡ e = cc in ap Err z
+    said (Ok (Stage'.Whole v len)) i = absurd (let z : ◌≡◌ {A = ℕ} 0 1 = cc in omega arith)
 
     go : why.Why start k st e → among e.number end_numbers ≡ true
     go (why.held i) = rw i
@@ -79,7 +80,7 @@ not_so true e = absurd (no_true (sym e))
 not_so false e = refl
 
 -- A BLOCK THAT IS REFUSED ENDS NOTHING: none of its numbers is one of these
-pub block-goes-on : (v : ℕ) (b t s l : List ℕ) {e : Refusal} → is_version v ≡ true → BlockAnswer.Refused e ≡ block_answer v b t s l → among e.number end_numbers ≡ false
+pub block-goes-on : (v : ℕ) (b t s l : List ℕ) {e : Refusal} → is_version v ≡ true → Err (ReadError.Refused e) ≡ block_answer v b t s l → among e.number end_numbers ≡ false
 block-goes-on v b t s l {e} h q = not_so _ (in_pass (λ n. not (among n end_numbers)) (13 ∷ body_numbers) refl e.number (answer-body v b t s l h q))
 
 -- ---- what the answer hangs on
@@ -116,11 +117,11 @@ module _ (r : Res (Block × List ℕ)) (s l : List ℕ) where
           (rw q (columns-length 6 (omega arith) (sixes z.0) s ha), rw q (simp (length-append, length-drop) (omega arith))))
           (λ q. (rw q, rw q))
 
-table-lengths : (h : Holding) (st t s l : List ℕ) → (length (symbology_at h st t s l) ≡ length s) × (length (layout_at h st t s l) ≡ length l)
+table-lengths : (h : Result Holding Refusal) (st t s l : List ℕ) → (length (symbology_at h st t s l) ≡ length s) × (length (layout_at h st t s l) ≡ length l)
 unfolding symbology_at layout_at block_symbology block_layout
-table-lengths (Needs n) st t s l = (refl, refl)
-table-lengths (Refused e) st t s l = (refl, refl)
-table-lengths (Whole w v) st t s l = after-lengths (block_of v t (block_in st w)) s l
+table-lengths (Ok (Needs n)) st t s l = (refl, refl)
+table-lengths (Err e) st t s l = (refl, refl)
+table-lengths (Ok (Whole w v)) st t s l = after-lengths (block_of v t (block_in st w)) s l
 
 -- ---- the counts are those of the history
 
@@ -169,20 +170,20 @@ module _ (t y l : List ℕ) where
 
     module _ (w v : ℕ) (long : 8 ≤ w) (known : is_version v ≡ true) where
       abbrev s2 : List ℕ
-      s2 = symbology_at (Whole w v) d t sy la
+      s2 = symbology_at (Ok (Whole w v)) d t sy la
 
       abbrev l2 : List ℕ
-      l2 = layout_at (Whole w v) d t sy la
+      l2 = layout_at (Ok (Whole w v)) d t sy la
 
-      block-is : (b2 : BlockAnswer) → block_answer v (block_in s w) t y l ≡ b2
+      block-is : (b2 : Result Fields ReadError) → block_answer v (block_in s w) t y l ≡ b2
           → end_of (turns a t (met x k (block_says b2) d s2 l2) (drop w s)) ≡ counted_all (after_block s rest w b2) c
       unfolding block_says
-      block-is (BlockAnswer.Read f) q = on-is _ w s2 l2 long ((table-lengths (Whole w v) d t sy la).0 ∙ ly) ((table-lengths (Whole w v) d t sy la).1 ∙ ll)
-      block-is (BlockAnswer.Refused e) q =
+      block-is (Ok f) q = on-is _ w s2 l2 long ((table-lengths (Ok (Whole w v)) d t sy la).0 ∙ ly) ((table-lengths (Ok (Whole w v)) d t sy la).1 ∙ ll)
+      block-is (Err (ReadError.Refused e)) q =
           let on = block-goes-on v (block_in s w) t y l known (sym q) in
           ap (λ i. end_of (turns a t (record { held = 0; ended = i; store = d; symbology = s2; layout = l2; counts = counted_all (Outcome'.Refused e.number ∷ []) c }) (drop w s))) on
-          ∙ on-is _ w s2 l2 long ((table-lengths (Whole w v) d t sy la).0 ∙ ly) ((table-lengths (Whole w v) d t sy la).1 ∙ ll)
-      block-is (BlockAnswer.Short i j) q = over-is _ _ (drop w s) refl refl refl
+          ∙ on-is _ w s2 l2 long ((table-lengths (Ok (Whole w v)) d t sy la).0 ∙ ly) ((table-lengths (Ok (Whole w v)) d t sy la).1 ∙ ll)
+      block-is (Err (ReadError.Short i j)) q = over-is _ _ (drop w s) refl refl refl
 
     -- by what stands first
     step : (f : Found start st s) → end_of (turns a t (turned t x s) (drop (taken_of 0 st s) s)) ≡ counted_all (goes_on t y l s rest (first_of start (length st) s)) c
@@ -192,16 +193,16 @@ module _ (t y l : List ℕ) where
         at : stage_of k d ≡ f.is
         at = ap (λ i. stage_of i d) f.alone.held ∙ f.alone.stage
 
-        go : (h : Holding) → f.is ≡ h → end_of (turns a t (turned t x s) (drop (taken_of 0 st s) s)) ≡ counted_all (goes_on t y l s rest (first_of start (length st) s)) c
-        go (Needs j) e =
+        go : (h : Result Holding Refusal) → f.is ≡ h → end_of (turns a t (turned t x s) (drop (taken_of 0 st s) s)) ≡ counted_all (goes_on t y l s rest (first_of start (length st) s)) c
+        go (Ok (Needs j)) e =
             let n : length s ≡ k = omega (arith, needs_all start start-law 0 st s j (at ∙ e)) in
             ap end_of (turns-none t a (turned t x s) (drop (taken_of 0 st s) s) (left-none t x s j (at ∙ e)) ∙ turned_needs t x s j (at ∙ e))
             ∙ rw (ne_eqb k 0 (λ z. omega arith)) (sym (all_one Outcome'.Cut c) ∙ ap (λ h. counted_all (goes_on t y l s rest h) c) (sym (f.first ∙ e)))
-        go (Refused r) e =
+        go (Err r) e =
             let q = at ∙ e in
             over-is (Outcome'.Refused r.number) (turned t x s) (drop (taken_of 0 st s) s) (rw q) (rw q (stage-ends k d q)) (rw q)
             ∙ ap (λ h. counted_all (goes_on t y l s rest h) c) (sym (f.first ∙ e))
-        go (Whole w v) e =
+        go (Ok (Whole w v)) e =
             let q = at ∙ e in
             let (long, there, says) = first-whole start (length st) s start-law start-long w v (f.first ∙ e) in
             let (len, said, _) = whole-prelude s w v says in
@@ -211,11 +212,11 @@ module _ (t y l : List ℕ) where
             let block : block_in d w ≡ block_in s w = block_in_lem d s w long (omega (arith, w2.room)) (omega arith) front in
             let answer : block_answer v (block_in d w) t sy la ≡ block_answer v (block_in s w) t y l = ap (λ i. block_answer v i t sy la) block ∙ answer-lengths v (block_in s w) t sy la y l ly ll in
             ap₂ (λ h i. end_of (turns a t (met x k (answer_at h d t sy la) d (symbology_at h d t sy la) (layout_at h d t sy la)) (drop i s))) q n
-            ∙ ap (λ i. end_of (turns a t (met x k (block_says i) d (symbology_at (Whole w v) d t sy la) (layout_at (Whole w v) d t sy la)) (drop w s))) answer
+            ∙ ap (λ i. end_of (turns a t (met x k (block_says i) d (symbology_at (Ok (Whole w v)) d t sy la) (layout_at (Ok (Whole w v)) d t sy la)) (drop w s))) answer
             ∙ block-is w v long (whole-version s v len said) (block_answer v (block_in s w) t y l) refl
             ∙ ap (λ h. counted_all (goes_on t y l s rest h) c) (sym (f.first ∙ e))
           where
-            taken-whole : f.is ≡ Whole w v → f.taken ≡ w
+            taken-whole : f.is ≡ Ok (Whole w v) → f.taken ≡ w
             taken-whole e = subst (Count start (length st) s f.taken) e f.count
 
   counts_in : (a b : ℕ) → Counts a b

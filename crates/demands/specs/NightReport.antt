@@ -1,7 +1,9 @@
 -- THE MORNING REPORT: however a night's bytes come in pieces, the report on what was counted is the report of its history, and in that
 -- accepted, refused and cut sum to the total. Assumes nothing.
+use Rattle.block_format.specs.declared.Fields.{Fields}
+use Rattle.block_format.specs.declared.ReadError.{ReadError}
 use Prim.Native.Nat.{ℕ, zero, suc, ◌+◌, ◌<◌}
-use Rattle.std.specs.Prelude.{◌≡◌, Bool, cond, length, drop, replicate, eqb}
+use Rattle.std.specs.Prelude.{◌≡◌, Bool, cond, length, drop, replicate, eqb, Result, Ok, Err}
 use Rattle.std.proofs.Math.Path.{refl}
 use Rattle.std.proofs.Common.{sym, ap, ◌∙◌, leb-true}
 use Rattle.std.proofs.Math.Bool.{true, false}
@@ -13,10 +15,9 @@ use Rattle.codec.proofs.RefusalLaws.{in_pass}
 use Rattle.held.specs.Held.{first_of}
 use Rattle.held.proofs.StreamLaws.{finds_first}
 use Rattle.held.specs.declared.Holding.{Holding}
-use Rattle.held.specs.declared.Holding.TheVariants.{Needs, Refused, Whole}
+use Rattle.held.specs.declared.Holding.TheVariants.{Needs, Whole}
 use Rattle.block_format.specs.Read.{block_numbers, block_answer}
 use Rattle.block_format.proofs.RefusalLaws.{answer-refuses}
-use Rattle.block_format.specs.declared.BlockAnswer.{BlockAnswer}
 use Rattle.feed.specs.Feeding.{start, block_in}
 use Rattle.feed.proofs.StageLaws.{start-law}
 use Rattle.count.specs.Count.{accepted, cuts, total, refused_below, Below}
@@ -34,27 +35,27 @@ small : (e : Refusal) → leb (suc e.number) 256 ≡ true → e.number < 256
 small e h = leb-true (suc e.number) 256 h
 
 -- what refuses a start before its block is looked at
-first_small : (n : ℕ) (s : List ℕ) (e : Refusal) → first_of start n s ≡ Refused e → e.number < 256
+first_small : (n : ℕ) (s : List ℕ) (e : Refusal) → first_of start n s ≡ Err e → e.number < 256
 first_small n s e q =
     let st : List ℕ = replicate {A = ℕ} n 0 in
     let f = finds_first start start-law start-long st s in
-    let h : f.is ≡ Refused e = sym f.first ∙ ap (λ i. first_of start i s) (length-replicate {A = ℕ} n 0) ∙ q in
+    let h : f.is ≡ Err e = sym f.first ∙ ap (λ i. first_of start i s) (length-replicate {A = ℕ} n 0) ∙ q in
     small e (in_pass (λ i. leb (suc i) 256) end_numbers refl e.number (stage-ends _ _ (f.alone.stage ∙ h)))
 
 module _ (n : ℕ) (t y l : List ℕ) where
-  block-below : (m : ℕ) (s : List ℕ) (w v : ℕ) (b : BlockAnswer) → ((r : List ℕ) → Below 256 (history_in m n t y l r)) → block_answer v (block_in s w) t y l ≡ b
+  block-below : (m : ℕ) (s : List ℕ) (w v : ℕ) (b : Result Fields ReadError) → ((r : List ℕ) → Below 256 (history_in m n t y l r)) → block_answer v (block_in s w) t y l ≡ b
       → Below 256 (after_block s (history_in m n t y l) w b)
   unfolding Below
-  block-below m s w v (BlockAnswer.Read f) again q = (tt, again (drop w s))
-  block-below m s w v (BlockAnswer.Refused e) again q =
+  block-below m s w v (Ok f) again q = (tt, again (drop w s))
+  block-below m s w v (Err (ReadError.Refused e)) again q =
       (small e (in_pass (λ i. leb (suc i) 256) block_numbers refl e.number (answer-refuses v (block_in s w) t y l (sym q))), again (drop w s))
-  block-below m s w v (BlockAnswer.Short i j) again q = (leb-true 4 256 refl, tt)
+  block-below m s w v (Err (ReadError.Short i j)) again q = (leb-true 4 256 refl, tt)
 
-  goes-below : (m : ℕ) (s : List ℕ) (h : Holding) → ((r : List ℕ) → Below 256 (history_in m n t y l r)) → first_of start n s ≡ h → Below 256 (goes_on t y l s (history_in m n t y l) h)
+  goes-below : (m : ℕ) (s : List ℕ) (h : Result Holding Refusal) → ((r : List ℕ) → Below 256 (history_in m n t y l r)) → first_of start n s ≡ h → Below 256 (goes_on t y l s (history_in m n t y l) h)
   unfolding Below
-  goes-below m s (Needs j) again q = (tt, tt)
-  goes-below m s (Refused e) again q = (first_small n s e q, tt)
-  goes-below m s (Whole w v) again q = block-below m s w v (block_answer v (block_in s w) t y l) again refl
+  goes-below m s (Ok (Needs j)) again q = (tt, tt)
+  goes-below m s (Err e) again q = (first_small n s e q, tt)
+  goes-below m s (Ok (Whole w v)) again q = block-below m s w v (block_answer v (block_in s w) t y l) again refl
 
   below_in : (m : ℕ) (s : List ℕ) → Below 256 (history_in m n t y l s)
   unfolding history_in Below

@@ -1,5 +1,5 @@
 -- A layout that can be read has no untidy thing exactly if it is plain; so it is told to be tidy exactly then. Assumes nothing.
-use Rattle.std.specs.Prelude.{ℕ, zero, suc, ◌+◌, ◌-◌, ◌≡◌, Bool, true, false, cond, replicate, leb, eqb}
+use Rattle.std.specs.Prelude.{ℕ, zero, suc, ◌+◌, ◌-◌, ◌≡◌, Bool, true, false, cond, replicate, leb, eqb, Ok}
 use Rattle.std.proofs.Math.Path.{refl, ap₂}
 use Rattle.std.proofs.Common.{ap, ◌∙◌, arith, eqb-true, leb-true, le-leb}
 use mathlib.Core.List.{List, [], ◌∷◌, append-eq-nil_iff, ◌++◌}
@@ -15,7 +15,6 @@ use Rattle.layout.specs.NameCountLaws.{AllOf}
 use Rattle.layout.specs.PrintLaws.{Rising}
 use Rattle.rules.specs.Rules.{ruled_of}
 use Rattle.engines.specs.VerdictLaws.{ruled-layout}
-use Rattle.tidy.specs.declared.Tidy.TheVariants.{Yes}
 use Rattle.tidy.specs.Plain.{PlainEntry, PlainRecord, PlainStruct, PlainLabelDef, Plain}
 use Rattle.tidy.specs.Tidy.{leftover, nonzero, each_from, in_entry, in_fields, in_labels, in_record, in_struct, in_label_def, structs_at, labels_at, untidy, first_of, told, tidy_of}
 
@@ -162,17 +161,17 @@ pub ruled_parsed : (sheet : List ℕ) (width : ℕ) (s : List ℕ) (t : Layout) 
 ruled_parsed sheet width s t j b e = let (i, l) = ruled-layout sheet width s t j e in layout_parsed s t i b l
 
 -- the answer is yes only where nothing is untidy
-first-none : (ks : List Refusal) → first_of ks ≡ Yes → ks ≡ []
+first-none : (ks : List Refusal) → first_of ks ≡ Ok tt → ks ≡ []
 unfolding first_of
 first-none [] y = refl
 first-none (k ∷ ks) y = absurd (let z : ◌≡◌ {A = ℕ} 0 1 = cc in omega arith)
 
 -- a layout that is told to be tidy is plain
-pub tidy_plain : (sheet : List ℕ) (width : ℕ) (s : List ℕ) (t : Layout) (j : ℕ) → Bytes s → ruled_of sheet width s ≡ ok t j → tidy_of sheet width s ≡ Yes → Plain t
+pub tidy_plain : (sheet : List ℕ) (width : ℕ) (s : List ℕ) (t : Layout) (j : ℕ) → Bytes s → ruled_of sheet width s ≡ ok t j → tidy_of sheet width s ≡ Ok tt → Plain t
 unfolding told
 tidy_plain sheet width s t j b e y = untidy-plain t (ruled_parsed sheet width s t j b e).legal (first-none (untidy t) (rw e at y))
 
 -- a layout that is read and plain is told to be tidy
-pub plain_tidy : (sheet : List ℕ) (width : ℕ) (s : List ℕ) (t : Layout) (j : ℕ) → ruled_of sheet width s ≡ ok t j → Plain t → tidy_of sheet width s ≡ Yes
+pub plain_tidy : (sheet : List ℕ) (width : ℕ) (s : List ℕ) (t : Layout) (j : ℕ) → ruled_of sheet width s ≡ ok t j → Plain t → tidy_of sheet width s ≡ Ok tt
 unfolding told first_of
 plain_tidy sheet width s t j e h = rw e (ap first_of (plain-untidy t h))

@@ -1,7 +1,7 @@
 -- A plain layout's bytes are told by its version, its rows without their starts and its texts: rows are in wire order, so each gives the bytes
 -- that it stands for, and those of a section are collected from its end on. So plain layouts with the same of these have the same bytes.
 -- Assumes nothing.
-use Rattle.std.specs.Prelude.{ℕ, ◌+◌, ◌*◌, ◌/◌, ◌%◌, ◌≡◌, refl, Bool, true, false, cond, List, [], ◌∷◌, ◌++◌, map, length, get_or, eqb}
+use Rattle.std.specs.Prelude.{ℕ, ◌+◌, ◌*◌, ◌/◌, ◌%◌, ◌≡◌, refl, Bool, true, false, cond, List, [], ◌∷◌, ◌++◌, map, length, get_or, eqb, Ok}
 use Rattle.std.proofs.Common.{arith, sym, ap, ap₂, ◌∙◌, append_assoc, append-nil}
 use Rattle.std.proofs.lemmas.List.{length-map}
 use Rattle.codec.specs.Codec.{ok, Codec, Bytes, little, times_print, TimesLegal}
@@ -22,7 +22,6 @@ use Rattle.layout.specs.TextLaws.{row_text, field_texts, record_texts, struct_te
 use Rattle.rows_check.specs.Tree.{cell, entry_of, count_of}
 use Rattle.rows_check.specs.Sections.{printed_entry, printed_numbers}
 use Rattle.rules.specs.Rules.{ruled_of}
-use Rattle.tidy.specs.declared.Tidy.TheVariants.{Yes}
 use Rattle.tidy.specs.Plain.{PlainEntry, PlainRecord, PlainStruct, PlainLabelDef, Plain}
 use Rattle.tidy.specs.Tidy.{tidy_of}
 use Rattle.demands.specs.RowsBackLaws.{head-back}
@@ -302,7 +301,7 @@ parsed_texts s t p = rw (p.bytes, p.located) at (row-texts all_tests D (print_la
 
 -- two tidy layouts with the same version, the same rows, starts apart, and the same names are the same bytes, whatever sheets and widths they are ruled by
 pub tidy_same : (sheet : List ℕ) (width : ℕ) (sheet' : List ℕ) (width' : ℕ) (s s' : List ℕ) (t t' : Layout) (j j' : ℕ) → Bytes s → Bytes s' → ruled_of sheet width s ≡ ok t j → ruled_of sheet' width' s' ≡ ok t' j'
-    → tidy_of sheet width s ≡ Yes → tidy_of sheet' width' s' ≡ Yes → t.version ≡ t'.version → map no_start (rows t) ≡ map no_start (rows t')
+    → tidy_of sheet width s ≡ Ok tt → tidy_of sheet' width' s' ≡ Ok tt → t.version ≡ t'.version → map no_start (rows t) ≡ map no_start (rows t')
     → map (row_text s) (rows t) ≡ map (row_text s') (rows t') → s ≡ s'
 tidy_same sheet width sheet' width' s s' t t' j j' b b' e e' y y' v r u =
     let p = ruled_parsed sheet width s t j b e in

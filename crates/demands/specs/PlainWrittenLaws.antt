@@ -1,5 +1,5 @@
 -- The writer gives a plain layout's own bytes for the rows that it is read to, with the same version. Assumes nothing.
-use Rattle.std.specs.Prelude.{ℕ, ◌≤◌, ◌≡◌, List, length, eqb}
+use Rattle.std.specs.Prelude.{ℕ, ◌≤◌, ◌≡◌, List, length, eqb, Ok}
 use Rattle.std.proofs.Common.{sym, ap, ◌∙◌, eqb-true}
 use Rattle.codec.specs.Codec.{Bytes, ok}
 use Rattle.codec.proofs.Laws.{need-ok}
@@ -14,7 +14,6 @@ use Rattle.rules.specs.RowRuleLaws.{rows_rules_lem}
 use Rattle.engines.specs.VerdictLaws.{ruled-layout}
 use Rattle.writer.specs.Write.{write_layout}
 use Rattle.writer.proofs.RoundTripLaws.{accepts}
-use Rattle.writer.specs.declared.Written.TheVariants.{Length}
 use Rattle.tidy.specs.Plain.{Plain}
 use Rattle.demands.specs.RowsBackLaws.{planted, tree-back}
 use Rattle.demands.specs.RowsWholeLaws.{printed-back, fault-none}
@@ -28,11 +27,11 @@ ruled-none sheet width s t j e =
 
 -- a plain layout that passes the rules is written again from its rows, byte for byte
 pub plain_written : (sheet : List ℕ) (width : ℕ) (s : List ℕ) (t : Layout) (j room : ℕ) → Bytes s → ruled_of sheet width s ≡ ok t j → Plain t → length s ≤ room
-    → (write_layout sheet width t.version (flat (rows t)) s room ≡ Length (length s)) × (printed t.version (flat (rows t)) s ≡ s)
+    → (write_layout sheet width t.version (flat (rows t)) s room ≡ Ok (length s)) × (printed t.version (flat (rows t)) s ≡ s)
 plain_written sheet width s t j room bs e plain h =
     let (i, l) = ruled-layout sheet width s t j e in
     let p = planted s t i bs l plain in
     let b = printed-back s t p in
     let r : rows_rules sheet width (flat (rows t)) s ≡ 0 =
     rows_rules_lem sheet width t.version (flat (rows t)) s ∙ ap (λ x. rules_of sheet width (from_layout x).0) (tree-back s t p) ∙ ruled-none sheet width s t j e in
-    (accepts sheet width t.version (flat (rows t)) s room (fault-none s t p) r (rw b h) ∙ ap Length (ap length b), b)
+    (accepts sheet width t.version (flat (rows t)) s room (fault-none s t p) r (rw b h) ∙ ap Ok (ap length b), b)

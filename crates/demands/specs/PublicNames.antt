@@ -1,7 +1,9 @@
 -- The names of rows as the public functions give them, by index: a row of an accepted block or layout whose kind has a text never
 -- gives 90, and its name is the row's text.
 -- Assumes nothing.
-use Rattle.std.specs.Prelude.{ℕ, ◌+◌, ◌*◌, ◌/◌, ◌≤◌, ◌<◌, ◌≡◌, refl, Bool, true, false, not, ◌&&◌, List, [], ◌++◌, map, length, get_or, drop, leb, eqb}
+use Rattle.block_format.specs.declared.Fields.{Fields}
+use Rattle.block_format.specs.declared.ReadError.{ReadError}
+use Rattle.std.specs.Prelude.{ℕ, ◌+◌, ◌*◌, ◌/◌, ◌≤◌, ◌<◌, ◌≡◌, refl, Bool, true, false, not, ◌&&◌, List, [], ◌++◌, map, length, get_or, drop, leb, eqb, Result}
 use Rattle.std.proofs.Common.{mul_comm, le-div_iff_mul-le, arith, sym, ap, ap₂, ◌∙◌, subst, append-nil, length-append, eqb-true}
 use Rattle.std.proofs.Math.ListN.{get_or-map}
 use Rattle.std.proofs.lemmas.List.{length-map}
@@ -17,10 +19,8 @@ use Rattle.layout.specs.Rows.{rows}
 use Rattle.layout.specs.ReadLaws.{rows-nine}
 use Rattle.layout.specs.SpanLaws.{layout-lies}
 use Rattle.layout.specs.TextLaws.{row_text}
-use Rattle.names.specs.Names.{no_text, symbol_text, item_text, span_of, symbology_span, layout_span, part_in}
+use Rattle.names.specs.Names.{no_text, symbol_text, item_text, span_of, symbology_span, layout_span, part_in, spanned, Spanned}
 use Rattle.names.proofs.SpanLaws.{span-part, span_none, part_bytes, part_none, symbol-text, symbol-kinds, item-kinds}
-use Rattle.names.specs.declared.Span.{Span}
-use Rattle.names.specs.declared.Span.TheVariants.{Part}
 use Rattle.rules.specs.Rules.{ruled_of}
 use Rattle.engines.specs.VerdictLaws.{ruled-layout}
 use Rattle.rows_check.specs.Tree.{rows_in, tree_of}
@@ -30,7 +30,6 @@ use Rattle.rows_check.specs.SpanLaws.{rows_in_lie}
 use Rattle.block_format.specs.Block.{Block, block_of}
 use Rattle.block_format.specs.Read.{sixes, nines, over}
 use Rattle.block_format.proofs.ReadLaws.{Held}
-use Rattle.block_format.specs.declared.BlockAnswer.{BlockAnswer}
 use Rattle.block_format.proofs.SpanLaws.{sixes_lie}
 use Rattle.demands.specs.LayoutRows.{move_row, move_kind, move_length, move_start}
 use Rattle.demands.specs.Edited.{layout_in, nines_lie}
@@ -46,9 +45,9 @@ abbrev pub length_of : List (List ℕ) → ℕ → ℕ
 length_of rs i = get_or (get_or rs i []) 2 0
 
 -- what asking for the names of the rows rs gives: `span i` is what is told of row i, and b are the bytes that the starts count from
-pub record Named (hasText : ℕ → Bool) (b : List ℕ) (span : ℕ → Span) (rs : List (List ℕ)) : Type 0 where
+pub record Named (hasText : ℕ → Bool) (b : List ℕ) (span : ℕ → Spanned) (rs : List (List ℕ)) : Type 0 where
   -- a row whose kind has a text gives its start and length, and never 90
-  pub part : (i : ℕ) → i < length rs → hasText (kind_of rs i) ≡ true → span i ≡ Part (start_of rs i) (length_of rs i)
+  pub part : (i : ℕ) → i < length rs → hasText (kind_of rs i) ≡ true → span i ≡ spanned (start_of rs i) (length_of rs i)
   -- a row whose kind has none is a field, and gives 90
   pub only-fields : (i : ℕ) → i < length rs → hasText (kind_of rs i) ≡ false → (kind_of rs i ≡ 11) × (span i ≡ no_text)
   -- the name's bytes are the row's text
@@ -67,7 +66,7 @@ LayoutNamed b table rs = Named item_text b (layout_span (length b) table) rs
 module _ (hasText : ℕ → Bool) (low high : ℕ) (texted : (k : ℕ) → (leb low k && leb k high) ≡ true → hasText k ≡ not (eqb k 11))
     (b : List ℕ) (rs : List (List ℕ)) (lie : Each (RowInside low high (length b)) rs)
     (count : ℕ) (number : ℕ → ℕ → ℕ) (room : length rs ≤ count) (same : (i j : ℕ) → i < length rs → j < 3 → number i j ≡ get_or (get_or rs i []) j 0) where
-  abbrev span : ℕ → Span
+  abbrev span : ℕ → Spanned
   span i = span_of hasText (length b) count (number i) i
 
   -- row i has a text where it is no field, which lies within the bytes
@@ -78,14 +77,14 @@ module _ (hasText : ℕ → Bool) (low high : ℕ) (texted : (k : ℕ) → (leb 
   inside-at i h e = (each_at (RowInside low high (length b)) rs lie i h).inside e
 
   -- so asking for it gives its start and length, 90 for a field, and in both cases the bytes of its text
-  given : (i : ℕ) → i < length rs → eqb (kind_of rs i) 11 ≡ false → span i ≡ Part (start_of rs i) (length_of rs i)
+  given : (i : ℕ) → i < length rs → eqb (kind_of rs i) 11 ≡ false → span i ≡ spanned (start_of rs i) (length_of rs i)
   given i h e =
       let start = same i 1 h (omega arith) in
       let len = same i 2 h (omega arith) in
       let k : hasText (number i 0) ≡ true = ap hasText (same i 0 h (omega arith)) ∙ text_at i h ∙ ap not e in
       let f : number i 1 + number i 2 ≤ length b = omega (arith, start, len, inside-at i h e) in
       let here : i < count = omega arith in
-      span-part hasText (length b) count (number i) i here k f ∙ ap₂ Part start len
+      span-part hasText (length b) count (number i) i here k f ∙ ap₂ spanned start len
 
   refused : (i : ℕ) → i < length rs → eqb (kind_of rs i) 11 ≡ true → span i ≡ no_text
   refused i h e = span_none hasText (length b) count (number i) i (ap hasText (same i 0 h (omega arith)) ∙ text_at i h ∙ ap not e)
@@ -133,7 +132,7 @@ columns-named b rs t room lie =
 -- ---- two lists of rows
 
 -- where the texts of two lists of rows are the same, the names are, row by row
-pub names_same : (hasText : ℕ → Bool) (b b' : List ℕ) (span span' : ℕ → Span) (rs rs' : List (List ℕ)) → Named hasText b span rs → Named hasText b' span' rs'
+pub names_same : (hasText : ℕ → Bool) (b b' : List ℕ) (span span' : ℕ → Spanned) (rs rs' : List (List ℕ)) → Named hasText b span rs → Named hasText b' span' rs'
     → length rs' ≡ length rs → map (row_text b') rs' ≡ map (row_text b) rs
     → (i : ℕ) → i < length rs → part_in b' (span' i) ≡ part_in b (span i)
 names_same hasText b b' span span' rs rs' p q l e i h =
@@ -142,15 +141,15 @@ names_same hasText b b' span span' rs rs' p q l e i h =
     ∙ sym (p.name i h)
 
 -- where the rows of a table, of w numbers, are rows with their starts moved, a row with a text gives the moved start and the same length
-pub moved-part : (w : ℕ) (hasText : ℕ → Bool) (f : ℕ → ℕ) (b : List ℕ) (span : ℕ → Span) (rs rs' : List (List ℕ)) → 2 ≤ w → Wide w rs → Named hasText b span rs' → rs' ≡ map (move_row f) rs
-    → (i : ℕ) → i < length rs → hasText (kind_of rs i) ≡ true → eqb (kind_of rs i) 11 ≡ false → span i ≡ Part (f (start_of rs i)) (length_of rs i)
+pub moved-part : (w : ℕ) (hasText : ℕ → Bool) (f : ℕ → ℕ) (b : List ℕ) (span : ℕ → Spanned) (rs rs' : List (List ℕ)) → 2 ≤ w → Wide w rs → Named hasText b span rs' → rs' ≡ map (move_row f) rs
+    → (i : ℕ) → i < length rs → hasText (kind_of rs i) ≡ true → eqb (kind_of rs i) 11 ≡ false → span i ≡ spanned (f (start_of rs i)) (length_of rs i)
 moved-part w hasText f b span rs rs' two wide n e i h has field =
     let r : List ℕ = get_or rs i [] in
     let q : get_or rs' i [] ≡ move_row f r = ap (λ (xs : List (List ℕ)). get_or xs i []) e ∙ get_or-map (move_row f) rs i [] in
     let l : i < length rs' = subst (λ (m : ℕ). i < m) (sym (ap length e ∙ length-map rs (move_row f))) h in
     let k : hasText (kind_of rs' i) ≡ true = ap (λ (v : List ℕ). hasText (get_or v 0 0)) q ∙ ap hasText (move_kind f r) ∙ has in
     let g : 2 ≤ length r = omega (arith, each_at (λ (v : List ℕ). length v ≡ w) rs wide i h) in
-    n.part i l k ∙ ap₂ Part (ap (λ (v : List ℕ). get_or v 1 0) q ∙ move_start f r g field) (ap (λ (v : List ℕ). get_or v 2 0) q ∙ move_length f r)
+    n.part i l k ∙ ap₂ spanned (ap (λ (v : List ℕ). get_or v 1 0) q ∙ move_start f r g field) (ap (λ (v : List ℕ). get_or v 2 0) q ∙ move_length f r)
 
 -- ---- an accepted block, an accepted layout
 
@@ -175,7 +174,7 @@ pub record Asked (sheet b : List ℕ) (z : Block) (s' l' : List ℕ) : Type 0 wh
   pub symbology : SymbologyNamed b s' (sixes z)
   pub layout : LayoutNamed (layout_in sheet b) l' (nines z)
 
-pub asked : (sheet b : List ℕ) (z : Block × List ℕ) (k : ℕ) → Bytes b → block_of 4 sheet b ≡ ok z k → {s l : List ℕ} {r : BlockAnswer} {s' l' : List ℕ} → length (sixes z.0) ≤ length s / 6 → Held 4 z.0 s l r s' l' → Asked sheet b z.0 s' l'
+pub asked : (sheet b : List ℕ) (z : Block × List ℕ) (k : ℕ) → Bytes b → block_of 4 sheet b ≡ ok z k → {s l : List ℕ} {r : Result Fields ReadError} {s' l' : List ℕ} → length (sixes z.0) ≤ length s / 6 → Held 4 z.0 s l r s' l' → Asked sheet b z.0 s' l'
 asked sheet b z k bs e {s} {l} room h = record {
   symbology = subst (λ (t : List ℕ). SymbologyNamed b t (sixes z.0)) (sym h.symbology) (symbology-named 4 sheet b z k s bs e room);
   layout = subst (λ (t : List ℕ). LayoutNamed (layout_in sheet b) t (nines z.0)) (sym h.layout) (block-layout-named sheet b z k l bs e);

@@ -1,6 +1,6 @@
 -- One stream, cut anywhere: its start is fed until it is done, and what comes after goes to frames. The block is read once, as one feed of
 -- the whole stream reads it, and the frames are those of the stream after the block. Assumes nothing.
-use Rattle.std.specs.Prelude.{ℕ, ◌+◌, ◌≤◌, ◌≡◌, List, ◌++◌, length, take, drop}
+use Rattle.std.specs.Prelude.{ℕ, ◌+◌, ◌≤◌, ◌≡◌, List, ◌++◌, length, take, drop, Ok}
 use Rattle.std.proofs.Common.{arith, sym, ap, ◌∙◌}
 use Rattle.std.proofs.lemmas.List.{drop-append-le, take-append-le}
 use Rattle.block_format.specs.declared.Fields.{Fields}
@@ -20,7 +20,7 @@ use Rattle.frames.proofs.CutLaws.{Reading, any_cutting}
 pub record Joined (s : List ℕ) (x y : Fed) (st1 s1 l1 st2 s2 l2 : List ℕ) (room : ℕ) (r : Frames) : Type 0 where
   pub version : ℕ
   pub len : ℕ
-  pub announced : prelude_of (take 8 s) ≡ Stage'.Whole version len
+  pub announced : prelude_of (take 8 s) ≡ Ok (Stage'.Whole version len)
   pub taken : x.taken ≡ 8 + len
   pub once : Same x y st1 s1 l1 st2 s2 l2
   pub frames : r ≡ frames_of room (drop (8 + len) s)
@@ -28,7 +28,7 @@ pub record Joined (s : List ℕ) (x y : Fed) (st1 s1 l1 st2 s2 l2 : List ℕ) (r
 -- p came in any pieces until the start was done; q is what had not come yet. What the feeds did not take of p, and q, go to frames in any
 -- pieces, with a store of its own
 pub start-then-frames : {st p t s l : List ℕ} {x y : Fed} {st1 s1 l1 st2 s2 l2 own : List ℕ} {f : Fields} {r : Frames} {c : ℕ} (q : List ℕ)
-    → Lent 0 st p t s l x st1 s1 l1 → x.answer ≡ Done f
+    → Lent 0 st p t s l x st1 s1 l1 → x.answer ≡ Ok (Done f)
     → Reading 0 own (drop x.taken p ++ q) r c
     → Feeding 0 st (p ++ q) t s l y st2 s2 l2
     → Joined (p ++ q) x y st1 s1 l1 st2 s2 l2 (length own) r

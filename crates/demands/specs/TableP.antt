@@ -1,7 +1,8 @@
 -- Document 01's table "Checked by hand, marked P", as one fact over the promises of the public functions: for any type sheet and any
 -- symbol width, with store and row tables of any length that is long enough, what is answered and what is left in store and tables.
 -- Assumes nothing.
-use Rattle.std.specs.Prelude.{ℕ, ◌*◌, ◌≤◌, ◌≡◌, refl, true, false, List, [], ◌∷◌, ◌++◌, length, drop}
+use Rattle.block_format.specs.declared.ReadError.{ReadError}
+use Rattle.std.specs.Prelude.{ℕ, ◌*◌, ◌≤◌, ◌≡◌, refl, true, false, List, [], ◌∷◌, ◌++◌, length, drop, Result, Ok, Err}
 use Rattle.std.proofs.Common.{arith, sym, ap, ◌∙◌}
 use Rattle.refusal.specs.declared.Refusal.{Refusal}
 use Rattle.codec.specs.Codec.{ok, refuse, refusal, raw, num, fixed, named, checked, placed, sized, times, distinct, whole, boxed, ◌then◌}
@@ -14,11 +15,10 @@ use Rattle.wire.specs.Formats.{section, text_of, text, name}
 use Rattle.layout.specs.Layout.{label, label_def, parts, groups, read_layout}
 use Rattle.layout.specs.LayoutOf.{layout_of, layout_by}
 use Rattle.layout.specs.Rows.{rows}
-use Rattle.layout.specs.Answers.{verdict}
+use Rattle.layout.specs.Answers.{accepted, Answer, verdict}
+use Rattle.layout.specs.declared.ReadError.TheVariants as ReadError'
 use Rattle.layout.specs.AnswerLaws.{verdict-refused}
 use Rattle.layout.specs.Examples.{p7, p8, p9, p7rows}
-use Rattle.layout.specs.declared.Answer.{Answer}
-use Rattle.layout.specs.declared.Answer.TheVariants as Layout'
 use Rattle.item_rules.specs.Rules.{seqs_fault, structs_fault, records_fault}
 use Rattle.rules.specs.Rules.{rules_of, ruled_of}
 use Rattle.given_layout.specs.Ruled.{Ruled}
@@ -30,32 +30,29 @@ use Rattle.block_format.proofs.ReadLaws.{given, read-given, refused-given}
 use Rattle.block.specs.Single.{read-block_single}
 use Rattle.block_format.proofs.Examples.{listed, zero_fields, P10, P11}
 use Rattle.block_format.specs.declared.Fields.{Fields}
-use Rattle.block_format.specs.declared.BlockAnswer.{BlockAnswer}
-use Rattle.block_format.specs.declared.BlockAnswer.TheVariants.{Read}
-use Rattle.block_format.specs.declared.BlockAnswer.TheVariants as Block'
 use Rattle.table.specs.Columns.{columns}
 use Rattle.feed.proofs.Examples.{Gives, p1, p2, p3, p4, p5}
-use Rattle.feed.specs.declared.Answer.TheVariants.{Needs, Refused}
+use Rattle.feed.specs.declared.Answer.TheVariants.{Needs}
 
 -- the layout b, with any sheet, any width and any table with room for the rows: version and row count are answered, the rows stand at
 -- the front of the table, and the rest of it is as it was
 abbrev pub LayoutGives : List ℕ → ℕ → List (List ℕ) → Type 0
 LayoutGives b version rs = (sheet : List ℕ) (width : ℕ) (t t' : List ℕ) (r : Answer) → 9 * length rs ≤ length t → Ruled b width sheet t t' r
-    → (r ≡ Layout'.Read version (length rs)) × (t' ≡ flat rs ++ drop (9 * length rs) t)
+    → (r ≡ Ok (accepted version (length rs))) × (t' ≡ flat rs ++ drop (9 * length rs) t)
 
 -- the layout b is refused, with any sheet, any width and any table, and the table is as it was
 abbrev pub LayoutRefuses : List ℕ → Refusal → Type 0
-LayoutRefuses b n = (sheet : List ℕ) (width : ℕ) (t t' : List ℕ) (r : Answer) → Ruled b width sheet t t' r → (r ≡ Layout'.Refused n) × (t' ≡ t)
+LayoutRefuses b n = (sheet : List ℕ) (width : ℕ) (t t' : List ℕ) (r : Answer) → Ruled b width sheet t t' r → (r ≡ Err (ReadError'.Refused n)) × (t' ≡ t)
 
 -- the block b of version 2, with any sheet, any layout table and any symbology table with room for the rows: the fields are answered,
 -- the rows stand in the symbology table by column, and the rest of it and the layout table are as they were
 abbrev pub BlockGives : List ℕ → Fields → List (List ℕ) → Type 0
-BlockGives b f rs = (sheet s l s' l' : List ℕ) (r : BlockAnswer) → 6 * length rs ≤ length s → Promise 2 b sheet s l r s' l'
-    → (r ≡ Read f) × (s' ≡ columns 6 rs s) × (l' ≡ l)
+BlockGives b f rs = (sheet s l s' l' : List ℕ) (r : Result Fields ReadError) → 6 * length rs ≤ length s → Promise 2 b sheet s l r s' l'
+    → (r ≡ Ok f) × (s' ≡ columns 6 rs s) × (l' ≡ l)
 
 -- the block b of version 2 is refused, with any sheet and any tables, and both tables are as they were
 abbrev pub BlockRefuses : List ℕ → Refusal → Type 0
-BlockRefuses b n = (sheet s l s' l' : List ℕ) (r : BlockAnswer) → Promise 2 b sheet s l r s' l' → (r ≡ Block'.Refused n) × (s' ≡ s) × (l' ≡ l)
+BlockRefuses b n = (sheet s l s' l' : List ℕ) (r : Result Fields ReadError) → Promise 2 b sheet s l r s' l' → (r ≡ Err (ReadError.Refused n)) × (s' ≡ s) × (l' ≡ l)
 
 -- what a layout gives is what its reader leaves
 layout_gives : (b : List ℕ) (version : ℕ) (rs : List (List ℕ)) (k : ℕ) → ((sheet : List ℕ) (width : ℕ) → RuledLaws.given sheet width b ≡ ok (version, rs) k) → LayoutGives b version rs
@@ -99,11 +96,11 @@ P9 sheet width = refl
 
 -- the table, line by line
 pub record TableP : Type 0 where
-  pub p01 : Gives 8 [] (Needs 8)
-  pub p02 : Gives 8 (68 ∷ 66 ∷ []) (Needs 6)
-  pub p03 : Gives 108 (68 ∷ 66 ∷ 78 ∷ 2 ∷ 100 ∷ 0 ∷ 0 ∷ 0 ∷ []) (Needs 100)
-  pub p04 : Gives 8 (68 ∷ 66 ∷ 78 ∷ 2 ∷ 99 ∷ 0 ∷ 0 ∷ 0 ∷ []) (Refused (refusal 12 4))
-  pub p05 : Gives 8 (68 ∷ 66 ∷ 78 ∷ 5 ∷ 0 ∷ 0 ∷ 0 ∷ 0 ∷ []) (Refused (refusal 11 3))
+  pub p01 : Gives 8 [] (Ok (Needs 8))
+  pub p02 : Gives 8 (68 ∷ 66 ∷ []) (Ok (Needs 6))
+  pub p03 : Gives 108 (68 ∷ 66 ∷ 78 ∷ 2 ∷ 100 ∷ 0 ∷ 0 ∷ 0 ∷ []) (Ok (Needs 100))
+  pub p04 : Gives 8 (68 ∷ 66 ∷ 78 ∷ 2 ∷ 99 ∷ 0 ∷ 0 ∷ 0 ∷ []) (Err (ReadError.Refused (refusal 12 4)))
+  pub p05 : Gives 8 (68 ∷ 66 ∷ 78 ∷ 5 ∷ 0 ∷ 0 ∷ 0 ∷ 0 ∷ []) (Err (ReadError.Refused (refusal 11 3)))
   pub p06 : LayoutGives p6 1 []
   pub p07 : LayoutGives p7 1 p7rows
   pub p08 : LayoutGives p8 1 p7rows

@@ -1,7 +1,7 @@
 -- Something of each kind is there: a version 4 block with a record, a struct, a label def, a symbol and a mapping is accepted, an edit of
 -- it in the sense of demand 3 moves its rows, and a stream start that is fed whole is done.
 -- Assumes nothing.
-use Rattle.std.specs.Prelude.{ℕ, zero, suc, ◌+◌, ◌-◌, ◌*◌, ◌^◌, ◌≡◌, refl, Bool, true, false, ◌&&◌, List, [], ◌∷◌, ◌++◌, map, length, replicate, leb, ltb}
+use Rattle.std.specs.Prelude.{ℕ, zero, suc, ◌+◌, ◌-◌, ◌*◌, ◌^◌, ◌≡◌, refl, Bool, true, false, ◌&&◌, List, [], ◌∷◌, ◌++◌, map, length, replicate, leb, ltb, Some, None, Ok}
 use Rattle.std.proofs.Common.{arith, ap, ◌∙◌, subst, leb-true, ltb-true}
 use Rattle.std.proofs.lemmas.List.{length-replicate}
 use Rattle.codec.specs.Codec.{Bytes, ok, raw, padded, skip, num, fixed, named, checked, judged, placed, asks, sized, limited, times, distinct, whole, boxed, full, ◌then◌, ◌on◌, remainder}
@@ -28,11 +28,9 @@ use Rattle.block_format.specs.Block.{Block, header, layout_part, symbology_part,
 use Rattle.block_format.specs.Fields.{fields_with, fields_of}
 use Rattle.block_format.specs.Read.{Promise}
 use Rattle.block_format.proofs.ReadLaws.{gist, given, read-given}
-use Rattle.block_format.specs.declared.BlockAnswer.TheVariants.{Read}
 use Rattle.table.proofs.ColumnLaws.{columns-none}
 use Rattle.block_format.proofs.Examples.{zero_fields}
 use Rattle.block_format.specs.declared.Fields.{Fields}
-use Rattle.block_format.specs.declared.Optional.TheVariants.{Absent, Present}
 use Rattle.feed.proofs.Examples.{Gives, fed_done}
 use Rattle.feed.specs.declared.Answer.TheVariants.{Done}
 use Rattle.demands.specs.LayoutRows.{move_row}
@@ -102,11 +100,11 @@ tree_with x n = record {
 abbrev pub its_fields : Fields
 its_fields = record {
   dataset_len = 1;
-  schema = Present 0;
+  schema = Some 0;
   start = 0;
-  end = Absent;
-  limit = Absent;
-  stype_in = Present 0;
+  end = None;
+  limit = None;
+  stype_in = Some 0;
   stype_out = 0;
   ts_out = false;
   symbol_cstr_len = 3;
@@ -246,6 +244,6 @@ unfolding block_of lengths whole block header layout_part symbology_part remaind
 least-given t = refl
 
 -- fed whole to any store of 128 bytes or more, with any sheet and any tables, it is done
-pub done : Gives 128 least_stream (Done (zero_fields 0 0))
+pub done : Gives 128 least_stream (Ok (Done (zero_fields 0 0)))
 unfolding prelude_of prelude magic ◌then◌ named checked fixed num raw
-done = fed_done least_stream 2 120 (zero_fields 0 0) refl refl (omega arith) (λ t s l. subst (λ (u : List ℕ). Promise 2 least t s l (Read (zero_fields 0 0)) u l) (columns-none 6 s) (read-given 2 least t s l (zero_fields 0 0) [] [] 120 (least-given t) (omega arith) (omega arith)))
+done = fed_done least_stream 2 120 (zero_fields 0 0) refl refl (omega arith) (λ t s l. subst (λ (u : List ℕ). Promise 2 least t s l (Ok (zero_fields 0 0)) u l) (columns-none 6 s) (read-given 2 least t s l (zero_fields 0 0) [] [] 120 (least-given t) (omega arith) (omega arith)))

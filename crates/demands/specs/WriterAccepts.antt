@@ -1,6 +1,6 @@
 -- The writer accepts a layout with a record, a struct and a label def, and writes its bytes.
 -- Assumes nothing.
-use Rattle.std.specs.Prelude.{ℕ, ◌≤◌, ◌≡◌, refl, true, List, [], ◌∷◌, ◌++◌, length, replicate}
+use Rattle.std.specs.Prelude.{ℕ, ◌≤◌, ◌≡◌, refl, true, List, [], ◌∷◌, ◌++◌, length, replicate, Ok}
 use Rattle.codec.specs.Codec.{raw, padded, num, fixed, named, checked, placed, sized, times, distinct, boxed, ◌then◌}
 use Rattle.text.specs.Utf8.{utf8}
 use Rattle.wire.specs.Formats.{section, text, text_of, name}
@@ -14,7 +14,6 @@ use Rattle.rules.specs.Rules.{rules_of}
 use Rattle.rules.specs.RowRules.{rows_rules}
 use Rattle.writer.specs.Write.{write_layout}
 use Rattle.writer.proofs.RoundTripLaws.{accepts}
-use Rattle.writer.specs.declared.Written.TheVariants.{Length}
 use Rattle.rows_check.specs.Tree.{count_kind, count_of, from, names_from, skip, tree_of}
 use Rattle.rows_check.specs.Check.{fit_fault, fault, well_formed, both, every, row_test, row_fits, limit_of, in_order, walk, section_in_place, name_kind, counts_fit, groups_fit, count_fits, name_short, name_clean, clean, sections_fit, fits_all, printed_section, printed, rises_at}
 
@@ -44,5 +43,5 @@ unfolding rows_rules rules_of count_kind count_of from names_from skip tree_of c
 ruled = refl
 
 -- so it is written, wherever the output has room for it
-pub writes : (room : ℕ) → length (printed 1 table (65 ∷ [])) ≤ room → write_layout sheet 71 1 table (65 ∷ []) room ≡ Length (length (printed 1 table (65 ∷ [])))
+pub writes : (room : ℕ) → length (printed 1 table (65 ∷ [])) ≤ room → write_layout sheet 71 1 table (65 ∷ []) room ≡ Ok (length (printed 1 table (65 ∷ [])))
 writes room h = accepts sheet 71 1 table (65 ∷ []) room well_formed_lem ruled h

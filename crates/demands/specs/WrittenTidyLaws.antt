@@ -1,7 +1,7 @@
 -- What the writer writes is tidy. Assumes nothing.
 use Prim.Native.Nat.{ℕ, zero, suc, ◌+◌, ◌<◌}
 use Rattle.std.proofs.Common.{arith, sym, ap, ◌∙◌}
-use Rattle.std.specs.Prelude.{◌≡◌, List, length}
+use Rattle.std.specs.Prelude.{◌≡◌, List, length, Ok}
 use Rattle.std.proofs.Math.Path.{refl}
 use Rattle.codec.specs.Codec.{Bytes}
 use Rattle.wire.specs.Reader.{all_tests}
@@ -16,9 +16,7 @@ use Rattle.rows_check.specs.Check.{name_kind, printed}
 use Rattle.rows_check.specs.CheckLaws.{InPlace, Places}
 use Rattle.rows_check.specs.LegalLaws.{Sound, sound, rising, tree-legal}
 use Rattle.writer.specs.Write.{write_layout}
-use Rattle.writer.specs.declared.Written.TheVariants.{Length}
 use Rattle.writer.proofs.RoundTripLaws.{accepted, reads-tree}
-use Rattle.tidy.specs.declared.Tidy.TheVariants.{Yes}
 use Rattle.tidy.specs.Plain.{PlainEntry, PlainRecord, PlainStruct, PlainLabelDef, Plain}
 use Rattle.tidy.specs.Tidy.{tidy_of}
 use Rattle.tidy.specs.Walk.{met_told}
@@ -67,8 +65,8 @@ module _ (rows text : List ℕ) where
 -- ---- what is written
 
 -- what the writer writes is tidy, with its width and sheet: the layout of its rows is plain, and a walk over bytes sees no starts
-pub written_tidy : (sheet : List ℕ) (width version : ℕ) (table text : List ℕ) (room n : ℕ) → Bytes text → version < 65536 → write_layout sheet width version table text room ≡ Length n
-    → tidy_of sheet width (printed version table text) ≡ Yes
+pub written_tidy : (sheet : List ℕ) (width version : ℕ) (table text : List ℕ) (room n : ℕ) → Bytes text → version < 65536 → write_layout sheet width version table text room ≡ Ok n
+    → tidy_of sheet width (printed version table text) ≡ Ok tt
 unfolding printed met_of
 written_tidy sheet width version table text room n bytes v e =
     let t = tree_of version table text in

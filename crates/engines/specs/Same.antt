@@ -1,9 +1,10 @@
 -- Two answers that meet one of the promises are equal, so either engine gives the other's answer, number included, for any layout or
 -- rows, any width and any sheet. Assumes nothing.
-use Rattle.std.specs.Prelude.{ℕ, ◌≡◌, false, List}
+use Rattle.std.specs.Prelude.{ℕ, ◌≡◌, false, List, Result}
 use Rattle.std.proofs.Common.{sym, ◌∙◌}
-use Rattle.layout.specs.Answers.{verdict}
-use Rattle.layout.specs.declared.Verdict.{Verdict}
+use Rattle.refusal.specs.declared.Refusal.{Refusal}
+use Rattle.layout.specs.Answers.{Verdict, verdict}
+use Rattle.codec.specs.Telling.{passed}
 use Rattle.rules.specs.Rules.{ruled_of}
 use Rattle.rules.specs.RowRules.{rows_fault}
 
@@ -12,5 +13,5 @@ pub layout_engines : (sheet : List ℕ) (width : ℕ) (s : List ℕ) {r plain : 
 layout_engines sheet width s e f = e ∙ sym f
 
 -- what `check_rows` answers, and what `check_rows_plain` does
-pub rows_engines : (sheet : List ℕ) (width : ℕ) (rows text : List ℕ) {r plain : ℕ} → r ≡ rows_fault sheet width false rows text → plain ≡ rows_fault sheet width false rows text → r ≡ plain
+pub rows_engines : (sheet : List ℕ) (width : ℕ) (rows text : List ℕ) {r plain : Result (Unit {0}) Refusal} → r ≡ passed (rows_fault sheet width false rows text) → plain ≡ passed (rows_fault sheet width false rows text) → r ≡ plain
 rows_engines sheet width rows text e f = e ∙ sym f

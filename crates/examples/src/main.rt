@@ -20,182 +20,163 @@ mod rows;
 mod show;
 mod written;
 
-ghost use Rattle.std.specs.Prelude.{◌≡◌, ◌≤◌, ◌<◌, length, IfOk, vec_len};
+ghost use Rattle.std.specs.Prelude.{◌<◌, IfSome};
 
-use std::alloc::{AllocError, Global};
-use std::io;
+use readers::LayoutCase;
+use std::alloc::Global;
 use std::io::Write;
+use std::{fmt, io};
 
 fn main(rt: HostRuntime) -> io::Result<()> {
-    let mut input = input_space(rt.alloc())?;
-    let mut room = case_space(rt.alloc())?;
-    let mut sheet = [0u16; 520];
+    let mut input = vec![in rt.alloc(); 0; 1048576]?;
     let n = reading::read_full(&mut rt.reader(), &mut input)?;
-    lines(
-        &mut io::writer(&rt),
-        rt.alloc(),
-        &input[..n],
-        &mut sheet,
-        &mut room,
-    )
-}
-
-// Room for the cases.
-fn input_space(alloc: Global) -> Result<Vec<u8>, AllocError>
-    ensures { IfOk result (λ v. 1048576 ≡ vec_len v) }
-{
-    vec![in alloc; 0; 1048576]
-}
-
-// Room for the bytes of one case.
-fn case_space(alloc: Global) -> Result<Vec<u8>, AllocError>
-    ensures { IfOk result (λ v. 131072 ≡ vec_len v) }
-{
-    vec![in alloc; 0; 131072]
-}
-
-// Every line of the text, the bytes of its case in room.
-fn lines(
-    out: &mut impl Write,
-    alloc: Global,
-    text: &[u8],
-    sheet: &mut [u16; 520],
-    room: &mut [u8],
-) -> io::Result<()> {
-    let mut at = 0;
-    while at < text.len() {
-        let end = line_end(text, at);
-        line(out, alloc, &text[at..end], sheet, room)?;
-        at = end + 1;
+    let mut cases = Cases {
+        out: io::writer(&rt),
+        alloc: rt.alloc(),
+        sheet: [0; 520],
+        room: vec![in rt.alloc(); 0; 131072]?,
+    };
+    for line in input[..n].split(|x| *x == b'\n') {
+        cases.line(line)?;
     }
     Ok(())
 }
 
-// Where the line from `at` on ends.
-fn line_end(text: &[u8], at: usize) -> usize
-    requires { at ≤ length text.now }
-    ensures { (at ≤ result) × (result ≤ length text.now) }
-{
-    for i in at..text.len() {
-        if text[i] == b'\n' {
-            return i;
-        }
-    }
-    text.len()
+// Where the answers go, the type sheet that came last, and room for the bytes of a case.
+#[derive(Drop)]
+struct Cases<W> {
+    out: W,
+    alloc: Global,
+    sheet: [u16; 520],
+    room: Vec<u8>,
 }
 
-// A remark, or a case.
-fn line(
-    out: &mut impl Write,
-    alloc: Global,
-    text: &[u8],
-    sheet: &mut [u16; 520],
-    room: &mut [u8],
-) -> io::Result<()> {
-    if text.len() < 1 {
-        return Ok(());
+impl<W: Write> Cases<W> {
+    // A remark, or a case; nothing for an empty line.
+    fn line(&mut self, text: &[u8]) -> io::Result<()> {
+        if let Some((first, digits)) = text.split_first() {
+            let kind = Kind::try_from(*first);
+            if let Ok(Kind::Remark) = kind {
+                return show::line(&mut self.out, text);
+            }
+            let n = unhex(digits, &mut self.room);
+            return match kind {
+                Ok(kind) => self.case(kind, n),
+                Err(unknown) => writeln!(self.out, "{unknown}"),
+            };
+        }
+        Ok(())
     }
-    let kind = text[0];
-    if kind == b'#' {
-        return show::line(out, text);
+
+    // One case of a kind, of the first n bytes in the room.
+    fn case(&mut self, kind: Kind, n: usize) -> io::Result<()> {
+        let n = match kind {
+            Kind::ManyLabels => readers::with_labels(&mut self.room, n),
+            _ => n,
+        };
+        let s = bytes::front(&self.room, n);
+        let out = &mut self.out;
+        let sheet = &self.sheet;
+        match kind {
+            Kind::Remark => Ok(()),
+            Kind::Sheet => {
+                self.sheet = sheet_of(s);
+                Ok(())
+            }
+            Kind::Block => readers::block(out, self.alloc, s, sheet),
+            Kind::Symbology => readers::symbology(out, s),
+            Kind::Layout => readers::layout(out, self.alloc, LayoutCase::of(s, sheet)),
+            Kind::ManyLabels => {
+                readers::layout(out, self.alloc, LayoutCase::of(bytes::from(s, 6), sheet))
+            }
+            Kind::Again => written::again(out, self.alloc, LayoutCase::of(s, sheet)),
+            Kind::Tidy => readers::tidy(out, LayoutCase::of(s, sheet)),
+            Kind::Rows => written::rows(out, self.alloc, s, sheet),
+        }
     }
-    let read = unhex(&text[1..], room);
-    let n = readers::with_labels(kind, room, read);
-    case(out, alloc, kind, bytes::front(room, n), sheet)
 }
 
-// One case of a kind.
-fn case(
-    out: &mut impl Write,
-    alloc: Global,
-    kind: u8,
-    s: &[u8],
-    sheet: &mut [u16; 520],
-) -> io::Result<()> {
-    match kind {
-        b's' => {
-            take_sheet(s, sheet);
-            Ok(())
+// What a line is.
+#[derive(Clone, Copy)]
+enum Kind {
+    Remark,
+    Sheet,
+    Block,
+    Symbology,
+    Layout,
+    ManyLabels,
+    Again,
+    Tidy,
+    Rows,
+}
+
+impl TryFrom<u8> for Kind {
+    type Error = UnknownKind;
+
+    fn try_from(first: u8) -> Result<Self, UnknownKind> {
+        match first {
+            b'#' => Ok(Kind::Remark),
+            b's' => Ok(Kind::Sheet),
+            b'b' => Ok(Kind::Block),
+            b'y' => Ok(Kind::Symbology),
+            b'l' => Ok(Kind::Layout),
+            b'm' => Ok(Kind::ManyLabels),
+            b't' => Ok(Kind::Again),
+            b'i' => Ok(Kind::Tidy),
+            b'w' => Ok(Kind::Rows),
+            _ => Err(UnknownKind),
         }
-        b'b' => readers::block(out, s, sheet),
-        b'y' => readers::symbology(out, s),
-        b'l' => readers::layout(out, alloc, s, sheet),
-        b'm' => readers::layout(out, alloc, bytes::from(s, 6), sheet),
-        b't' => written::again(out, alloc, s, sheet),
-        b'i' => readers::tidy(out, s, sheet),
-        b'w' => written::rows(out, alloc, s, sheet),
-        _ => show::line(out, b"no such kind"),
+    }
+}
+
+// A byte that begins no line.
+#[derive(Clone, Copy, Debug)]
+struct UnknownKind;
+
+impl fmt::Display for UnknownKind {
+    fn fmt<W: fmt::Write>(&self, f: &mut fmt::Formatter<W>) -> fmt::Result {
+        f.write_str("no such kind")
     }
 }
 
 // The sheet with these numbers at these places, and 0 elsewhere.
-fn take_sheet(s: &[u8], sheet: &mut [u16; 520]) {
-    *sheet = [0; 520];
-    for i in 0..s.len() / 4 {
-        let at = bytes::u16_at(s, 4 * i);
-        put(sheet, at as usize, bytes::u16_at(s, 4 * i + 2));
+fn sheet_of(s: &[u8]) -> [u16; 520] {
+    let mut sheet = [0u16; 520];
+    let (pairs, _) = s.as_chunks::<4>();
+    for [a, b, c, d] in pairs {
+        let at = usize::from(u16::from_le_bytes([*a, *b]));
+        if let Some(place) = sheet.get_mut(at) {
+            *place = u16::from_le_bytes([*c, *d]);
+        }
     }
+    sheet
 }
 
-fn put(sheet: &mut [u16; 520], at: usize, n: u16) {
-    if at < 520 {
-        sheet[at] = n;
-    }
-}
-
-// How many bytes the text has in hexadecimal; they are put into out, as many as it has room for.
-fn unhex(text: &[u8], out: &mut [u8]) -> usize {
+// How many bytes the text has in hexadecimal; they are put into the room, as many as it has place for.
+fn unhex(text: &[u8], room: &mut [u8]) -> usize {
     let mut n = 0;
-    let mut i = 1;
-    while i < text.len() {
-        let k = push(out, n, pair(text[i - 1], text[i]));
-        n += k;
-        i += 1 + k;
+    let mut high = None;
+    for x in text {
+        let low = digit(*x);
+        high = match (high, low) {
+            (Some(high), Some(low)) => {
+                bytes::put(room, n, high * 16 + low);
+                n += 1;
+                None
+            }
+            _ => low,
+        };
     }
     n
 }
 
-// Puts a byte at a place, where b is one; how many bytes that are.
-fn push(out: &mut [u8], at: usize, b: u16) -> usize
-    ensures { result ≤ 1 }
+// The value of a hexadecimal digit.
+fn digit(b: u8) -> Option<u8>
+    ensures { IfSome result (λ value. value < 16) }
 {
-    if b < 256 {
-        bytes::put(out, at, b as u8);
-        return 1;
+    match b {
+        b'0'..=b'9' => Some(b - b'0'),
+        b'a'..=b'f' => Some(b - b'a' + 10),
+        _ => None,
     }
-    0
-}
-
-// Two digits as a byte; 256 where one of them is none.
-fn pair(a: u8, b: u8) -> u16
-    ensures { result < 257 }
-{
-    let high = digit(a);
-    let low = digit(b);
-    if 15 < high {
-        return 256;
-    }
-    if 15 < low {
-        return 256;
-    }
-    (high as u16) * 16 + low as u16
-}
-
-// The value of a hexadecimal digit; 16 for any other byte.
-fn digit(b: u8) -> u8
-    ensures { result < 17 }
-{
-    if b < b'0' {
-        return 16;
-    }
-    if b <= b'9' {
-        return b - b'0';
-    }
-    if b < b'a' {
-        return 16;
-    }
-    if b <= b'f' {
-        return b - b'a' + 10;
-    }
-    16
 }

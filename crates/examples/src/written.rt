@@ -1,41 +1,22 @@
 // What the writer answers, and whether what it writes reads back as the same.
-use crate::{bytes, rows, show};
-use layout::Answer;
+use crate::readers::LayoutCase;
+use crate::{bytes, readers, rows, show};
+use layout::{Accepted, ReadError};
 use std::alloc::Global;
 use std::io;
 use std::io::Write;
-use writer::Written;
 
 // A layout of a case, read, written and read again.
-pub(crate) fn again(
-    out: &mut impl Write,
-    alloc: Global,
-    s: &[u8],
-    sheet: &[u16; 520],
-) -> io::Result<()> {
-    let width = bytes::u16_at(s, 0);
-    let layout = bytes::from(s, 2);
+pub(crate) fn again(out: &mut impl Write, alloc: Global, layout: LayoutCase) -> io::Result<()> {
     let mut table = rows::space(alloc)?;
-    match layout::read_layout_rows(layout, false, &mut table) {
-        Answer::Read { version, rows: n } => {
-            let mut bytes = [7u8; 4096];
-            write(
-                out,
-                rows::front(&table, n),
-                layout,
-                low16(version),
-                width,
-                sheet,
-                &mut bytes,
-            )
+    match layout::read_layout_rows(layout.bytes, false, &mut table) {
+        Ok(Accepted { version, rows: n }) => {
+            let version = (version % 65536) as u16;
+            write(out, rows::front(&table, n), layout, version, &mut [7; 4096])
         }
-        Answer::Short { version: _, rows } => show::short(out, rows),
-        Answer::Refused(why) => show::refused(out, why),
+        Err(ReadError::Short(needed)) => writeln!(out, "short {}", needed.rows),
+        Err(ReadError::Refused(why)) => show::refused(out, why),
     }
-}
-
-fn low16(n: usize) -> u16 {
-    (n % 65536) as u16
 }
 
 // The rows of a case: written and read again; then what the rules say of them, by search and marked.
@@ -45,41 +26,43 @@ pub(crate) fn rows(
     s: &[u8],
     sheet: &[u16; 520],
 ) -> io::Result<()> {
-    let width = bytes::u16_at(s, 0);
     let version = bytes::u16_at(s, 2);
-    let room = bytes::at_most(bytes::u16_at(s, 4) as usize, 4096);
-    let more = bytes::u16_at(s, 6) as usize;
-    let texts = bytes::u16_at(s, 8) as usize;
+    let room = usize::from(bytes::u16_at(s, 4)).min(4096);
+    let more = usize::from(bytes::u16_at(s, 6));
+    let texts = usize::from(bytes::u16_at(s, 8));
     let numbers = bytes::from(s, 10 + texts);
-    let n = numbers.len() / 36 + more;
-    let mut table = rows::space(alloc)?;
-    let mut bytes = [7u8; 4096];
-    rows::load(numbers, &mut table, n);
-    let rows = rows::front(&table, n);
-    let text = bytes::front(bytes::from(s, 10), texts);
-    write(out, rows, text, version, width, sheet, &mut bytes[0..room])?;
-    show::rules(out)?;
-    show::say_number(out, engines::check_rows(rows, text, width, sheet))?;
-    show::say_number(out, engines::check_rows_plain(rows, text, width, sheet))?;
-    show::end(out)
+    let rows = rows::load(alloc, numbers, numbers.len() / 36 + more)?;
+    let texts = LayoutCase {
+        width: bytes::u16_at(s, 0),
+        sheet,
+        bytes: bytes::front(bytes::from(s, 10), texts),
+    };
+    write(out, &rows, texts, version, &mut [7; 4096][..room])?;
+    out.write_all(b"  rules")?;
+    readers::rules_of_rows(out, &rows, texts)
 }
 
-// Writes rows whose texts are in `text`, and says what came of it. The room for them is full of sevens.
+// Writes rows whose texts are in `texts`, and says what came of it. The room for them is full of sevens.
 fn write(
     out: &mut impl Write,
     rows: &[u32],
-    text: &[u8],
+    texts: LayoutCase,
     version: u16,
-    width: u16,
-    sheet: &[u16; 520],
     room: &mut [u8],
 ) -> io::Result<()> {
-    match writer::write_layout(rows, text, version, width, sheet, room) {
-        Written::Length(n) => {
+    match writer::write_layout(rows, texts.bytes, version, texts.width, texts.sheet, room) {
+        Ok(n) => {
             let bytes = bytes::front(room, n);
-            show::written(out, bytes, reads_back(rows, text, version, bytes))
+            let is_same = reads_back(rows, texts.bytes, version, bytes);
+            out.write_all(b"written ")?;
+            show::hex(out, bytes)?;
+            writeln!(out, " {}", if is_same { "same" } else { "different" })
         }
-        Written::Refused(why) => show::not_written(out, why, untouched(room)),
+        Err(why) => {
+            let is_untouched = room.iter().all(|x| *x == 7);
+            let written = if is_untouched { "no byte" } else { "bytes" };
+            writeln!(out, "refused {}, {written} written", show::Told(Some(why)))
+        }
     }
 }
 
@@ -87,32 +70,11 @@ fn write(
 fn reads_back(rows: &[u32], text: &[u8], version: u16, bytes: &[u8]) -> bool {
     let mut table = [0u32; 4608];
     match layout::read_layout_rows(bytes, false, &mut table) {
-        Answer::Read {
-            version: v,
-            rows: n,
-        } => {
-            if v != version as usize {
-                return false;
-            }
-            if n != rows.len() / 9 {
-                return false;
-            }
-            rows::same(rows, text, &table, bytes, n)
+        Ok(read) => {
+            read.version == usize::from(version)
+                && read.rows == rows.len() / 9
+                && rows::same(rows, text, rows::front(&table, read.rows), bytes)
         }
-        Answer::Short {
-            version: _,
-            rows: _,
-        } => false,
-        Answer::Refused(_) => false,
+        Err(_) => false,
     }
-}
-
-// Whether the room still is full of sevens.
-fn untouched(room: &[u8]) -> bool {
-    for x in room {
-        if *x != 7 {
-            return false;
-        }
-    }
-    true
 }

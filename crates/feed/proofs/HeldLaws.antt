@@ -1,5 +1,6 @@
 -- The verdict is a function of the held bytes, the store's length and what is lent: bytes of the store past the held ones are not looked at. Assumes nothing.
-use Rattle.std.specs.Prelude.{ℕ, ◌+◌, ◌-◌, ◌≤◌, ◌≡◌, List, take}
+use Rattle.refusal.specs.declared.Refusal.{Refusal}
+use Rattle.std.specs.Prelude.{ℕ, ◌+◌, ◌-◌, ◌≤◌, ◌≡◌, List, take, Result, Ok, Err}
 use Rattle.std.proofs.Common.{arith, ◌∙◌, take-add, drop_at, length-take-le}
 use Rattle.std.proofs.Math.Path.{refl, sym, ap}
 use Rattle.std.proofs.Math.ListN.{length, drop}
@@ -8,7 +9,7 @@ use Rattle.feed.specs.Feeding.{start, stage_of, block_says, block_in, answer_at,
 use Rattle.feed.proofs.StageLaws.{start-law}
 use Rattle.held.proofs.StageLaws as stage
 use Rattle.held.specs.declared.Holding.{Holding}
-use Rattle.held.specs.declared.Holding.TheVariants.{Needs, Refused, Whole}
+use Rattle.held.specs.declared.Holding.TheVariants.{Needs, Whole}
 
 -- the block is what is held past the prelude
 pub block_held : (st : List ℕ) (n : ℕ) → 8 ≤ n → n ≤ length st → block_in st n ≡ drop 8 (take n st)
@@ -20,14 +21,14 @@ module _ (k : ℕ) (st st2 t s l : List ℕ) (same : length st ≡ length st2) (
   stage-same : stage_of k st ≡ stage_of k st2
   stage-same = stage.held-only start k st st2 same held
 
-  abbrev Alike : Holding → Type 0
+  abbrev Alike : Result Holding Refusal → Type 0
   Alike z = (answer_at z st t s l ≡ answer_at z st2 t s l) × (symbology_at z st t s l ≡ symbology_at z st2 t s l) × (layout_at z st t s l ≡ layout_at z st2 t s l)
 
-  alike : (z : Holding) → stage_of k st ≡ z → Alike z
+  alike : (z : Result Holding Refusal) → stage_of k st ≡ z → Alike z
   unfolding block_says answer_at symbology_at layout_at
-  alike (Needs n) e = (refl, refl, refl)
-  alike (Refused n) e = (refl, refl, refl)
-  alike (Whole n v) e =
+  alike (Ok (Needs n)) e = (refl, refl, refl)
+  alike (Err n) e = (refl, refl, refl)
+  alike (Ok (Whole n v)) e =
       let w = stage.is_whole start start-law k st n v e in
       let kn : k ≡ n = w.sum in
       let many : 8 ≤ k = w.many in

@@ -1,6 +1,7 @@
 -- What a feed never takes: a byte past the block, or any byte where the held ones already give done or a refusal.
 -- Assumes nothing.
-use Rattle.std.specs.Prelude.{ℕ, ◌+◌, ◌≤◌, ◌⊎◌, ◌≡◌, refl, List, ◌++◌, length, take, drop}
+use Rattle.refusal.specs.declared.Refusal.{Refusal}
+use Rattle.std.specs.Prelude.{ℕ, ◌+◌, ◌≤◌, ◌⊎◌, ◌≡◌, refl, List, ◌++◌, length, take, drop, Result, Ok, Err}
 use Rattle.std.proofs.Common.{add-zero, arith, inl, inr, ⊎_elim, sym, ap, subst₂, ◌∙◌, take-take}
 use Rattle.std.proofs.Math.Seq.{paste, paste-zero}
 use Rattle.block_format.specs.declared.Fields.{Fields}
@@ -12,7 +13,7 @@ use Rattle.held.proofs.AloneLaws.{front_paste}
 use Rattle.held.proofs.NeverPastLaws as held
 use Rattle.held.proofs.NeverPastLaws.{Inside}
 use Rattle.held.specs.declared.Holding.{Holding}
-use Rattle.held.specs.declared.Holding.TheVariants.{Needs, Refused, Whole}
+use Rattle.held.specs.declared.Holding.TheVariants.{Needs, Whole}
 use Rattle.feed.specs.Feeding.{start, stage_of, taken_of, held_after, store_after, answer_at, Judgement, Feeding, block_says, symbology_at, layout_at}
 use Rattle.feed.proofs.StageLaws.{start-law, whole-prelude}
 use Rattle.feed.proofs.PieceLaws.{taken_none, join}
@@ -26,26 +27,26 @@ pub never-past : (k : ℕ) (st p t s l : List ℕ) (x : Fed) (st1 s1 l1 : List �
 never-past k st p t s l x st1 s1 l1 f =
     ⊎_elim (λ e. inl (f.taken ∙ e)) (λ i. inr (subst₂ (Inside start) (sym f.held) (sym f.store) i)) (held.never-past start start-law k st p)
 
-done-stage : (z : Holding) (st t s l : List ℕ) (f : Fields) → answer_at z st t s l ≡ Done f → (w : ℕ) × (v : ℕ) × (z ≡ Whole w v)
+done-stage : (z : Result Holding Refusal) (st t s l : List ℕ) (f : Fields) → answer_at z st t s l ≡ Ok (Done f) → (w : ℕ) × (v : ℕ) × (z ≡ Ok (Whole w v))
 unfolding block_says answer_at symbology_at layout_at
-done-stage (Needs n) st t s l f e = absurd (let z : ◌≡◌ {A = ℕ} 0 1 = cc in omega arith)
-done-stage (Refused n) st t s l f e = absurd (let z : ◌≡◌ {A = ℕ} 0 1 = cc in omega arith)
-done-stage (Whole w v) st t s l f e = (w, v, refl)
+done-stage (Ok (Needs n)) st t s l f e = absurd (let z : ◌≡◌ {A = ℕ} 0 1 = cc in omega arith)
+done-stage (Err n) st t s l f e = absurd (let z : ◌≡◌ {A = ℕ} 0 1 = cc in omega arith)
+done-stage (Ok (Whole w v)) st t s l f e = (w, v, refl)
 
-need-or : (z : Holding) (st t s l : List ℕ) → ((n : ℕ) → answer_at z st t s l ≡ Answer.Needs n → ⊥) → need_of z ≡ 0
+need-or : (z : Result Holding Refusal) (st t s l : List ℕ) → ((n : ℕ) → answer_at z st t s l ≡ Ok (Answer.Needs n) → ⊥) → need_of z ≡ 0
 unfolding block_says answer_at symbology_at layout_at
-need-or (Needs n) st t s l h = absurd (h n refl)
-need-or (Refused e) st t s l h = refl
-need-or (Whole n v) st t s l h = refl
+need-or (Ok (Needs n)) st t s l h = absurd (h n refl)
+need-or (Err e) st t s l h = refl
+need-or (Ok (Whole n v)) st t s l h = refl
 
 -- NOTHING MORE: a feed whose held bytes already give done or a refusal, with what is lent now, takes nothing
 pub nothing_more : (k : ℕ) (st p t s l : List ℕ) (x : Fed) (st1 s1 l1 : List ℕ) → Feeding k st p t s l x st1 s1 l1
-    → ((n : ℕ) → answer_at (stage_of k st) st t s l ≡ Answer.Needs n → ⊥) → x.taken ≡ 0
+    → ((n : ℕ) → answer_at (stage_of k st) st t s l ≡ Ok (Answer.Needs n) → ⊥) → x.taken ≡ 0
 nothing_more k st p t s l x st1 s1 l1 f h = f.taken ∙ taken_none k st p (need-or (stage_of k st) st t s l h)
 
 -- and so a longer stream changes nothing once the answer is done or a refusal
 pub settled : (k : ℕ) (st p q t s l : List ℕ) (x y : Fed) (st1 s1 l1 st2 s2 l2 : List ℕ) → Feeding k st p t s l x st1 s1 l1
-    → ((n : ℕ) → x.answer ≡ Answer.Needs n → ⊥) → Feeding k st (p ++ q) t s l y st2 s2 l2 → Same x y st1 s1 l1 st2 s2 l2
+    → ((n : ℕ) → x.answer ≡ Ok (Answer.Needs n) → ⊥) → Feeding k st (p ++ q) t s l y st2 s2 l2 → Same x y st1 s1 l1 st2 s2 l2
 settled k st p q t s l x y st1 s1 l1 st2 s2 l2 f h g =
     let r = drop x.taken p ++ q in
     let held = x.state.held in
@@ -68,8 +69,8 @@ settled k st p q t s l x y st1 s1 l1 st2 s2 l2 f h g =
     }
 
 -- DONE: a feed from the start that is done took the prelude and the block that it announces, and no more
-pub done-whole : (st p t s l : List ℕ) (x : Fed) (st1 s1 l1 : List ℕ) (f : Fields) → Feeding 0 st p t s l x st1 s1 l1 → x.answer ≡ Done f
-    → (v : ℕ) × (len : ℕ) × (prelude_of (take 8 p) ≡ Stage'.Whole v len) × (x.taken ≡ 8 + len) × (x.taken ≤ length p)
+pub done-whole : (st p t s l : List ℕ) (x : Fed) (st1 s1 l1 : List ℕ) (f : Fields) → Feeding 0 st p t s l x st1 s1 l1 → x.answer ≡ Ok (Done f)
+    → (v : ℕ) × (len : ℕ) × (prelude_of (take 8 p) ≡ Ok (Stage'.Whole v len)) × (x.taken ≡ 8 + len) × (x.taken ≤ length p)
 done-whole st p t s l x st1 s1 l1 f g e =
     let n = taken_of 0 st p in
     let (w, v, q) = done-stage (stage_of (held_after 0 st p) (store_after 0 st p)) (store_after 0 st p) t s l f (sym g.verdict.answer ∙ e) in

@@ -1,6 +1,8 @@
 -- ANY CUTTING of a stream into pieces: feeds one after the other take the same bytes and end with the same answer, a refusal's number and
 -- place with it, store and tables as one feed of the whole stream. The state, the store and the tables are any. Assumes nothing.
-use Rattle.std.specs.Prelude.{ℕ, ◌+◌, ◌≤◌, ◌≡◌, refl, List, ◌++◌, drop}
+use Rattle.refusal.specs.declared.Refusal.{Refusal}
+use Rattle.block_format.specs.declared.ReadError.{ReadError}
+use Rattle.std.specs.Prelude.{ℕ, ◌+◌, ◌≤◌, ◌≡◌, refl, List, ◌++◌, drop, Result, Ok, Err}
 use Rattle.std.proofs.Common.{arith, sym, ap, ap₂, subst₂, ◌∙◌}
 use Rattle.std.proofs.Math.Seq.{paste, paste-zero}
 use Rattle.held.specs.Held.{need_of}
@@ -12,7 +14,7 @@ use Rattle.block_format.proofs.ReadLaws.{again}
 use Rattle.feed.specs.declared.Answer.{Answer}
 use Rattle.feed.specs.declared.Fed.{Fed}
 use Rattle.held.specs.declared.Holding.{Holding}
-use Rattle.held.specs.declared.Holding.TheVariants.{Needs, Refused, Whole}
+use Rattle.held.specs.declared.Holding.TheVariants.{Needs, Whole}
 
 -- what two feeds come to
 abbrev pub joined : Fed → Fed → Fed
@@ -63,16 +65,16 @@ lent_is-one (last f) = f
 lent_is-one (more q m f far r) = join _ _ _ q _ _ _ _ _ _ _ _ _ _ _ _ _ _ m f far (lent_is-one r)
 
 -- the verdict again, with the tables as a verdict left them
-again_at : (r : Holding) (st t s l : List ℕ)
+again_at : (r : Result Holding Refusal) (st t s l : List ℕ)
     → (answer_at r st t (symbology_at r st t s l) (layout_at r st t s l) ≡ answer_at r st t s l)
     × (symbology_at r st t (symbology_at r st t s l) (layout_at r st t s l) ≡ symbology_at r st t s l)
     × (layout_at r st t (symbology_at r st t s l) (layout_at r st t s l) ≡ layout_at r st t s l)
 unfolding block_says answer_at symbology_at layout_at
-again_at (Needs n) st t s l = (refl, refl, refl)
-again_at (Refused e) st t s l = (refl, refl, refl)
-again_at (Whole n v) st t s l = let h = again v (block_in st n) t s l in (ap block_says h.answer, h.symbology, h.layout)
+again_at (Ok (Needs n)) st t s l = (refl, refl, refl)
+again_at (Err e) st t s l = (refl, refl, refl)
+again_at (Ok (Whole n v)) st t s l = let h = again v (block_in st n) t s l in (ap block_says h.answer, h.symbology, h.layout)
 
-judged_again : (k : ℕ) (st t s l s1 l1 : List ℕ) (x r : Answer) (s2 l2 : List ℕ) → Judgement k st t s l x s1 l1 → Judgement k st t s1 l1 r s2 l2 → Judgement k st t s l r s2 l2
+judged_again : (k : ℕ) (st t s l s1 l1 : List ℕ) (x r : Result Answer ReadError) (s2 l2 : List ℕ) → Judgement k st t s l x s1 l1 → Judgement k st t s1 l1 r s2 l2 → Judgement k st t s l r s2 l2
 judged_again k st t s l s1 l1 x r s2 l2 f g =
     let z = stage_of k st in
     let h = again_at z st t s l in
@@ -83,15 +85,15 @@ judged_again k st t s l s1 l1 x r s2 l2 f g =
     }
 
 -- the tables handed on too: the second verdict is that with the first tables
-handed_of : (k : ℕ) (st q t s l s1 l1 : List ℕ) (x r : Answer) (s2 l2 : List ℕ) (z : Holding) → stage_of k st ≡ z
+handed_of : (k : ℕ) (st q t s l s1 l1 : List ℕ) (x r : Result Answer ReadError) (s2 l2 : List ℕ) (z : Result Holding Refusal) → stage_of k st ≡ z
     → Judgement k st t s l x s1 l1 → Judgement (k + taken_of k st q) (paste st k q (taken_of k st q)) t s1 l1 r s2 l2
     → Judgement (k + taken_of k st q) (paste st k q (taken_of k st q)) t s l r s2 l2
 unfolding block_says answer_at symbology_at layout_at
-handed_of k st q t s l s1 l1 x r s2 l2 (Needs n) e f g =
+handed_of k st q t s l s1 l1 x r s2 l2 (Ok (Needs n)) e f g =
     subst₂ (λ m i. Judgement (k + taken_of k st q) (paste st k q (taken_of k st q)) t m i r s2 l2) (f.symbology ∙ simp e) (f.layout ∙ simp e) g
-handed_of k st q t s l s1 l1 x r s2 l2 (Refused n) e f g =
+handed_of k st q t s l s1 l1 x r s2 l2 (Err n) e f g =
     subst₂ (λ m i. Judgement (k + taken_of k st q) (paste st k q (taken_of k st q)) t m i r s2 l2) (f.symbology ∙ simp e) (f.layout ∙ simp e) g
-handed_of k st q t s l s1 l1 x r s2 l2 (Whole n v) e f g =
+handed_of k st q t s l s1 l1 x r s2 l2 (Ok (Whole n v)) e f g =
     let none : taken_of k st q ≡ 0 = taken_none k st q (ap need_of e) in
     let hk : k ≡ k + taken_of k st q = omega arith in
     let hs : st ≡ paste st k q (taken_of k st q) = paste-zero st k q ∙ ap (paste st k q) (sym none) in

@@ -1,6 +1,7 @@
 -- ONE ANSWER: two outcomes that meet a promise are equal.
 -- Assumes nothing.
-use Rattle.std.specs.Prelude.{ℕ, ◌≡◌, List}
+use Rattle.block_format.specs.declared.ReadError.{ReadError}
+use Rattle.std.specs.Prelude.{ℕ, ◌≡◌, List, Result}
 use Rattle.std.proofs.Common.{sym, ap, ap₂, ◌∙◌}
 use Rattle.feed.specs.Feeding.{Feeding}
 use Rattle.feed.specs.declared.Answer.{Answer}
@@ -13,7 +14,7 @@ pub record Same (x y : Fed) (st1 s1 l1 st2 s2 l2 : List ℕ) : Type 0 where
   pub symbology : s1 ≡ s2
   pub layout : l1 ≡ l2
 
-abbrev mk : ℕ → ℕ → Answer → Fed
+abbrev mk : ℕ → ℕ → Result Answer ReadError → Fed
 mk n h r = record { taken = n; state = record { held = h }; answer = r }
 
 pub one_feed : (k : ℕ) (st p t s l : List ℕ) (x y : Fed) (st1 s1 l1 st2 s2 l2 : List ℕ)

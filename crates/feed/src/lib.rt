@@ -4,7 +4,7 @@
 ghost use Rattle.std.specs.Prelude.{◌≡◌};
 ghost use Rattle.feed.specs.Feeding.{stage_of, Judgement, Feeding};
 
-use block::{BlockAnswer, Fields};
+use block::{Fields, ReadError};
 use held::Holding;
 use prelude::Stage;
 use refusal::Refusal;
@@ -18,22 +18,20 @@ pub struct State {
     pub held: usize,
 }
 
-// What the held bytes say: so many more are needed, or the block's fields, or a refusal, or the rows that the tables would need. The place
-// of 10 to 12 counts from the prelude, that of the others from the block.
+// What the held bytes say: so many more are needed, or the block's fields.
 #[derive(Clone, Copy)]
 pub enum Answer {
     Needs(usize),
     Done(Fields),
-    Refused(Refusal),
-    Short { symbology: usize, layout: usize },
 }
 
-// How many bytes of the piece were taken, the state after them, and what the held bytes then say.
+// How many bytes of the piece were taken, the state after them, and what the held bytes then say. The place of a refusal by 10 to 12 counts
+// from the prelude, that of the others from the block.
 #[derive(Clone, Copy)]
 pub struct Fed {
     pub taken: usize,
     pub state: State,
-    pub answer: Answer,
+    pub answer: Result<Answer, ReadError>,
 }
 
 // A piece is fed: what the prelude, then the block, still needs is taken into the store right after the held bytes. The answer is the
@@ -62,7 +60,7 @@ pub fn feed(
 }
 
 // What the first `held` bytes of a store are, up to the block's own verdict: their kind is the version.
-fn stage_of(held: usize, store: &[u8]) -> Holding
+fn stage_of(held: usize, store: &[u8]) -> Result<Holding, Refusal>
     ensures { result ≡ stage_of held store.now }
 {
     let room = store.len();
@@ -72,9 +70,8 @@ fn stage_of(held: usize, store: &[u8]) -> Holding
     if room < METADATA_PRELUDE_LEN {
         return held::refused(refusal::STORE_SHORT);
     }
-    match prelude::prelude(&store[..held]) {
-        Stage::Needs(k) => Holding::Needs(k),
-        Stage::Refused(e) => Holding::Refused(e),
+    match prelude::prelude(&store[..held])? {
+        Stage::Needs(k) => Ok(Holding::Needs(k)),
         Stage::Whole { version, len } => {
             if room - METADATA_PRELUDE_LEN < len {
                 return held::refused(refusal::STORE_SHORT);
@@ -97,24 +94,15 @@ fn judge(
     sheet: &[u16; 520],
     symbology: &mut [u32],
     layout: &mut [u32],
-) -> Answer
+) -> Result<Answer, ReadError>
     ensures { Judgement held store.now sheet.now symbology.old layout.old result symbology.new layout.new }
 {
-    match stage_of(held, store) {
-        Holding::Needs(n) => Answer::Needs(n),
-        Holding::Refused(e) => Answer::Refused(e),
+    match stage_of(held, store)? {
+        Holding::Needs(n) => Ok(Answer::Needs(n)),
         Holding::Whole { len, kind: version } => {
-            match block::read_block(version, &store[8..len], sheet, symbology, layout) {
-                BlockAnswer::Read(f) => Answer::Done(f),
-                BlockAnswer::Refused(e) => Answer::Refused(e),
-                BlockAnswer::Short {
-                    symbology: s,
-                    layout: l,
-                } => Answer::Short {
-                    symbology: s,
-                    layout: l,
-                },
-            }
+            let block = &store[METADATA_PRELUDE_LEN..len];
+            let fields = block::read_block(version, block, sheet, symbology, layout)?;
+            Ok(Answer::Done(fields))
         }
     }
 }

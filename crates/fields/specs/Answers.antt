@@ -1,5 +1,5 @@
 -- What the public functions answer of an entry. Assumes nothing.
-use Rattle.std.specs.Prelude.{ℕ, ◌<◌, ◌≡◌, Bool, List}
+use Rattle.std.specs.Prelude.{ℕ, ◌<◌, ◌≡◌, Bool, List, cond, eqb, Option, Some, None}
 use Rattle.fields.specs.Sheet.{id_of, off_of, end_of, is_padding, past_base, member_align}
 use Rattle.fields.specs.Field.{differs}
 use Rattle.fields.specs.declared.Extent.{Extent}

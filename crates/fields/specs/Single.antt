@@ -1,7 +1,8 @@
 -- Two answers that meet a public promise are equal. Assumes nothing.
-use Rattle.std.specs.Prelude.{ℕ, ◌≡◌, Bool, List}
+use Rattle.std.specs.Prelude.{ℕ, ◌≡◌, Bool, List, Option}
 use Rattle.std.proofs.Common.{sym, ap, ◌∙◌}
 use Rattle.fields.specs.Field.{field_fault}
+use Rattle.codec.specs.Telling.{fault}
 use Rattle.fields.specs.Answers.{ExtentIs, ClassIs}
 use Rattle.fields.specs.declared.Extent.{Extent}
 use Rattle.fields.specs.declared.Class.{Class}
@@ -18,6 +19,6 @@ class-of-one {r = r} {r'} f g =
     ∙ ap (λ x. record { id = r'.id; padding = x; align = r.align }) (f.padding ∙ sym g.padding)
     ∙ ap (λ x. record { id = r'.id; padding = r'.padding; align = x }) (f.align ∙ sym g.align)
 
-pub check_field_one : (sheet : List ℕ) (width labels : ℕ) (aligns : List ℕ) (isRecord : Bool) (base : ℕ) (seen : Bool) (e : List ℕ) {r r' : ℕ}
-    → r ≡ field_fault sheet width labels aligns isRecord base seen e → r' ≡ field_fault sheet width labels aligns isRecord base seen e → r ≡ r'
+pub check_field_one : (sheet : List ℕ) (width labels : ℕ) (aligns : List ℕ) (isRecord : Bool) (base : ℕ) (seen : Bool) (e : List ℕ) {r r' : Option ℕ}
+    → r ≡ fault (field_fault sheet width labels aligns isRecord base seen e) → r' ≡ fault (field_fault sheet width labels aligns isRecord base seen e) → r ≡ r'
 check_field_one sheet width labels aligns isRecord base seen e p q = p ∙ sym q

@@ -4,6 +4,7 @@
 ghost use Rattle.std.specs.Prelude.{◌≡◌, not, ◌&&◌, ◌+◌, ◌*◌, ◌<◌, length};
 ghost use Rattle.fields.specs.Sheet.{id_of, off_of, size_of, type_of, def_of, end_of, is_padding, is_struct, is_symbol, is_decimal, names_label, is_extension, past_base, align_of, member_align};
 ghost use Rattle.fields.specs.Field.{differs, breaks71, breaks72, breaks73, breaks74, breaks76, breaks77, breaks79, breaks80, field_fault};
+ghost use Rattle.codec.specs.Telling.{fault};
 ghost use Rattle.fields.specs.Answers.{ExtentIs, ClassIs};
 
 // What the fields of one record or struct are held against: whether it is a record, its base size or its size, the
@@ -37,7 +38,7 @@ pub fn extent_of(frame: Frame, ext: bool, e: [u8; 11]) -> Extent
     ensures { ExtentIs frame.is_record frame.base ext e result }
 {
     Extent {
-        other: differ(ext, past_base(frame, e)),
+        other: ext != past_base(frame, e),
         off: off_of(e),
         end: end_of(e),
     }
@@ -54,42 +55,48 @@ pub fn class_of(sheet: &[u16; 520], e: [u8; 11]) -> Class
     }
 }
 
-// The first of rules 71 to 80 that the entry breaks, or 0. `aligns` has the alignment of each struct; `seen` says that
+// The first of rules 71 to 80 that the entry breaks. `aligns` has the alignment of each struct; `seen` says that
 // the entry's id came before.
-pub fn check_field(sheet: &[u16; 520], aligns: &[u16], frame: Frame, seen: bool, e: [u8; 11]) -> u32
-    ensures { result ≡ field_fault sheet.now frame.width frame.labels aligns.now frame.is_record frame.base seen e }
+pub fn check_field(
+    sheet: &[u16; 520],
+    aligns: &[u16],
+    frame: Frame,
+    seen: bool,
+    e: [u8; 11],
+) -> Option<u32>
+    ensures { result ≡ fault (field_fault sheet.now frame.width frame.labels aligns.now frame.is_record frame.base seen e) }
 {
     if breaks_71(sheet, seen, e) {
-        return refusal::ID_TWICE;
+        return Some(refusal::ID_TWICE);
     }
     if breaks_72(sheet, frame, e) {
-        return refusal::STRUCT_IN_STRUCT;
+        return Some(refusal::STRUCT_IN_STRUCT);
     }
     if breaks_73(sheet, aligns, frame, e) {
-        return refusal::DEF_INDEX;
+        return Some(refusal::DEF_INDEX);
     }
     if breaks_74(sheet, aligns, e) {
-        return refusal::MISALIGNED;
+        return Some(refusal::MISALIGNED);
     }
     if size_of(e) == 0 {
-        return refusal::SIZE_ZERO;
+        return Some(refusal::SIZE_ZERO);
     }
     if breaks_76(sheet, e) {
-        return refusal::DECIMAL_SCALE;
+        return Some(refusal::DECIMAL_SCALE);
     }
     if breaks_77(sheet, frame, e) {
-        return refusal::SYMBOL_WIDTH;
+        return Some(refusal::SYMBOL_WIDTH);
     }
     if 65535 < end_of(e) {
-        return refusal::FIELD_END;
+        return Some(refusal::FIELD_END);
     }
     if breaks_79(sheet, frame, e) {
-        return refusal::EXTENSION_MARK;
+        return Some(refusal::EXTENSION_MARK);
     }
     if breaks_80(frame, e) {
-        return refusal::PAST_BASE;
+        return Some(refusal::PAST_BASE);
     }
-    0
+    None
 }
 
 // ---- numbers
@@ -104,19 +111,6 @@ fn pair(lo: u8, hi: u8) -> usize
     ensures { (result ≡ lo + 256 * hi) × (result < 65536) }
 {
     numbers::wide(lo) + 256 * numbers::wide(hi)
-}
-
-fn both(a: bool, b: bool) -> bool
-    ensures { result ≡ (a && b) }
-{
-    if a { b } else { false }
-}
-
-// Whether one holds and the other does not.
-fn differ(a: bool, b: bool) -> bool
-    ensures { result ≡ differs a b }
-{
-    if a { !b } else { b }
 }
 
 // ---- the parts of an entry
@@ -187,8 +181,8 @@ fn is_decimal(sheet: &[u16; 520], e: [u8; 11]) -> bool
 fn names_label(sheet: &[u16; 520], e: [u8; 11]) -> bool
     ensures { result ≡ names_label sheet.now e }
 {
-    let t = 256 + type_of(e);
-    both(sheet[t] != 0, def_of(e) != wide16(sheet[517]))
+    let label = 256 + type_of(e);
+    sheet[label] != 0 && def_of(e) != wide16(sheet[517])
 }
 
 fn is_extension(sheet: &[u16; 520], e: [u8; 11]) -> bool
@@ -205,7 +199,7 @@ fn is_extension(sheet: &[u16; 520], e: [u8; 11]) -> bool
 fn past_base(frame: Frame, e: [u8; 11]) -> bool
     ensures { result ≡ past_base frame.is_record frame.base e }
 {
-    both(frame.is_record, frame.base <= off_of(e))
+    frame.is_record && frame.base <= off_of(e)
 }
 
 // The alignment of an entry inside a struct, or 0 where the sheet has none.
@@ -244,13 +238,13 @@ fn align_of(sheet: &[u16; 520], aligns: &[u16], e: [u8; 11]) -> usize
 fn breaks_71(sheet: &[u16; 520], seen: bool, e: [u8; 11]) -> bool
     ensures { result ≡ breaks71 sheet.now seen e }
 {
-    both(!is_padding(sheet, e), seen)
+    !is_padding(sheet, e) && seen
 }
 
 fn breaks_72(sheet: &[u16; 520], frame: Frame, e: [u8; 11]) -> bool
     ensures { result ≡ breaks72 sheet.now frame.is_record e }
 {
-    both(is_struct(sheet, e), !frame.is_record)
+    is_struct(sheet, e) && !frame.is_record
 }
 
 fn breaks_73(sheet: &[u16; 520], aligns: &[u16], frame: Frame, e: [u8; 11]) -> bool
@@ -260,7 +254,7 @@ fn breaks_73(sheet: &[u16; 520], aligns: &[u16], frame: Frame, e: [u8; 11]) -> b
     if is_struct(sheet, e) {
         return aligns.len() <= d;
     }
-    both(names_label(sheet, e), frame.labels <= d)
+    names_label(sheet, e) && frame.labels <= d
 }
 
 fn breaks_74(sheet: &[u16; 520], aligns: &[u16], e: [u8; 11]) -> bool
@@ -276,24 +270,23 @@ fn breaks_74(sheet: &[u16; 520], aligns: &[u16], e: [u8; 11]) -> bool
 fn breaks_76(sheet: &[u16; 520], e: [u8; 11]) -> bool
     ensures { result ≡ breaks76 sheet.now e }
 {
-    both(is_decimal(sheet, e), e[10] != 247)
+    is_decimal(sheet, e) && e[10] != 247
 }
 
 fn breaks_77(sheet: &[u16; 520], frame: Frame, e: [u8; 11]) -> bool
     ensures { result ≡ breaks77 sheet.now frame.width e }
 {
-    both(is_symbol(sheet, e), size_of(e) != frame.width)
+    is_symbol(sheet, e) && size_of(e) != frame.width
 }
 
 fn breaks_79(sheet: &[u16; 520], frame: Frame, e: [u8; 11]) -> bool
     ensures { result ≡ breaks79 sheet.now frame.is_record frame.base e }
 {
-    let d = differ(is_extension(sheet, e), past_base(frame, e));
-    both(!is_padding(sheet, e), d)
+    !is_padding(sheet, e) && is_extension(sheet, e) != past_base(frame, e)
 }
 
 fn breaks_80(frame: Frame, e: [u8; 11]) -> bool
     ensures { result ≡ breaks80 frame.is_record frame.base e }
 {
-    both(!past_base(frame, e), frame.base < end_of(e))
+    !past_base(frame, e) && frame.base < end_of(e)
 }

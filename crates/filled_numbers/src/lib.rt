@@ -15,6 +15,9 @@ pub fn u8_of(s: &[u8], at: usize) -> usize
     }
 }
 
+// The three below are each two of the narrower one, in a line. One function over the width would be a loop, with powers of 256 in its
+// clauses: no plainer.
+
 // The u16 at `at`.
 pub fn u16_of(s: &[u8], at: usize) -> usize
     ensures { (result ≡ le16 s.now at) × (result < 65536) }

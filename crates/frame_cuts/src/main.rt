@@ -5,6 +5,7 @@
 ghost use Rattle.std.specs.Prelude.{◌≤◌, length};
 
 use frames::{Answer, State};
+use refusal::Refusal;
 use std::io;
 use std::io::Write;
 
@@ -16,28 +17,26 @@ fn main(rt: HostRuntime) -> io::Result<()> {
 
 // Each place, from before the first byte to after the last one.
 fn every_cut(out: &mut impl Write, all: &[u8]) -> io::Result<()> {
-    for cut in 0..all.len() {
+    for cut in 0..=all.len() {
         show_cut(out, all, cut)?;
     }
-    show_cut(out, all, all.len())
+    Ok(())
 }
 
 // The frames of two pieces, and how many bytes are left over.
 fn show_cut(out: &mut impl Write, all: &[u8], cut: usize) -> io::Result<()>
     requires { cut ≤ length all.now }
 {
-    text(out, b"cut at ")?;
-    number(out, cut as u64)?;
-    text(out, b":")?;
+    let (first, second) = all.split_at(cut);
     let mut store = [0u8; 1020];
-    let held = show_frames(out, 0, &all[..cut], &mut store)?;
-    let held = show_frames(out, held, &all[cut..], &mut store)?;
-    text(out, b" ")?;
-    number(out, held as u64)?;
-    text(out, b" left\n")
+    write!(out, "cut at {cut}:")?;
+    let held = show_frames(out, 0, first, &mut store)?;
+    let held = show_frames(out, held, second, &mut store)?;
+    writeln!(out, " {held} left")
 }
 
-// Writes the frames that a piece ends, after `held` bytes; answers how many bytes are then held.
+// Writes the frames that a piece ends, after `held` bytes; answers how many bytes are then held. Each turn but the last takes a byte at
+// least, so there are no more turns than the piece has bytes.
 fn show_frames(
     out: &mut impl Write,
     held: usize,
@@ -45,21 +44,15 @@ fn show_frames(
     store: &mut [u8],
 ) -> io::Result<usize> {
     let mut held = held;
-    let mut at = 0;
-    while at < piece.len() {
-        let state = State { held };
-        let framed = frames::frame(state, store, &piece[at..]);
-        let taken = framed.taken;
+    let mut rest = piece;
+    for _ in 0..piece.len() {
+        let framed = frames::frame(State { held }, store, rest);
         let state = framed.state;
-        let answer = framed.answer;
-        held = show_answer(out, state.held, answer, store)?;
-        if taken == 0 {
+        held = show_answer(out, state.held, framed.answer, store)?;
+        if framed.taken == 0 || rest.len() <= framed.taken {
             return Ok(held);
         }
-        if piece.len() - at < taken {
-            return Ok(held);
-        }
-        at += taken;
+        rest = &rest[framed.taken..];
     }
     Ok(held)
 }
@@ -68,25 +61,18 @@ fn show_frames(
 fn show_answer(
     out: &mut impl Write,
     held: usize,
-    answer: Answer,
+    answer: Result<Answer, Refusal>,
     store: &[u8],
 ) -> io::Result<usize> {
     match answer {
-        Answer::Needs(_) => Ok(held),
-        Answer::Frame { len, rtype } => {
-            text(out, b" ")?;
-            number(out, len as u64)?;
-            text(out, b" bytes of rtype ")?;
-            number(out, rtype as u64)?;
-            text(out, b", sum ")?;
-            number(out, sum(frames::frame_part(store, len)))?;
-            text(out, b";")?;
+        Ok(Answer::Needs(_)) => Ok(held),
+        Ok(Answer::Frame { len, rtype }) => {
+            let sum = sum(frames::frame_part(store, len));
+            write!(out, " {len} bytes of rtype {rtype}, sum {sum};")?;
             Ok(0)
         }
-        Answer::Refused(e) => {
-            text(out, b" refused by ")?;
-            number(out, e.number as u64)?;
-            text(out, b";")?;
+        Err(why) => {
+            write!(out, " refused by {};", why.number)?;
             Ok(held)
         }
     }
@@ -94,17 +80,7 @@ fn show_answer(
 
 // The sum of the bytes of a frame.
 fn sum(bytes: &[u8]) -> u64 {
-    let mut sum = 0u64;
-    for x in bytes {
-        sum = sum.wrapping_add(u64::from(*x));
-    }
-    sum
-}
-
-fn text(out: &mut impl Write, s: &[u8]) -> io::Result<()> {
-    out.write_all(s)
-}
-
-fn number(out: &mut impl Write, n: u64) -> io::Result<()> {
-    write!(out, "{n}")
+    bytes
+        .iter()
+        .fold(0, |sum: u64, x| sum.wrapping_add(u64::from(*x)))
 }

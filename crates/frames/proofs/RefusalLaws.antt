@@ -1,5 +1,5 @@
 -- Which numbers refuse a frame: they are about no byte. Assumes nothing.
-use Rattle.std.specs.Prelude.{ℕ, ◌*◌, ◌≤◌, Bool, true, false, ◌⊎◌, ◌≡◌, refl, List, length, take, get_or}
+use Rattle.std.specs.Prelude.{ℕ, ◌*◌, ◌≤◌, Bool, true, false, ◌⊎◌, ◌≡◌, refl, List, length, take, get_or, Err, Result}
 use Rattle.std.proofs.Common.{arith, inl, inr, sym, subst, ◌∙◌}
 use Rattle.refusal.specs.declared.Refusal.{Refusal}
 use Rattle.codec.specs.Codec.{refusal, Bytes}
@@ -9,19 +9,17 @@ use Rattle.held.specs.Held.{bounded, held_of}
 use Rattle.held.proofs.RefusalLaws as why
 use Rattle.held.proofs.StageLaws.{refused_needs, refused-whole, by-bound, bounded_beyond, bounded-rest, bounded-whole, stage_beyond, stage-head}
 use Rattle.held.specs.declared.Holding.{Holding}
-use Rattle.held.specs.declared.Holding.TheVariants as Holding'
 use Rattle.frames.specs.Frames.{is_length, header_of, frame, answer_of, frame_numbers, Framing}
 use Rattle.frames.proofs.HeaderLaws.{told, header-few, header_is, frame-law, bad-held, good-held}
 use Rattle.frames.proofs.FramingLaws.{refused-of}
-use Rattle.frames.specs.declared.Answer.{Answer}
 use Rattle.frames.specs.declared.Framed.{Framed}
 
-told-refused : (b : Bool) (w t : ℕ) {e : Refusal} → told b w t ≡ Holding'.Refused e → e ≡ refusal 100 0
+told-refused : (b : Bool) (w t : ℕ) {e : Refusal} → told b w t ≡ Err e → e ≡ refusal 100 0
 told-refused false w t {e} q = let z : refusal 100 0 ≡ e = cc in sym z
 told-refused true w t q = absurd (let z : ◌≡◌ {A = ℕ} 0 1 = cc in omega arith)
 
 -- a header is refused by 100 alone
-pub header_refused : (s : List ℕ) {e : Refusal} → header_of s ≡ Holding'.Refused e → e ≡ refusal 100 0
+pub header_refused : (s : List ℕ) {e : Refusal} → header_of s ≡ Err e → e ≡ refusal 100 0
 header_refused s {e} q =
     by_le 16 (length s)
     (λ h. told-refused (is_length (get_or s 0 0)) (get_or s 0 0) (get_or s 1 0) (sym (header_is s h) ∙ q))
@@ -31,7 +29,7 @@ header_refused s {e} q =
 abbrev pub Refusing : Refusal → Type 0
 Refusing e = (e ≡ refusal 1 0) ⊎ ((e ≡ refusal 100 0) ⊎ (e ≡ refusal 101 0))
 
-pub frame-why : (k : ℕ) (st : List ℕ) {e : Refusal} → held_of frame k st ≡ Holding'.Refused e → Refusing e
+pub frame-why : (k : ℕ) (st : List ℕ) {e : Refusal} → held_of frame k st ≡ Err e → Refusing e
 frame-why k st {e} q = go (why.why frame k st q)
   where
     go : why.Why frame k st e → Refusing e
@@ -45,15 +43,15 @@ number_of (inr (inl i)) = subst (λ (j : Refusal). In frame_numbers j.number) (s
 number_of (inr (inr i)) = subst (λ (j : Refusal). In frame_numbers j.number) (sym i) refl
 
 -- an answer's refusal is by one of the numbers
-pub answer-refused : (k : ℕ) (st : List ℕ) {e : Refusal} → answer_of (held_of frame k st) ≡ Answer.Refused e → In frame_numbers e.number
+pub answer-refused : (k : ℕ) (st : List ℕ) {e : Refusal} → answer_of (held_of frame k st) ≡ Err e → In frame_numbers e.number
 answer-refused k st {e} q = number_of (frame-why k st (refused-of (held_of frame k st) e q))
 
 -- and so is that of `frame`
-pub frame-refuses : (k : ℕ) (st p : List ℕ) (x : Framed) (st1 : List ℕ) {e : Refusal} → Framing k st p x st1 → x.answer ≡ Answer.Refused e → Refusing e
+pub frame-refuses : (k : ℕ) (st p : List ℕ) (x : Framed) (st1 : List ℕ) {e : Refusal} → Framing k st p x st1 → x.answer ≡ Err e → Refusing e
 frame-refuses k st p x st1 {e} f q = frame-why _ _ (refused-of _ e (sym f.answer ∙ q))
 
 -- A STORE OF 1,020 BYTES HAS ROOM FOR EVERY FRAME: it is never refused by 101
-pub never-short : (k : ℕ) (st : List ℕ) {e : Refusal} → Bytes st → 1020 ≤ length st → held_of frame k st ≡ Holding'.Refused e → (e ≡ refusal 1 0) ⊎ (e ≡ refusal 100 0)
+pub never-short : (k : ℕ) (st : List ℕ) {e : Refusal} → Bytes st → 1020 ≤ length st → held_of frame k st ≡ Err e → (e ≡ refusal 1 0) ⊎ (e ≡ refusal 100 0)
 never-short k st {e} bytes room q =
     by_le k (length st)
     (λ inside.
@@ -71,5 +69,5 @@ never-short k st {e} bytes room q =
     (λ few. absurd (refused_needs e _ (sym q ∙ stage-head frame frame-law k st few (omega arith)))))
     (λ beyond. inl (same (sym q ∙ stage_beyond frame k st beyond)))
   where
-    same : {j : Refusal} → Holding'.Refused e ≡ Holding'.Refused j → e ≡ j
+    same : {j : Refusal} → ◌≡◌ {A = Result Holding Refusal} (Err e) (Err j) → e ≡ j
     same i = cc

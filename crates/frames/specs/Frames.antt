@@ -1,11 +1,12 @@
 -- Frames after the metadata, as document 02's request 2 has them: records of versions 1 to 3, each handed over once it is whole.
 -- Assumes nothing.
-use Rattle.std.specs.Prelude.{ℕ, zero, suc, ◌-◌, ◌*◌, Bool, false, cond, ◌≡◌, refl, List, [], ◌∷◌, length, take, drop, leb, ltb}
+use Rattle.refusal.specs.declared.Refusal.{Refusal}
+use Rattle.std.specs.Prelude.{ℕ, zero, suc, ◌-◌, ◌*◌, Bool, false, cond, ◌≡◌, refl, List, [], ◌∷◌, length, take, drop, leb, ltb, Result, Ok, Err}
 use Rattle.codec.specs.Codec.{Res, ok, refuse, refusal}
 use Rattle.codec.proofs.Format.{Format, num, num_test, ◌then◌, named}
 use Rattle.held.specs.Held.{Head, held_of, taken_of, held_after, store_after}
 use Rattle.held.specs.declared.Holding.{Holding}
-use Rattle.held.specs.declared.Holding.TheVariants.{Needs, Refused, Whole}
+use Rattle.held.specs.declared.Holding.TheVariants.{Needs, Whole}
 use Rattle.frames.specs.declared.Answer.{Answer}
 use Rattle.frames.specs.declared.Answer.TheVariants.{Frame}
 use Rattle.frames.specs.declared.Framed.{Framed}
@@ -30,13 +31,13 @@ header = named
     (num_test is_length 100 100 1 then num 100 1)
 
 -- a header announces a frame
-abbrev pub said : Res Header → Holding
-said (ok h j) = Whole (4 * h.words) h.rtype
-said (refuse k) = Refused k
+abbrev pub said : Res Header → Result Holding Refusal
+said (ok h j) = Ok (Whole (4 * h.words) h.rtype)
+said (refuse k) = Err k
 
 -- THE VERDICT on a header: what is missing of its sixteen bytes; with sixteen held 100, or the frame's length and rtype
-unfoldable pub header_of : List ℕ → Holding
-header_of s = cond (ltb (length s) 16) (Needs (16 - length s)) (said (header.codec.parse 0 s 0))
+unfoldable pub header_of : List ℕ → Result Holding Refusal
+header_of s = cond (ltb (length s) 16) (Ok (Needs (16 - length s))) (said (header.codec.parse 0 s 0))
 
 -- ---- one frame
 
@@ -45,10 +46,10 @@ abbrev pub frame : Head
 frame = record { size = 16; short = 101; says = header_of }
 
 -- what held bytes are, as the answer
-abbrev pub answer_of : Holding → Answer
-answer_of (Needs n) = Answer.Needs n
-answer_of (Refused e) = Answer.Refused e
-answer_of (Whole n t) = Frame n t
+abbrev pub answer_of : Result Holding Refusal → Result Answer Refusal
+answer_of (Ok (Needs n)) = Ok (Answer.Needs n)
+answer_of (Err e) = Err e
+answer_of (Ok (Whole n t)) = Ok (Frame n t)
 
 -- what refuses a frame: the held count, its length, the store
 abbrev pub frame_numbers : List ℕ
@@ -63,28 +64,28 @@ pub record Framing (k : ℕ) (st p : List ℕ) (r : Framed) (st' : List ℕ) : T
   pub answer : r.answer ≡ answer_of (held_of frame (held_after frame k st p) (store_after frame k st p))
 
 -- an answer's refusal number; 0 where it is none
-abbrev pub answer_number : Answer → ℕ
-answer_number (Answer.Needs n) = 0
-answer_number (Frame w t) = 0
-answer_number (Answer.Refused e) = e.number
+abbrev pub answer_number : Result Answer Refusal → ℕ
+answer_number (Ok (Answer.Needs n)) = 0
+answer_number (Ok (Frame w t)) = 0
+answer_number (Err e) = e.number
 
 -- ---- the frames of a stream
 
 -- an announced frame, with a store of n bytes and m bytes of the stream left: 101 below the frame; what is missing of it; or the frame
-abbrev pub fits : ℕ → ℕ → Holding → Holding
-fits n m (Needs j) = Needs j
-fits n m (Refused e) = Refused e
-fits n m (Whole w t) = cond (ltb n w) (Refused (refusal 101 0)) (cond (ltb m w) (Needs (w - m)) (Whole w t))
+abbrev pub fits : ℕ → ℕ → Result Holding Refusal → Result Holding Refusal
+fits n m (Ok (Needs j)) = Ok (Needs j)
+fits n m (Err e) = Err e
+fits n m (Ok (Whole w t)) = cond (ltb n w) (Err (refusal 101 0)) (cond (ltb m w) (Ok (Needs (w - m))) (Ok (Whole w t)))
 
 -- what stands first in a stream, with a store of n bytes: 101 below 16, then what the header says
-unfoldable pub first_of : ℕ → List ℕ → Holding
-first_of n s = cond (ltb n 16) (Refused (refusal 101 0)) (fits n (length s) (header_of s))
+unfoldable pub first_of : ℕ → List ℕ → Result Holding Refusal
+first_of n s = cond (ltb n 16) (Err (refusal 101 0)) (fits n (length s) (header_of s))
 
 -- a stream is whole frames, then bytes that are held, and what those are: no whole frame yet, or refused
 pub record Frames : Type 0 where
   pub whole : List (List ℕ)
   pub left : List ℕ
-  pub ends : Holding
+  pub ends : Result Holding Refusal
 
 -- a frame before others
 infixr 25 ◌before◌
@@ -96,10 +97,10 @@ abbrev pub refused_at : ℕ → ℕ
 refused_at n = cond (ltb n 16) 0 16
 
 -- how it goes on after what stands first; `rest` is for the bytes after a frame
-abbrev pub goes_on : ℕ → List ℕ → (List ℕ → Frames) → Holding → Frames
-goes_on n s rest (Needs j) = record { whole = []; left = s; ends = Needs j }
-goes_on n s rest (Refused e) = record { whole = []; left = take (refused_at n) s; ends = Refused e }
-goes_on n s rest (Whole w t) = take w s before rest (drop w s)
+abbrev pub goes_on : ℕ → List ℕ → (List ℕ → Frames) → Result Holding Refusal → Frames
+goes_on n s rest (Ok (Needs j)) = record { whole = []; left = s; ends = Ok (Needs j) }
+goes_on n s rest (Err e) = record { whole = []; left = take (refused_at n) s; ends = Err e }
+goes_on n s rest (Ok (Whole w t)) = take w s before rest (drop w s)
 
 -- at most m frames
 unfoldable pub frames_in : ℕ → ℕ → List ℕ → Frames

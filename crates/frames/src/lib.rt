@@ -21,12 +21,11 @@ pub struct State {
     pub held: usize,
 }
 
-// What the held bytes say: so many more are needed, or a whole frame of this length and rtype, or a refusal, which is about no byte.
+// What the held bytes say: so many more are needed, or a whole frame of this length and rtype. A refusal is about no byte.
 #[derive(Clone, Copy)]
 pub enum Answer {
     Needs(usize),
     Frame { len: usize, rtype: u8 },
-    Refused(Refusal),
 }
 
 // How many bytes of the piece were taken, the state after them, and what the held bytes then say.
@@ -34,7 +33,7 @@ pub enum Answer {
 pub struct Framed {
     pub taken: usize,
     pub state: State,
-    pub answer: Answer,
+    pub answer: Result<Answer, Refusal>,
 }
 
 // A piece comes: what the header, then the frame, still needs is taken into the store right after the held bytes. The answer is the verdict
@@ -43,16 +42,15 @@ pub fn frame(state: State, store: &mut [u8], piece: &[u8]) -> Framed
     ensures { Framing state.held store.old piece.now result store.new }
 {
     if state.held == 0 {
-        let len = whole_in(store.len(), piece);
-        if 0 < len {
-            let taken = held::pour(0, store, piece, Holding::Needs(len));
+        if let Some(len) = whole_in(store.len(), piece) {
+            let taken = held::pour(0, store, piece, Ok(Holding::Needs(len)));
             return Framed {
                 taken,
                 state: State { held: taken },
-                answer: Answer::Frame {
+                answer: Ok(Answer::Frame {
                     len,
                     rtype: piece[1],
-                },
+                }),
             };
         }
     }
@@ -69,25 +67,19 @@ pub fn frame_part(store: &[u8], len: usize) -> &[u8]
     &store[..len]
 }
 
-// The length of the frame that a piece begins with, where all of it is there and the store has room for it, else 0.
-fn whole_in(room: usize, piece: &[u8]) -> usize
+// The length of the frame that a piece begins with, where all of it is there and the store has room for it.
+fn whole_in(room: usize, piece: &[u8]) -> Option<usize>
     ensures { result ≡ whole_in room piece.now }
 {
     let there = piece.len();
     if there < RECORD_HEADER_LEN {
-        return 0;
+        return None;
     }
     let len = LENGTH_MULTIPLIER * piece[0] as usize;
-    if len < RECORD_HEADER_LEN {
-        return 0;
+    if len < RECORD_HEADER_LEN || there < len || room < len {
+        return None;
     }
-    if there < len {
-        return 0;
-    }
-    if room < len {
-        return 0;
-    }
-    len
+    Some(len)
 }
 
 // The same as `frame`, for any state: first to the header's end, then to the frame's.
@@ -107,7 +99,7 @@ fn by_stages(held: usize, store: &mut [u8], piece: &[u8]) -> Framed
 }
 
 // What the first `held` bytes of a store are: their kind is the rtype.
-fn stage_of(held: usize, store: &[u8]) -> Holding
+fn stage_of(held: usize, store: &[u8]) -> Result<Holding, Refusal>
     ensures { result ≡ held_of frame held store.now }
 {
     let room = store.len();
@@ -118,7 +110,7 @@ fn stage_of(held: usize, store: &[u8]) -> Holding
         return held::refused(refusal::FRAME_STORE_SHORT);
     }
     if held < RECORD_HEADER_LEN {
-        return Holding::Needs(RECORD_HEADER_LEN - held);
+        return Ok(Holding::Needs(RECORD_HEADER_LEN - held));
     }
     let len = LENGTH_MULTIPLIER * store[0] as usize;
     if len < RECORD_HEADER_LEN {
@@ -128,12 +120,11 @@ fn stage_of(held: usize, store: &[u8]) -> Holding
 }
 
 // The answer that held bytes give.
-fn answer_of(stage: Holding) -> Answer
+fn answer_of(stage: Result<Holding, Refusal>) -> Result<Answer, Refusal>
     ensures { result ≡ answer_of stage }
 {
-    match stage {
+    Ok(match stage? {
         Holding::Needs(n) => Answer::Needs(n),
-        Holding::Refused(e) => Answer::Refused(e),
         Holding::Whole { len, kind: rtype } => Answer::Frame { len, rtype },
-    }
+    })
 }

@@ -1,7 +1,6 @@
 -- A layout given with a symbol width: what reading it into a table answers and leaves. Assumes nothing.
 use Rattle.std.specs.Prelude.{ℕ, ◌/◌, ◌≡◌, List, length}
-use Rattle.layout.specs.Answers.{judge, leave}
-use Rattle.layout.specs.declared.Answer.{Answer}
+use Rattle.layout.specs.Answers.{Answer, judge, leave}
 use Rattle.rules.specs.Rules.{ruled_of}
 
 -- the layout s with symbol width w, ruled on by the sheet, read into the table t: 13, the layout, the rules, 3

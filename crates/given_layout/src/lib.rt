@@ -3,6 +3,8 @@
 
 ghost use Rattle.given_layout.specs.Ruled.{Ruled};
 
+use layout::{Accepted, ReadError};
+
 // A layout given with a symbol width: 13, the layout, its rules, then 3. The rows are read without a second look at the names' texts. The table is written only where all is accepted and it
 // is long enough.
 pub fn read_layout(
@@ -10,14 +12,9 @@ pub fn read_layout(
     width: u16,
     sheet: &[u16; 520],
     table: &mut [u32],
-) -> layout::Answer
+) -> Result<Accepted, ReadError>
     ensures { Ruled layout.now width sheet.now table.old table.new result }
 {
-    match engines::check_layout(layout, width, sheet) {
-        layout::Verdict::Accepted {
-            version: _,
-            rows: _,
-        } => layout::read_layout_rows(layout, true, table),
-        layout::Verdict::Refused(why) => layout::Answer::Refused(why),
-    }
+    engines::check_layout(layout, width, sheet)?;
+    layout::read_layout_rows(layout, true, table)
 }

@@ -2,7 +2,7 @@
 use Prim.Native.Nat.{ℕ, ◌+◌, ◌-◌, ◌≤◌, ◌<◌, min}
 use Rattle.std.proofs.Common.{zero-add, sym, ap₂, ◌∙◌, length-take-le, take-take, take_at}
 use native.Mathlib.Omega.{arith}
-use Rattle.std.specs.Prelude.{◌≡◌, take, drop}
+use Rattle.std.specs.Prelude.{◌≡◌, take, drop, Result, Ok, Err}
 use Rattle.std.proofs.Math.Path.{refl, ap}
 use mathlib.Core.List.{List}
 use Rattle.std.proofs.Math.ListN.{length}
@@ -13,10 +13,10 @@ use Rattle.codec.specs.CaseLaws.{by_order}
 use Rattle.held.specs.Held.{Head, bounded, within, held_of, need_of, poured, taken_of, held_after, store_after}
 use Rattle.held.proofs.StageLaws.{HeadLaw, bounded-short, bounded-rest, bounded-whole, stage-small, stage-head, stage-said, stage-rest, stage-whole, paste_length}
 use Rattle.held.specs.declared.Holding.{Holding}
-use Rattle.held.specs.declared.Holding.TheVariants.{Needs, Refused, Whole}
+use Rattle.held.specs.declared.Holding.TheVariants.{Needs, Whole}
 
 -- THE PIECE p, from the start: its first n bytes are taken, they stand at the front of the store, and they are x
-pub record Alone (H : Head) (st p : List ℕ) (n : ℕ) (x : Holding) : Type 0 where
+pub record Alone (H : Head) (st p : List ℕ) (n : ℕ) (x : Result Holding Refusal) : Type 0 where
   pub taken : taken_of H 0 st p ≡ n
   pub held : held_after H 0 st p ≡ n
   pub front : take n (store_after H 0 st p) ≡ take n p
@@ -27,7 +27,7 @@ pub front_paste : (st p : List ℕ) (n : ℕ) → n ≤ length p → take n (pas
 front_paste st p n h = take_at (take n p) (drop (0 + n) st) n (length-take-le n p h)
 
 module _ (H : Head) (L : HeadLaw H) (st p : List ℕ) where
-  alone : (n : ℕ) (x : Holding) → n ≤ length p → taken_of H 0 st p ≡ n → held_of H n (paste st 0 p n) ≡ x → Alone H st p n x
+  alone : (n : ℕ) (x : Result Holding Refusal) → n ≤ length p → taken_of H 0 st p ≡ n → held_of H n (paste st 0 p n) ≡ x → Alone H st p n x
   alone n x h e g = record {
     taken = e;
     held = zero-add (taken_of H 0 st p) ∙ e;
@@ -36,10 +36,10 @@ module _ (H : Head) (L : HeadLaw H) (st p : List ℕ) where
   }
 
   -- a store below the head
-  pub alone-small : length st < H.size → Alone H st p 0 (Refused (refusal H.short 0))
+  pub alone-small : length st < H.size → Alone H st p 0 (Err (refusal H.short 0))
   unfolding taken_of poured
   alone-small h =
-      let s : (k : ℕ) (d : List ℕ) → k ≡ 0 → length d ≡ length st → held_of H k d ≡ Refused (refusal H.short 0) = λ k d a b. stage-small H k d (omega arith) (omega arith) in
+      let s : (k : ℕ) (d : List ℕ) → k ≡ 0 → length d ≡ length st → held_of H k d ≡ Err (refusal H.short 0) = λ k d a b. stage-small H k d (omega arith) (omega arith) in
       let a : poured H 0 st (length p) ≡ 0 = let z = ap need_of (s 0 st refl refl) in omega arith in
       let st' = paste st 0 p (poured H 0 st (length p)) in
       let l : length st' ≡ length st = paste_length st 0 p (poured H 0 st (length p)) (omega arith) (omega arith) in
@@ -51,7 +51,7 @@ module _ (H : Head) (L : HeadLaw H) (st p : List ℕ) where
     first-need = ap need_of (stage-head H L 0 st L.some room) ∙ omega arith
 
     -- less than the head
-    pub alone-few : length p < H.size → Alone H st p (length p) (Needs (H.size - length p))
+    pub alone-few : length p < H.size → Alone H st p (length p) (Ok (Needs (H.size - length p)))
     unfolding taken_of poured
     alone-few h =
         let l : length (paste st 0 p (length p)) ≡ length st = paste_length st 0 p (length p) (omega arith) (omega arith) in
@@ -78,17 +78,17 @@ module _ (H : Head) (L : HeadLaw H) (st p : List ℕ) where
           ∙ ap (λ x. H.size + min (need_of x) (length p - H.size)) said
 
       -- a head that is refused
-      pub alone-refused : (e : Refusal) → H.says (take H.size p) ≡ Refused e → Alone H st p H.size (Refused e)
+      pub alone-refused : (e : Refusal) → H.says (take H.size p) ≡ Err e → Alone H st p H.size (Err e)
       alone-refused e q =
-          let w : within H.short (length st) H.size (H.says (take H.size p)) ≡ Refused e = ap (within H.short (length st) H.size) q in
+          let w : within H.short (length st) H.size (H.says (take H.size p)) ≡ Err e = ap (within H.short (length st) H.size) q in
           alone H.size _ many (omega (arith, takes, ap need_of w)) (said ∙ w)
 
-      module _ (w b : ℕ) (q : H.says (take H.size p) ≡ Whole w b) where
+      module _ (w b : ℕ) (q : H.says (take H.size p) ≡ Ok (Whole w b)) where
         bound : within H.short (length st) H.size (H.says (take H.size p)) ≡ bounded H.short (length st) H.size w b
         bound = ap (within H.short (length st) H.size) q
 
         -- a store below the whole
-        pub alone-short : length st < w → Alone H st p H.size (Refused (refusal H.short 0))
+        pub alone-short : length st < w → Alone H st p H.size (Err (refusal H.short 0))
         alone-short h =
             let s = bound ∙ bounded-short H.short (length st) H.size w b h in
             alone H.size _ many (omega (arith, takes, ap need_of s)) (said ∙ s)
@@ -100,19 +100,19 @@ module _ (H : Head) (L : HeadLaw H) (st p : List ℕ) where
               (λ h. ap need_of (bound ∙ bounded-whole H.short (length st) H.size w b fits h) ∙ omega arith)
               (λ h. absurd (omega arith))
 
-          says_at : (n : ℕ) → n ≤ length st → n ≤ length p → H.size ≤ n → H.says (take H.size (paste st 0 p n)) ≡ Whole w b
+          says_at : (n : ℕ) → n ≤ length st → n ≤ length p → H.size ≤ n → H.says (take H.size (paste st 0 p n)) ≡ Ok (Whole w b)
           says_at n r h g =
               ap H.says (sym (take-take H.size n (paste st 0 p n) g) ∙ ap (take H.size) (front_paste st p n h) ∙ take-take H.size n p g) ∙ q
 
           -- less than the whole
-          pub alone_rest : length p < w → Alone H st p (length p) (Needs (w - length p))
+          pub alone_rest : length p < w → Alone H st p (length p) (Ok (Needs (w - length p)))
           alone_rest h =
               let l : length (paste st 0 p (length p)) ≡ length st = paste_length st 0 p (length p) (omega arith) (omega arith) in
               alone (length p) _ (omega arith) (omega (arith, takes, need-is))
               (stage-rest H L (length p) (paste st 0 p (length p)) w b (says_at (length p) (omega arith) (omega arith) many) many (omega arith) h)
 
           -- the whole, or more
-          pub alone-whole : w ≤ length p → Alone H st p w (Whole w b)
+          pub alone-whole : w ≤ length p → Alone H st p w (Ok (Whole w b))
           alone-whole h =
               let l : length (paste st 0 p w) ≡ length st = paste_length st 0 p w (omega arith) h in
               alone w _ h (omega (arith, takes, need-is))

@@ -1,9 +1,10 @@
 -- Pieces, a byte at a time: a byte is taken where one is needed. What is taken of a piece is that, so pieces one after the other are one.
 -- This is a tool of the proofs and no promise. Assumes nothing.
+use Rattle.refusal.specs.declared.Refusal.{Refusal}
 use Prim.Native.Nat.{ℕ, zero, suc, ◌+◌, ◌-◌, ◌≤◌, ◌<◌, min}
 use Rattle.std.proofs.Common.{add-zero, add_assoc, sym, subst, ◌∙◌, length-drop, take-append-drop, drop_of_length-le, take-suc}
 use native.Mathlib.Omega.{arith}
-use Rattle.std.specs.Prelude.{◌⊎◌, ◌≡◌, take, drop}
+use Rattle.std.specs.Prelude.{◌⊎◌, ◌≡◌, take, drop, Result, Ok, Err}
 use Rattle.std.proofs.Math.Logic.{inl, inr, ⊎_elim}
 use Rattle.std.proofs.Math.Path.{refl, ap, ap₂}
 use mathlib.Core.List.{List, [], ◌∷◌, ◌++◌}
@@ -13,7 +14,7 @@ use Rattle.held.specs.Held.{Head, held_of, need_of, poured, taken_of}
 use Rattle.held.proofs.StageLaws.{HeadLaw, below_or, ForHead, ForWhole, needing, paste_paste, poured-most, poured-fits}
 use Rattle.held.proofs.NeededLaws.{needs_room, needs_rest, needs_whole}
 use Rattle.held.specs.declared.Holding.{Holding}
-use Rattle.held.specs.declared.Holding.TheVariants.{Needs, Refused, Whole}
+use Rattle.held.specs.declared.Holding.TheVariants.{Needs, Whole}
 
 -- held count and store
 abbrev pub Place : Type 0
@@ -47,7 +48,7 @@ module _ (H : Head) (L : HeadLaw H) where
   eats-none q (b ∷ p) e = rw e (eats-none q p e)
 
   -- as many as are needed, or fewer
-  module _ (k : ℕ) (st : List ℕ) (n : ℕ) (e : held_of H k st ≡ Needs n) (p : List ℕ) where
+  module _ (k : ℕ) (st : List ℕ) (n : ℕ) (e : held_of H k st ≡ Ok (Needs n)) (p : List ℕ) where
     eats-some : (j : ℕ) → j ≤ n → j ≤ length p → eats (k, st) (take j p) ≡ (k + j, paste st k p j)
     unfolding eats eat
     eats-some zero h g = ap₂ (λ x y. (x, y)) (sym (add-zero k)) (paste-zero st k p)
@@ -68,11 +69,11 @@ module _ (H : Head) (L : HeadLaw H) where
     unfolding eats
     still e = rw e (ap₂ (λ x y. (x, y)) (sym (add-zero k)) (paste-zero st k p))
 
-    pour_of : (r : Holding) → held_of H k st ≡ r → eats (k, st) (take (poured H k st (length p)) p) ≡ (k + poured H k st (length p), paste st k p (poured H k st (length p)))
+    pour_of : (r : Result Holding Refusal) → held_of H k st ≡ r → eats (k, st) (take (poured H k st (length p)) p) ≡ (k + poured H k st (length p), paste st k p (poured H k st (length p)))
     unfolding poured
-    pour_of (Needs n) e = eats-some k st n e p (min (need_of (held_of H k st)) (length p)) (omega (arith, ap need_of e)) (omega arith)
-    pour_of (Refused n) e = still (omega (arith, ap need_of e))
-    pour_of (Whole w b) e = still (omega (arith, ap need_of e))
+    pour_of (Ok (Needs n)) e = eats-some k st n e p (min (need_of (held_of H k st)) (length p)) (omega (arith, ap need_of e)) (omega arith)
+    pour_of (Err n) e = still (omega (arith, ap need_of e))
+    pour_of (Ok (Whole w b)) e = still (omega (arith, ap need_of e))
 
     pour : eats (k, st) (take (poured H k st (length p)) p) ≡ (k + poured H k st (length p), paste st k p (poured H k st (length p)))
     pour = pour_of (held_of H k st) refl
@@ -85,33 +86,33 @@ module _ (H : Head) (L : HeadLaw H) where
         ap (λ m. need_of (held_of H (k + m) (paste st k p m))) z ∙ ap₂ (λ x y. need_of (held_of H x y)) (add-zero k) (sym (paste-zero st k p)) ∙ e
 
     -- with the prelude past: the piece is used up, or nothing more is needed
-    late_of : (r : Holding) → held_of H k st ≡ r → H.size ≤ k
+    late_of : (r : Result Holding Refusal) → held_of H k st ≡ r → H.size ≤ k
         → (length p ≤ poured H k st (length p)) ⊎ (need_of (held_of H (k + poured H k st (length p)) (paste st k p (poured H k st (length p)))) ≡ 0)
     unfolding poured
-    late_of (Needs n) e h = ⊎_elim (λ a. inr (full a)) (λ a. inl (omega (arith, ap need_of e))) (below_or n (length p))
+    late_of (Ok (Needs n)) e h = ⊎_elim (λ a. inr (full a)) (λ a. inl (omega (arith, ap need_of e))) (below_or n (length p))
       where
         full : n < length p → need_of (held_of H (k + poured H k st (length p)) (paste st k p (poured H k st (length p)))) ≡ 0
         full a =
             let z : min (need_of (held_of H k st)) (length p) ≡ n = omega (arith, ap need_of e) in
             let (w, b, u) = needs_whole H L k st n e h p (omega arith) in
             rw z (ap need_of u)
-    late_of (Refused n) e h = inr (kept (ap need_of e))
-    late_of (Whole w b) e h = inr (kept (ap need_of e))
+    late_of (Err n) e h = inr (kept (ap need_of e))
+    late_of (Ok (Whole w b)) e h = inr (kept (ap need_of e))
 
     late : H.size ≤ k → (length p ≤ poured H k st (length p)) ⊎ (need_of (held_of H (k + poured H k st (length p)) (paste st k p (poured H k st (length p)))) ≡ 0)
     late = late_of (held_of H k st) refl
 
     -- from the start: the piece is used up, or the prelude is past, or nothing more is needed
-    first-of : (r : Holding) → held_of H k st ≡ r
+    first-of : (r : Result Holding Refusal) → held_of H k st ≡ r
         → (length p ≤ poured H k st (length p)) ⊎ ((H.size ≤ k + poured H k st (length p)) ⊎ (need_of (held_of H (k + poured H k st (length p)) (paste st k p (poured H k st (length p)))) ≡ 0))
     unfolding poured
-    first-of (Needs n) e = ⊎_elim (λ a. inr (inl (past a (needing H L k st n e)))) (λ a. inl (omega (arith, ap need_of e))) (below_or n (length p))
+    first-of (Ok (Needs n)) e = ⊎_elim (λ a. inr (inl (past a (needing H L k st n e)))) (λ a. inl (omega (arith, ap need_of e))) (below_or n (length p))
       where
         past : n < length p → ForHead H k st n ⊎ ForWhole H k st n → H.size ≤ k + poured H k st (length p)
         past a (inl f) = omega (arith, ap need_of e)
         past a (inr f) = omega arith
-    first-of (Refused n) e = inr (inr (kept (ap need_of e)))
-    first-of (Whole w b) e = inr (inr (kept (ap need_of e)))
+    first-of (Err n) e = inr (inr (kept (ap need_of e)))
+    first-of (Ok (Whole w b)) e = inr (inr (kept (ap need_of e)))
 
     first : (length p ≤ poured H k st (length p)) ⊎ ((H.size ≤ k + poured H k st (length p)) ⊎ (need_of (held_of H (k + poured H k st (length p)) (paste st k p (poured H k st (length p)))) ≡ 0))
     first = first-of (held_of H k st) refl

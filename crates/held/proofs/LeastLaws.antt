@@ -2,7 +2,7 @@
 -- all that is taken of it, and the whole is held. Assumes nothing.
 use Prim.Native.Nat.{ℕ, ◌+◌, ◌-◌, ◌≤◌, ◌<◌, min}
 use native.Mathlib.Omega.{arith}
-use Rattle.std.specs.Prelude.{◌≡◌, List, length}
+use Rattle.std.specs.Prelude.{◌≡◌, List, length, Ok}
 use Rattle.std.proofs.Math.Path.{ap}
 use Rattle.std.proofs.Common.{◌∙◌}
 use Rattle.std.proofs.Math.Seq.{paste}
@@ -13,11 +13,11 @@ use Rattle.held.specs.declared.Holding.TheVariants.{Needs, Whole}
 
 -- THE LEAST COUNT: k bytes of a store are held, and n more are needed; q is the next piece
 pub record Least (H : Head) (k : ℕ) (st : List ℕ) (n : ℕ) (q : List ℕ) : Type 0 where
-  pub fewer : length q < n → (taken_of H k st q ≡ length q) × (held_of H (held_after H k st q) (store_after H k st q) ≡ Needs (n - length q))
+  pub fewer : length q < n → (taken_of H k st q ≡ length q) × (held_of H (held_after H k st q) (store_after H k st q) ≡ Ok (Needs (n - length q)))
   pub head : n ≤ length q → k < H.size → H.size ≤ held_after H k st q
-  pub whole : n ≤ length q → H.size ≤ k → (taken_of H k st q ≡ n) × ((w : ℕ) × (b : ℕ) × (held_of H (held_after H k st q) (store_after H k st q) ≡ Whole w b))
+  pub whole : n ≤ length q → H.size ≤ k → (taken_of H k st q ≡ n) × ((w : ℕ) × (b : ℕ) × (held_of H (held_after H k st q) (store_after H k st q) ≡ Ok (Whole w b)))
 
-module _ (H : Head) (L : HeadLaw H) (k : ℕ) (st : List ℕ) (n : ℕ) (e : held_of H k st ≡ Needs n) (q : List ℕ) where
+module _ (H : Head) (L : HeadLaw H) (k : ℕ) (st : List ℕ) (n : ℕ) (e : held_of H k st ≡ Ok (Needs n)) (q : List ℕ) where
   fewer-taken : length q < n → taken_of H k st q ≡ length q
   unfolding taken_of poured
   fewer-taken h = omega (arith, ap need_of e)

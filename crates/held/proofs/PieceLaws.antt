@@ -1,5 +1,5 @@
 -- ANY CUTTING: a piece, and then what may follow it, leave the held count and the store as both in one piece do. Assumes nothing.
-use Rattle.std.specs.Prelude.{ℕ, ◌+◌, ◌≤◌, ◌<◌, ◌≡◌, List, [], ◌++◌, length, drop}
+use Rattle.std.specs.Prelude.{ℕ, ◌+◌, ◌≤◌, ◌<◌, ◌≡◌, List, [], ◌++◌, length, drop, Ok}
 use native.Mathlib.Omega.{arith}
 use Rattle.std.proofs.Common.{le_refl, sym, ap, ◌∙◌, append-nil, length-drop, length-append, drop-drop}
 use Rattle.std.proofs.Math.Seq.{paste}
@@ -56,7 +56,7 @@ module _ (H : Head) (L : HeadLaw H) (k : ℕ) (st p : List ℕ) where
   taken-some h g = omega arith
 
 -- all of a piece is taken where more is needed after it
-pub needs_all : (H : Head) (L : HeadLaw H) (k : ℕ) (st p : List ℕ) (n : ℕ) → held_of H (held_after H k st p) (store_after H k st p) ≡ Needs n → taken_of H k st p ≡ length p
+pub needs_all : (H : Head) (L : HeadLaw H) (k : ℕ) (st p : List ℕ) (n : ℕ) → held_of H (held_after H k st p) (store_after H k st p) ≡ Ok (Needs n) → taken_of H k st p ≡ length p
 needs_all H L k st p n e =
     let t = taken_of H k st p in
     let r = drop t p ++ [] in

@@ -1,6 +1,6 @@
 -- What held bytes are, by cases on numbers; and what that tells of the held count. H is any head that keeps the laws of heads.
 -- Assumes nothing.
-use Rattle.std.specs.Prelude.{ℕ, ◌+◌, ◌-◌, ◌≤◌, ◌<◌, cond, ◌⊎◌, ◌≡◌, refl, List, ◌++◌, length, take, drop, ltb}
+use Rattle.std.specs.Prelude.{ℕ, ◌+◌, ◌-◌, ◌≤◌, ◌<◌, cond, ◌⊎◌, ◌≡◌, refl, List, ◌++◌, length, take, drop, ltb, Result, Ok, Err}
 use Rattle.std.proofs.Common.{add_assoc, add-zero, zero-add, inl, inr, ⊎_elim, sym, ap₂, ◌∙◌, append_assoc, take_all, take-take, length-take-le, take-add, drop-drop}
 use native.Mathlib.Omega.{arith}
 use Rattle.std.proofs.Math.Path.{ap}
@@ -13,45 +13,45 @@ use Rattle.codec.specs.Codec.{refusal}
 use Rattle.codec.specs.CaseLaws.{by_le}
 use Rattle.held.specs.Held.{Head, bounded, within, held_of, need_of, poured, taken_of, held_after, store_after, put_of}
 use Rattle.held.specs.declared.Holding.{Holding}
-use Rattle.held.specs.declared.Holding.TheVariants.{Needs, Refused, Whole}
+use Rattle.held.specs.declared.Holding.TheVariants.{Needs, Whole}
 
 -- THE LAWS OF A HEAD: it has a byte or more; below its size the rest is needed; from its size on no byte past it is looked at, and none is needed for it
 pub record HeadLaw (H : Head) : Type 0 where
   pub some : 0 < H.size
-  pub few : (s : List ℕ) → length s < H.size → H.says s ≡ Needs (H.size - length s)
+  pub few : (s : List ℕ) → length s < H.size → H.says s ≡ Ok (Needs (H.size - length s))
   pub first : (s : List ℕ) → H.size ≤ length s → H.says s ≡ H.says (take H.size s)
-  pub never : (s : List ℕ) (n : ℕ) → H.size ≤ length s → H.says s ≡ Needs n → ⊥
+  pub never : (s : List ℕ) (n : ℕ) → H.size ≤ length s → H.says s ≡ Ok (Needs n) → ⊥
 
 -- one number is below another, or it is not
 pub below_or : (a b : ℕ) → (a < b) ⊎ (b ≤ a)
 below_or a b = by_le b a (λ h. inr h) (λ h. inl h)
 
 -- what is refused, or whole, needs nothing, and the one is not the other
-pub refused_needs : (e : Refusal) (n : ℕ) → Refused e ≡ Needs n → ⊥
+pub refused_needs : (e : Refusal) (n : ℕ) → Err e ≡ Ok (Needs n) → ⊥
 refused_needs e n q = let z : ◌≡◌ {A = ℕ} 0 1 = cc in omega arith
 
-pub whole_needs : (w b n : ℕ) → Whole w b ≡ Needs n → ⊥
+pub whole_needs : (w b n : ℕ) → ◌≡◌ {A = Result Holding Refusal} (Ok (Whole w b)) (Ok (Needs n)) → ⊥
 whole_needs w b n q = let z : ◌≡◌ {A = ℕ} 0 1 = cc in omega arith
 
-pub refused-whole : (e : Refusal) (w b : ℕ) → Refused e ≡ Whole w b → ⊥
+pub refused-whole : (e : Refusal) (w b : ℕ) → Err e ≡ Ok (Whole w b) → ⊥
 refused-whole e w b q = let z : ◌≡◌ {A = ℕ} 0 1 = cc in omega arith
 
 -- ---- the verdict within a whole, by cases
 
 module _ (short n k w b : ℕ) where
-  pub bounded-short : n < w → bounded short n k w b ≡ Refused (refusal short 0)
+  pub bounded-short : n < w → bounded short n k w b ≡ Err (refusal short 0)
   unfolding bounded
   bounded-short h = simp (lt-ltb _ _ h)
 
-  pub bounded_beyond : w ≤ n → w < k → bounded short n k w b ≡ Refused (refusal 1 0)
+  pub bounded_beyond : w ≤ n → w < k → bounded short n k w b ≡ Err (refusal 1 0)
   unfolding bounded
   bounded_beyond h g = simp (le-ltb _ _ h, lt-ltb _ _ g)
 
-  pub bounded-rest : w ≤ n → k < w → bounded short n k w b ≡ Needs (w - k)
+  pub bounded-rest : w ≤ n → k < w → bounded short n k w b ≡ Ok (Needs (w - k))
   unfolding bounded
   bounded-rest h g = simp (le-ltb _ _ h, le-ltb w k (omega arith), lt-ltb _ _ g)
 
-  pub bounded-whole : w ≤ n → k ≡ w → bounded short n k w b ≡ Whole w b
+  pub bounded-whole : w ≤ n → k ≡ w → bounded short n k w b ≡ Ok (Whole w b)
   unfolding bounded
   bounded-whole h g = simp (le-ltb _ _ h, le-ltb w k (omega arith), le-ltb k w (omega arith))
 
@@ -68,11 +68,11 @@ module _ (short n k w b : ℕ) where
 -- ---- the verdict on a store, by cases
 
 module _ (H : Head) (k : ℕ) (st : List ℕ) where
-  pub stage_beyond : length st < k → held_of H k st ≡ Refused (refusal 1 0)
+  pub stage_beyond : length st < k → held_of H k st ≡ Err (refusal 1 0)
   unfolding held_of
   stage_beyond h = simp (lt-ltb _ _ h)
 
-  pub stage-small : k ≤ length st → length st < H.size → held_of H k st ≡ Refused (refusal H.short 0)
+  pub stage-small : k ≤ length st → length st < H.size → held_of H k st ≡ Err (refusal H.short 0)
   unfolding held_of
   stage-small h g = simp (le-ltb _ _ h, lt-ltb _ _ g)
 
@@ -82,10 +82,10 @@ module _ (H : Head) (k : ℕ) (st : List ℕ) where
 
 module _ (H : Head) (L : HeadLaw H) (k : ℕ) (st : List ℕ) where
   -- below the head
-  pub stage-head : k < H.size → H.size ≤ length st → held_of H k st ≡ Needs (H.size - k)
+  pub stage-head : k < H.size → H.size ≤ length st → held_of H k st ≡ Ok (Needs (H.size - k))
   stage-head h g =
       let l : length (take k st) ≡ k = length-take-le k st (omega arith) in
-      stage_in H k st (omega arith) g ∙ ap (within H.short (length st) k) (L.few (take k st) (omega arith) ∙ ap (λ n. Needs (H.size - n)) l)
+      stage_in H k st (omega arith) g ∙ ap (within H.short (length st) k) (L.few (take k st) (omega arith) ∙ ap (λ n. Ok (Needs (H.size - n))) l)
 
   -- with the head
   pub stage-said : H.size ≤ k → k ≤ length st → held_of H k st ≡ within H.short (length st) k (H.says (take H.size st))
@@ -94,21 +94,21 @@ module _ (H : Head) (L : HeadLaw H) (k : ℕ) (st : List ℕ) where
       stage_in H k st g (omega arith) ∙ ap (within H.short (length st) k) (L.first (take k st) (omega arith) ∙ ap H.says (take-take H.size k st h))
 
   -- with a head that announces a whole of w bytes
-  module _ (w b : ℕ) (says : H.says (take H.size st) ≡ Whole w b) (head : H.size ≤ k) where
+  module _ (w b : ℕ) (says : H.says (take H.size st) ≡ Ok (Whole w b)) (head : H.size ≤ k) where
     pub stage-bounded : k ≤ length st → held_of H k st ≡ bounded H.short (length st) k w b
     stage-bounded g = stage-said head g ∙ ap (within H.short (length st) k) says
 
-    pub stage-rest : w ≤ length st → k < w → held_of H k st ≡ Needs (w - k)
+    pub stage-rest : w ≤ length st → k < w → held_of H k st ≡ Ok (Needs (w - k))
     stage-rest g j = stage-bounded (omega arith) ∙ bounded-rest H.short (length st) k w b g j
 
-    pub stage-whole : w ≤ length st → k ≡ w → held_of H k st ≡ Whole w b
+    pub stage-whole : w ≤ length st → k ≡ w → held_of H k st ≡ Ok (Whole w b)
     stage-whole g j = stage-bounded (omega arith) ∙ bounded-whole H.short (length st) k w b g j
 
 -- it is a function of the held bytes and the store's length: bytes of the store past the held ones are not looked at
 pub held-only : (H : Head) (k : ℕ) (st st2 : List ℕ) → length st ≡ length st2 → take k st ≡ take k st2 → held_of H k st ≡ held_of H k st2
 unfolding held_of
 held-only H k st st2 same held =
-    ap₂ (λ n x. cond (ltb n k) (Refused (refusal 1 0)) (cond (ltb n H.size) (Refused (refusal H.short 0)) (within H.short n k (H.says x)))) same held
+    ap₂ (λ n x. cond (ltb n k) (Err (refusal 1 0)) (cond (ltb n H.size) (Err (refusal H.short 0)) (within H.short n k (H.says x)))) same held
 
 -- ---- what the verdict tells
 
@@ -123,7 +123,7 @@ pub record ForWhole (H : Head) (k : ℕ) (st : List ℕ) (n : ℕ) : Type 0 wher
   pub len : ℕ
   pub kind : ℕ
   pub many : H.size ≤ k
-  pub says : H.says (take H.size st) ≡ Whole len kind
+  pub says : H.says (take H.size st) ≡ Ok (Whole len kind)
   pub room : len ≤ length st
   pub sum : k + n ≡ len
   pub some : 0 < n
@@ -131,52 +131,52 @@ pub record ForWhole (H : Head) (k : ℕ) (st : List ℕ) (n : ℕ) : Type 0 wher
 -- the whole is held
 pub record IsWhole (H : Head) (k : ℕ) (st : List ℕ) (w b : ℕ) : Type 0 where
   pub many : H.size ≤ k
-  pub says : H.says (take H.size st) ≡ Whole w b
+  pub says : H.says (take H.size st) ≡ Ok (Whole w b)
   pub room : w ≤ length st
   pub sum : k ≡ w
 
 module _ (H : Head) (L : HeadLaw H) (k : ℕ) (st : List ℕ) where
-  needing-said : (n : ℕ) (x : Holding) → H.size ≤ k → k ≤ length st → H.says (take H.size st) ≡ x → within H.short (length st) k x ≡ Needs n → ForWhole H k st n
-  needing-said n (Needs m) h g q e = absurd (L.never (take H.size st) m (omega (arith, length-take-le H.size st (omega arith))) q)
-  needing-said n (Refused m) h g q e = absurd (refused_needs m n e)
-  needing-said n (Whole w b) h g q e =
+  needing-said : (n : ℕ) (x : Result Holding Refusal) → H.size ≤ k → k ≤ length st → H.says (take H.size st) ≡ x → within H.short (length st) k x ≡ Ok (Needs n) → ForWhole H k st n
+  needing-said n (Ok (Needs m)) h g q e = absurd (L.never (take H.size st) m (omega (arith, length-take-le H.size st (omega arith))) q)
+  needing-said n (Err m) h g q e = absurd (refused_needs m n e)
+  needing-said n (Ok (Whole w b)) h g q e =
       by-bound H.short (length st) k w b
       (λ a. absurd (refused_needs _ n (sym (bounded-short H.short (length st) k w b a) ∙ e)))
       (λ a c. absurd (refused_needs _ n (sym (bounded_beyond H.short (length st) k w b a c) ∙ e)))
       (λ a c.
-      let p : Needs (w - k) ≡ Needs n = sym (bounded-rest H.short (length st) k w b a c) ∙ e in
+      let p : Ok (Needs (w - k)) ≡ Ok (Needs n) = sym (bounded-rest H.short (length st) k w b a c) ∙ e in
       let s : w - k ≡ n = cc in
       record { len = w; kind = b; many = h; says = q; room = a; sum = omega arith; some = omega arith })
       (λ a c. absurd (whole_needs w b n (sym (bounded-whole H.short (length st) k w b a c) ∙ e)))
 
   -- n more bytes are needed exactly so
-  pub needing : (n : ℕ) → held_of H k st ≡ Needs n → ForHead H k st n ⊎ ForWhole H k st n
+  pub needing : (n : ℕ) → held_of H k st ≡ Ok (Needs n) → ForHead H k st n ⊎ ForWhole H k st n
   needing n e = go (below_or (length st) k) (below_or (length st) H.size) (below_or k H.size)
     where
       go : (length st < k) ⊎ (k ≤ length st) → (length st < H.size) ⊎ (H.size ≤ length st) → (k < H.size) ⊎ (H.size ≤ k) → ForHead H k st n ⊎ ForWhole H k st n
       go (inl a) y z = absurd (refused_needs _ n (sym (stage_beyond H k st a) ∙ e))
       go (inr a) (inl y) z = absurd (refused_needs _ n (sym (stage-small H k st a y) ∙ e))
       go (inr a) (inr y) (inl z) =
-          let p : Needs (H.size - k) ≡ Needs n = sym (stage-head H L k st z y) ∙ e in
+          let p : Ok (Needs (H.size - k)) ≡ Ok (Needs n) = sym (stage-head H L k st z y) ∙ e in
           let s : H.size - k ≡ n = cc in
           inl (record { few = z; room = y; sum = omega arith })
       go (inr a) (inr y) (inr z) = inr (needing-said n (H.says (take H.size st)) z a refl (sym (stage-said H L k st z a) ∙ e))
 
-  whole-said : (w b : ℕ) (x : Holding) → H.size ≤ k → k ≤ length st → H.says (take H.size st) ≡ x → within H.short (length st) k x ≡ Whole w b → IsWhole H k st w b
-  whole-said w b (Needs m) h g q e = absurd (L.never (take H.size st) m (omega (arith, length-take-le H.size st (omega arith))) q)
-  whole-said w b (Refused m) h g q e = absurd (refused-whole m w b e)
-  whole-said w b (Whole w' b') h g q e =
+  whole-said : (w b : ℕ) (x : Result Holding Refusal) → H.size ≤ k → k ≤ length st → H.says (take H.size st) ≡ x → within H.short (length st) k x ≡ Ok (Whole w b) → IsWhole H k st w b
+  whole-said w b (Ok (Needs m)) h g q e = absurd (L.never (take H.size st) m (omega (arith, length-take-le H.size st (omega arith))) q)
+  whole-said w b (Err m) h g q e = absurd (refused-whole m w b e)
+  whole-said w b (Ok (Whole w' b')) h g q e =
       by-bound H.short (length st) k w' b'
       (λ a. absurd (refused-whole _ w b (sym (bounded-short H.short (length st) k w' b' a) ∙ e)))
       (λ a c. absurd (refused-whole _ w b (sym (bounded_beyond H.short (length st) k w' b' a c) ∙ e)))
       (λ a c. absurd (whole_needs w b (w' - k) (sym e ∙ bounded-rest H.short (length st) k w' b' a c)))
       (λ a c.
-      let p : Whole w' b' ≡ Whole w b = sym (bounded-whole H.short (length st) k w' b' a c) ∙ e in
+      let p : Ok (Whole w' b') ≡ Ok (Whole w b) = sym (bounded-whole H.short (length st) k w' b' a c) ∙ e in
       let s : w' ≡ w = cc in
       record { many = h; says = q ∙ p; room = omega arith; sum = omega arith })
 
   -- the whole is held exactly so
-  pub is_whole : (w b : ℕ) → held_of H k st ≡ Whole w b → IsWhole H k st w b
+  pub is_whole : (w b : ℕ) → held_of H k st ≡ Ok (Whole w b) → IsWhole H k st w b
   is_whole w b e = go (below_or (length st) k) (below_or (length st) H.size) (below_or k H.size)
     where
       go : (length st < k) ⊎ (k ≤ length st) → (length st < H.size) ⊎ (H.size ≤ length st) → (k < H.size) ⊎ (H.size ≤ k) → IsWhole H k st w b
@@ -185,10 +185,10 @@ module _ (H : Head) (L : HeadLaw H) (k : ℕ) (st : List ℕ) where
       go (inr a) (inr y) (inl z) = absurd (whole_needs w b (H.size - k) (sym e ∙ stage-head H L k st z y))
       go (inr a) (inr y) (inr z) = whole-said w b (H.says (take H.size st)) z a refl (sym (stage-said H L k st z a) ∙ e)
 
-  need-fits-of : (r : Holding) → held_of H k st ≡ r → need_of r ≤ length st - k
-  need-fits-of (Needs n) e = ⊎_elim (λ p. omega (arith, p.few, p.room, p.sum)) (λ p. omega (arith, p.room, p.sum)) (needing n e)
-  need-fits-of (Refused n) e = omega arith
-  need-fits-of (Whole w b) e = omega arith
+  need-fits-of : (r : Result Holding Refusal) → held_of H k st ≡ r → need_of r ≤ length st - k
+  need-fits-of (Ok (Needs n)) e = ⊎_elim (λ p. omega (arith, p.few, p.room, p.sum)) (λ p. omega (arith, p.room, p.sum)) (needing n e)
+  need-fits-of (Err n) e = omega arith
+  need-fits-of (Ok (Whole w b)) e = omega arith
 
   -- what is needed fits the store
   pub need-fits : need_of (held_of H k st) ≤ length st - k
@@ -204,12 +204,12 @@ module _ (H : Head) (L : HeadLaw H) (k : ℕ) (st : List ℕ) where
   poured-fits n = omega (arith, need-fits)
 
   -- and so it is what `pour` puts into the store
-  pub put-poured : (p : List ℕ) {x : Holding} {a : ℕ} → x ≡ held_of H k st → a ≡ put_of k st p x → a ≡ poured H k st (length p)
+  pub put-poured : (p : List ℕ) {x : Result Holding Refusal} {a : ℕ} → x ≡ held_of H k st → a ≡ put_of k st p x → a ≡ poured H k st (length p)
   unfolding poured put_of
   put-poured p e f = omega (arith, need-fits, f, ap need_of e)
 
 -- where the piece has what is needed, and the store has room for it, `pour` puts all of it there
-pub put_all : (k : ℕ) (st p : List ℕ) (n : ℕ) → n ≤ length p → n ≤ length st - k → put_of k st p (Needs n) ≡ n
+pub put_all : (k : ℕ) (st p : List ℕ) (n : ℕ) → n ≤ length p → n ≤ length st - k → put_of k st p (Ok (Needs n)) ≡ n
 unfolding put_of
 put_all k st p n h g = omega arith
 
@@ -243,7 +243,7 @@ paste_paste d at s a b h g = ⊎_elim (λ x. outside (omega arith)) inside (belo
 -- ---- two pours are what is taken
 
 -- one pour, of what held bytes need
-module _ (H : Head) (L : HeadLaw H) (k : ℕ) (st p : List ℕ) {x : Holding} {a : ℕ} (ex : x ≡ held_of H k st) (ea : a ≡ put_of k st p x) where
+module _ (H : Head) (L : HeadLaw H) (k : ℕ) (st p : List ℕ) {x : Result Holding Refusal} {a : ℕ} (ex : x ≡ held_of H k st) (ea : a ≡ put_of k st p x) where
   pub pour_fits : (a ≤ length p) × (a ≤ length st - k)
   pour_fits =
       let e = put-poured H L k st p ex ea in
@@ -284,7 +284,7 @@ module _ (H : Head) (L : HeadLaw H) (k : ℕ) (st p : List ℕ) (a b : ℕ) (st1
   }
 
 -- so it is where each pour was of what the held bytes then needed
-pub two_pours : (H : Head) (L : HeadLaw H) (k : ℕ) (st p : List ℕ) {x y : Holding} {a b : ℕ} {st1 st2 : List ℕ}
+pub two_pours : (H : Head) (L : HeadLaw H) (k : ℕ) (st p : List ℕ) {x y : Result Holding Refusal} {a b : ℕ} {st1 st2 : List ℕ}
     → x ≡ held_of H k st → (a ≡ put_of k st p x) × (st1 ≡ paste st k p a)
     → y ≡ held_of H (k + a) st1 → (b ≡ put_of (k + a) st1 (take (length p - a) (drop a p)) y) × (st2 ≡ paste st1 (k + a) (take (length p - a) (drop a p)) b)
     → Pours H k st p a b st2

@@ -5,7 +5,6 @@
 ghost use Rattle.std.specs.Prelude.{◌<◌, length};
 
 use feed::Answer;
-use house::{Loaded, Stored};
 use std::io;
 use std::io::Write;
 
@@ -19,13 +18,13 @@ fn main(rt: HostRuntime) -> io::Result<()> {
 // Stores the bytes in a house file, and goes on with that; or says what refuses them.
 fn keep(out: &mut impl Write, all: &[u8], output: &mut [u8]) -> io::Result<()> {
     match house::store_start(all, &[0; 520], output) {
-        Stored::Written(len) => {
+        Ok(len) => {
             if len <= output.len() {
                 show_stored(out, all, &mut output[..len])?;
             }
             Ok(())
         }
-        Stored::Refused(e) => {
+        Err(e) => {
             text(out, b"refused by ")?;
             number(out, e.number as u64)?;
             text(out, b"\n")
@@ -43,7 +42,7 @@ fn show_stored(out: &mut impl Write, all: &[u8], file: &mut [u8]) -> io::Result<
     number(out, file.len() as u64)?;
     text(out, b" bytes\n")?;
     let rows = load(file, &mut store);
-    if same(all, &store) {
+    if store.starts_with(all) {
         text(out, b"the same bytes come back, with ")?;
         number(out, rows as u64)?;
         text(out, b" rows\n")?;
@@ -63,30 +62,12 @@ fn load(file: &[u8], store: &mut [u8]) -> usize {
     let mut rows = [0u32; 384];
     let mut none = [0u32; 0];
     match house::load_start(file, store, &[0; 520], &mut rows, &mut none) {
-        Loaded::Refused(_) => 0,
-        Loaded::Held { len: _, answer } => match answer {
-            Answer::Done(f) => f.symbology_rows,
-            Answer::Needs(_) => 0,
-            Answer::Refused(_) => 0,
-            Answer::Short {
-                symbology: _,
-                layout: _,
-            } => 0,
+        Ok(held) => match held.answer {
+            Ok(Answer::Done(f)) => f.symbology_rows,
+            _ => 0,
         },
+        Err(_) => 0,
     }
-}
-
-// Whether the store begins with these bytes.
-fn same(all: &[u8], store: &[u8]) -> bool {
-    if store.len() < all.len() {
-        return false;
-    }
-    for i in 0..all.len() {
-        if all[i] != store[i] {
-            return false;
-        }
-    }
-    true
 }
 
 // How many of the files are refused by 131 that differ from this one in one byte.
@@ -104,28 +85,23 @@ fn changes_at(file: &mut [u8], at: usize, store: &mut [u8]) -> u64
 {
     let kept = file[at];
     let mut refused = 0u64;
-    let mut by = 255u8;
-    while 0 < by {
+    for by in 1..=255u8 {
         file[at] = kept.wrapping_add(by);
-        refused = refused.wrapping_add(is_refused(file, store));
-        by -= 1;
+        if is_refused(file, store) {
+            refused = refused.wrapping_add(1);
+        }
     }
     file[at] = kept;
     refused
 }
 
-// 1 where the file is refused by 131, else 0.
-fn is_refused(file: &[u8], store: &mut [u8]) -> u64 {
+// Whether the file is refused by 131.
+fn is_refused(file: &[u8], store: &mut [u8]) -> bool {
     let mut none = [0u32; 0];
     let mut nothing = [0u32; 0];
     match house::load_start(file, store, &[0; 520], &mut none, &mut nothing) {
-        Loaded::Refused(number) => {
-            if number == refusal::HOUSE_CHECK {
-                return 1;
-            }
-            0
-        }
-        Loaded::Held { len: _, answer: _ } => 0,
+        Ok(_) => false,
+        Err(e) => e.number == refusal::HOUSE_CHECK,
     }
 }
 

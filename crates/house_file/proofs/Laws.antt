@@ -1,12 +1,16 @@
 -- What the code meets, step by step. Assumes nothing.
 use Prim.Native.Nat.{ℕ, zero, suc, ◌+◌, ◌-◌, ◌*◌, ◌≤◌, ◌<◌, min}
+use Rattle.std.specs.Prelude.{Result, Ok, Err}
+use Rattle.refusal.specs.declared.Refusal.{Refusal}
 use native.Mathlib.Omega.{arith}
-use native.Mathlib.Numerals.{add-one}
 use mathlib.Core.Path.{◌≡◌, refl, sym, ap, ap₂, ◌∙◌}
 use mathlib.Core.Bool.{true, false, ◌&&◌}
-use mathlib.Core.List.{List, [], ◌++◌}
-use lib.ListN.{length, get_or, take, drop, length-take, length-drop, drop_of_length-le}
-use lib.Seq.{length-take-le, take_all, take-take, take-add, drop_at, drop-drop, drop-cons}
+use mathlib.Core.List.{List, [], ◌∷◌, ◌++◌}
+use lib.ListN.{length, take, drop, length-drop, drop_of_length-le}
+use Rattle.std.specs.List.{list_all}
+use Rattle.std.proofs.lemmas.List.{nil_from_length}
+use Rattle.std.proofs.Common.{append-nil, length-append, take_at}
+use lib.Seq.{length-take-le, take_all, take-take, take-add, drop_at, drop-drop}
 use lib.Dec.{eqb, eqb-suc-suc}
 use borrow.Author.Tests.{eq-eqb, ne_eqb, le-leb, lt-leb}
 use Rattle.codec.specs.Codec.{ok, refuse, refusal, Bytes, little, times_print}
@@ -17,22 +21,14 @@ use Rattle.numbers.specs.Numbers.{le16}
 use Rattle.numbers.specs.NumberLaws.{u16-is}
 use Rattle.sums.specs.Sums.{sums_of}
 use Rattle.sums.specs.declared.Sums.{Sums}
-use Rattle.house_file.specs.House.{sound, zeros, filled, block_fault, file_fault, payload_of, Block, block, is_length, blocks_of, unpacked_in, store_in, Unpacking, sealed, blocks_from, count, is_count, packed_in, output_in, Packing}
-use Rattle.house_file.specs.declared.Unpacked.{Unpacked}
-use Rattle.house_file.specs.declared.Packed.{Packed}
+use Rattle.house_file.specs.House.{told, sound, zeros, filled, block_fault, file_fault, payload_of, Block, block, is_length, blocks_of, unpacked_in, store_in, Unpacking, sealed, blocks_from, count, is_count, packed_in, output_in, Packing}
 use Rattle.house_file.specs.BlockLaws.{block_at, blocks_at, number, is-length, blocks_refused}
 use Rattle.house_file.specs.PackLaws.{body, sealed-print, from-length, file-print}
 use Rattle.house_file.specs.FaultLaws.{sound-is, fault-on, fault-stop, fine-few, fine-step, fine-length}
 
-module _ (s : List ℕ) (j : ℕ) where
-  pub zeros-on : j < length s → get_or s j 0 ≡ 0 → zeros (drop j s) ≡ zeros (drop (j + 1) s)
-  zeros-on h e = rw (drop-cons s j 0 h, eq-eqb (get_or s j 0) 0 e, add-one)
-
-  pub zeros-off : j < length s → (get_or s j 0 ≡ 0 → ⊥) → zeros (drop j s) ≡ false
-  zeros-off h e = rw (drop-cons s j 0 h, ne_eqb (get_or s j 0) 0 e)
-
-  pub zeros-end : length s ≤ j → zeros (drop j s) ≡ true
-  zeros-end h = rw (drop_of_length-le s h)
+pub all-zeros : (s : List ℕ) → list_all (λ x. eqb x 0) s ≡ zeros s
+all-zeros [] = refl
+all-zeros (x ∷ s) = ap (λ b. eqb x 0 && b) (all-zeros s)
 
 module _ (s : List ℕ) (p : ℕ) (b : Bytes s) (h : p + 512 ≤ length s) where
   tests : {t : Sums} → t ≡ sums_of (take (p + 508 - p) (drop p s)) → sound (block_at p s) ≡ (eqb (le16 s (p + 508)) t.a && eqb (le16 s (p + 510)) t.b)
@@ -138,26 +134,26 @@ sums_are w e = e ∙ ap sums_of (wrote-part w)
 pub seal_is : (i : ℕ) (p : List ℕ) {t : Sums} → t ≡ sums_of (body i p) → block.codec.print (sealed i p) ≡ body i p ++ (little 2 t.a ++ little 2 t.b)
 seal_is i p e = sealed-print i p ∙ sym (ap (λ (u : Sums). body i p ++ (little 2 u.a ++ little 2 u.b)) e)
 
--- the next 504 bytes, or all that are left
-module _ (s : List ℕ) (f : ℕ) {r : ℕ} (e : r ≡ f + min 504 (length s - f)) where
-  pub part-is : take (r - f) (drop f s) ≡ take 504 (drop f s)
+-- the next part of s, which is 504 bytes or all, and the blocks of the rest
+module _ (s u left : List ℕ) (e : s ≡ u ++ left) (h : length u ≡ min 504 (length s)) where
+  part-is : (u ≡ take 504 s) × (left ≡ drop 504 s)
   part-is =
-      let d = length-drop f s in
-      by_le 504 (length s - f)
-      (λ h. let k : r - f ≡ 504 = omega arith in ap (λ n. take n (drop f s)) k)
-      (λ h. take_all (r - f) (drop f s) (omega arith) ∙ sym (take_all 504 (drop f s) (omega arith)))
+      let n = ap length e ∙ length-append u left in
+      by_le 504 (length s)
+      (λ g. let k : length u ≡ 504 = omega arith in (sym (ap (take 504) e ∙ take_at u left 504 k), sym (ap (drop 504) e ∙ drop_at u left 504 k)))
+      (λ g.
+      let few : length s ≤ 504 = omega arith in
+      let none : left ≡ [] = nil_from_length left (omega arith) in
+      let all : s ≡ u = e ∙ ap (λ (v : List ℕ). u ++ v) none ∙ append-nil u in
+      (sym all ∙ sym (take_all 504 s (omega arith)), none ∙ sym (drop_of_length-le s few)))
 
-  pub part-few : length (take (r - f) (drop f s)) ≤ 504
-  part-few = omega (arith, ap length part-is, length-take 504 (drop f s))
-
-  -- its block, and those of the rest
-  pub blocks_next : (i n : ℕ) → 0 < n → times_print block.codec (blocks_from n i (drop f s)) ≡ block.codec.print (sealed i (take (r - f) (drop f s))) ++ times_print block.codec (blocks_from (n - 1) (i + 1) (drop (f + 504) s))
-  blocks_next i zero h = absurd (omega arith)
-  blocks_next i (suc n) h =
+  pub blocks_next : (i n : ℕ) → 0 < n → times_print block.codec (blocks_from n i s) ≡ block.codec.print (sealed i u) ++ times_print block.codec (blocks_from (n - 1) (i + 1) left)
+  blocks_next i zero g = absurd (omega arith)
+  blocks_next i (suc n) g =
       let a : suc i ≡ i + 1 = omega arith in
       let b : n ≡ suc n - 1 = omega arith in
-      ap₂ (λ (u v : List ℕ). block.codec.print (sealed i u) ++ times_print block.codec (blocks_from n (suc i) v)) (sym part-is) (drop-drop 504 f s)
-      ∙ ap₂ (λ j m. block.codec.print (sealed i (take (r - f) (drop f s))) ++ times_print block.codec (blocks_from m j (drop (f + 504) s))) a b
+      let (p, q) = part-is in
+      rw (p, q, ← a, ← b)
 
 pub blocks_last : (i n : ℕ) (s : List ℕ) → (0 < n → ⊥) → times_print block.codec (blocks_from n i s) ≡ []
 blocks_last i zero s h = refl
@@ -165,27 +161,40 @@ blocks_last i (suc n) s h = absurd (h (omega arith))
 
 -- ---- the answers
 
+-- nothing is told where the number is 0, and the refusal by it where it is not
+pub told_none : {k : ℕ} {r : Result (Unit {0}) Refusal} → r ≡ told k → r ≡ Ok tt → k ≡ 0
+told_none {k = zero} e f = refl
+told_none {k = suc k} e f = let z : ◌≡◌ {A = ℕ} 0 1 = cc in absurd (omega arith)
+
+pub told_some : {k : ℕ} {r : Result (Unit {0}) Refusal} {x : Refusal} → r ≡ told k → r ≡ Err x → k ≡ 0 → ⊥
+told_some {k = zero} e f z = let z : ◌≡◌ {A = ℕ} 0 1 = cc in absurd (omega arith)
+told_some {k = suc k} e f z = omega arith
+
+pub told_is : (k : ℕ) → (k ≡ 0 → ⊥) → told k ≡ Err (refusal k 0)
+told_is zero z = absurd (z refl)
+told_is (suc k) z = refl
+
 pub blocks_told : (s : List ℕ) → is_length (length s) ≡ true → (k : ℕ) → k ≡ file_fault 0 (blocks_at (number s) 0 s) → (k ≡ 0 → ⊥) → blocks_of s ≡ refuse (refusal k 0)
 blocks_told s e zero f z = absurd (z refl)
 blocks_told s e (suc k) f z = blocks_refused s e k (sym f)
 
 module _ {s st : List ℕ} where
-  pub unpack_refused : {k : ℕ} → blocks_of s ≡ refuse (refusal k 0) → Unpacking s st (Unpacked.Refused k) st
+  pub unpack_refused : {k : ℕ} → blocks_of s ≡ refuse (refusal k 0) → Unpacking s st (Err (refusal k 0)) st
   unfolding unpacked_in store_in
   unpack_refused e = record { answer = sym (ap (unpacked_in (length st)) e); store = sym (ap (store_in st) e) }
 
-  pub unpack_short : {xs : List Block} {j : ℕ} → blocks_of s ≡ ok xs j → length st < length (payload_of xs) → Unpacking s st (Unpacked.Refused 1) st
+  pub unpack_short : {xs : List Block} {j : ℕ} → blocks_of s ≡ ok xs j → length st < length (payload_of xs) → Unpacking s st (Err (refusal 1 0)) st
   unfolding unpacked_in store_in
   unpack_short {xs} e h =
       let t = lt-leb (length (payload_of xs)) (length st) h in
       record { answer = sym (ap (unpacked_in (length st)) e ∙ rw t); store = sym (ap (store_in st) e ∙ rw t) }
 
-  pub unpack_done : {xs : List Block} {j r : ℕ} {st' : List ℕ} → blocks_of s ≡ ok xs j → Wrote 0 (payload_of xs) st st' r → Unpacking s st (Unpacked.Payload r) st'
+  pub unpack_done : {xs : List Block} {j r : ℕ} {st' : List ℕ} → blocks_of s ≡ ok xs j → Wrote 0 (payload_of xs) st st' r → Unpacking s st (Ok r) st'
   unfolding unpacked_in store_in
   unpack_done {xs} e w =
       let f = wrote-filled w in
       let t = le-leb (length (payload_of xs)) (length st) f.room in
-      record { answer = ap Unpacked.Payload f.count ∙ sym (ap (unpacked_in (length st)) e ∙ rw t); store = f.bytes ∙ sym (ap (store_in st) e ∙ rw t) }
+      record { answer = ap Ok f.count ∙ sym (ap (unpacked_in (length st)) e ∙ rw t); store = f.bytes ∙ sym (ap (store_in st) e ∙ rw t) }
 
 -- how many bytes a file holds
 pub whole_length : (s : List ℕ) → is_length (length s) ≡ true → file_fault 0 (blocks_at (number s) 0 s) ≡ 0
@@ -202,24 +211,24 @@ count-is : (s : List ℕ) → 1 ≤ length s → length s ≤ 33030144 → is_co
 count-is s lo hi = rw (le-leb 1 (count s) (omega arith), le-leb (count s) 65536 (omega arith))
 
 module _ (s : List ℕ) {o : List ℕ} where
-  pub pack_none : length s < 1 → Packing s o (Packed.Refused 130) o
+  pub pack_none : length s < 1 → Packing s o (Err (refusal 130 0)) o
   unfolding packed_in output_in
   pack_none h = let t = lt-leb 1 (count s) (omega arith) in record { answer = rw t; output = rw t }
 
-  pub pack_over : 33030144 < length s → Packing s o (Packed.Refused 130) o
+  pub pack_over : 33030144 < length s → Packing s o (Err (refusal 130 0)) o
   unfolding packed_in output_in
   pack_over h = let t = le-leb 1 (count s) (omega arith) in let u = lt-leb (count s) 65536 (omega arith) in record { answer = rw (t, u); output = rw (t, u) }
 
   module _ (lo : 1 ≤ length s) (hi : length s ≤ 33030144) where
-    pub pack_short : length o < 512 * count s → Packing s o (Packed.Refused 112) o
+    pub pack_short : length o < 512 * count s → Packing s o (Err (refusal 112 0)) o
     unfolding packed_in output_in
     pack_short h = let t = lt-leb (512 * count s) (length o) h in record { answer = rw (count-is s lo hi, t); output = rw (count-is s lo hi, t) }
 
-    pub pack_done : {r : ℕ} {o' : List ℕ} → Wrote 0 (times_print block.codec (blocks_from (count s) 0 s)) o o' r → Packing s o (Packed.Written r) o'
+    pub pack_done : {r : ℕ} {o' : List ℕ} → Wrote 0 (times_print block.codec (blocks_from (count s) 0 s)) o o' r → Packing s o (Ok r) o'
     unfolding packed_in output_in
     pack_done {r} w =
         let f = wrote-filled w in
         let n = from-length (count s) 0 s in
         let t = le-leb (512 * count s) (length o) (omega (arith, f.room, n)) in
         let k : r ≡ 512 * count s = f.count ∙ n in
-        record { answer = rw (count-is s lo hi, t) (ap Packed.Written k); output = rw (count-is s lo hi, t) (f.bytes ∙ ap₂ (λ (u : List ℕ) m. u ++ drop m o) (sym (file-print s)) n) }
+        record { answer = rw (count-is s lo hi, t) (ap Ok k); output = rw (count-is s lo hi, t) (f.bytes ∙ ap₂ (λ (u : List ℕ) m. u ++ drop m o) (sym (file-print s)) n) }

@@ -1,16 +1,13 @@
 -- The house file, as request 13 of document 02 has it: bytes in blocks of 512.
 -- Assumes nothing.
-use Rattle.std.specs.Prelude.{ℕ, zero, suc, ◌+◌, ◌-◌, ◌*◌, ◌/◌, ◌%◌, ◌≡◌, refl, Bool, true, false, ◌&&◌, cond, List, [], ◌∷◌, ◌++◌, length, take, drop, replicate, leb, eqb}
+use Rattle.std.specs.Prelude.{ℕ, zero, suc, ◌+◌, ◌-◌, ◌*◌, ◌/◌, ◌%◌, ◌≡◌, refl, Bool, true, false, ◌&&◌, cond, List, [], ◌∷◌, ◌++◌, length, take, drop, replicate, leb, eqb, Result, Ok, Err}
 use Rattle.std.proofs.Common.{ap}
 use Rattle.codec.specs.Codec as Codec
-use Rattle.codec.specs.Codec.{Res, ok, refuse, ◌>>=◌, need, little}
+use Rattle.refusal.specs.declared.Refusal.{Refusal}
+use Rattle.codec.specs.Codec.{Res, ok, refuse, refusal, ◌>>=◌, need, little}
 use Rattle.codec.specs.Faults.{unless, first}
 use Rattle.codec.proofs.Format.{Format, num, raw, ◌then◌, named, judged, times}
 use Rattle.sums.specs.Sums.{words, check_a, check_b}
-use Rattle.house_file.specs.declared.Unpacked.{Unpacked}
-use Rattle.house_file.specs.declared.Unpacked.TheVariants.{Payload}
-use Rattle.house_file.specs.declared.Packed.{Packed}
-use Rattle.house_file.specs.declared.Packed.TheVariants.{Written}
 
 -- ---- a block
 
@@ -52,6 +49,11 @@ filled true x = leb 1 x.used && (leb x.used 504 && zeros (drop x.used x.payload)
 unfoldable pub block_fault : ℕ → Bool → Block → ℕ
 block_fault i last x = first (unless (sound x) 131) (first (unless (eqb x.index i) 132) (unless (filled last x) 133))
 
+-- what judging answers where a number is what refuses, 0 for nothing: a refusal is about no byte
+abbrev pub told : ℕ → Result (Unit {0}) Refusal
+told zero = Ok tt
+told (suc k) = Err (refusal (suc k) 0)
+
 -- ---- a file
 
 -- what refuses blocks, the first of which has index i; in order
@@ -85,9 +87,9 @@ payload_of (x ∷ xs) = take x.used x.payload ++ payload_of xs
 -- ---- out of a file
 
 -- the bytes that a file holds, in a store of n: 130 to 133; 1 where they are more than n; or how many they are
-unfoldable pub unpacked_in : ℕ → Res (List Block) → Unpacked
-unpacked_in n (refuse e) = Unpacked.Refused e.number
-unpacked_in n (ok xs j) = cond (leb (length (payload_of xs)) n) (Payload (length (payload_of xs))) (Unpacked.Refused 1)
+unfoldable pub unpacked_in : ℕ → Res (List Block) → Result ℕ Refusal
+unpacked_in n (refuse e) = Err (refusal e.number 0)
+unpacked_in n (ok xs j) = cond (leb (length (payload_of xs)) n) (Ok (length (payload_of xs))) (Err (refusal 1 0))
 
 -- the store after it: the bytes at its front, or as it was
 unfoldable pub store_in : List ℕ → Res (List Block) → List ℕ
@@ -95,7 +97,7 @@ store_in st (refuse e) = st
 store_in st (ok xs j) = cond (leb (length (payload_of xs)) (length st)) (payload_of xs ++ drop (length (payload_of xs)) st) st
 
 -- UNPACKING the file s into the store st
-pub record Unpacking (s st : List ℕ) (r : Unpacked) (st' : List ℕ) : Type 0 where
+pub record Unpacking (s st : List ℕ) (r : Result ℕ Refusal) (st' : List ℕ) : Type 0 where
   pub answer : r ≡ unpacked_in (length st) (blocks_of s)
   pub store : st' ≡ store_in st (blocks_of s)
 
@@ -125,14 +127,14 @@ abbrev pub is_count : ℕ → Bool
 is_count n = leb 1 n && leb n 65536
 
 -- the file of s in an output of n bytes: 130 where there is none, 112 where it is longer; or its length
-unfoldable pub packed_in : ℕ → List ℕ → Packed
-packed_in n s = cond (is_count (count s)) (cond (leb (512 * count s) n) (Written (512 * count s)) (Packed.Refused 112)) (Packed.Refused 130)
+unfoldable pub packed_in : ℕ → List ℕ → Result ℕ Refusal
+packed_in n s = cond (is_count (count s)) (cond (leb (512 * count s) n) (Ok (512 * count s)) (Err (refusal 112 0))) (Err (refusal 130 0))
 
 -- the output after it: the file at its front, or as it was
 unfoldable pub output_in : List ℕ → List ℕ → List ℕ
 output_in o s = cond (is_count (count s)) (cond (leb (512 * count s) (length o)) (file_of s ++ drop (512 * count s) o) o) o
 
 -- PACKING the bytes s into the output o
-pub record Packing (s o : List ℕ) (r : Packed) (o' : List ℕ) : Type 0 where
+pub record Packing (s o : List ℕ) (r : Result ℕ Refusal) (o' : List ℕ) : Type 0 where
   pub answer : r ≡ packed_in (length o) s
   pub output : o' ≡ output_in o s

@@ -1,13 +1,12 @@
 -- Which numbers refuse a house file, and bytes that are to become one. Assumes nothing.
-use Rattle.std.specs.Prelude.{ℕ, zero, suc, ◌/◌, ◌*◌, ◌≡◌, refl, Bool, true, false, cond, List, [], ◌∷◌, length, leb, eqb}
+use Rattle.std.specs.Prelude.{ℕ, zero, suc, ◌/◌, ◌*◌, ◌≡◌, refl, Bool, true, false, cond, List, [], ◌∷◌, length, leb, eqb, Ok, Err}
 use Rattle.std.proofs.Common.{arith, sym, subst}
-use Rattle.codec.specs.Codec.{Res, ok, refuse}
+use Rattle.refusal.specs.declared.Refusal.{Refusal}
+use Rattle.codec.specs.Codec.{refusal, Res, ok, refuse}
 use Rattle.codec.specs.Faults.{unless, first, first_some}
 use Rattle.codec.specs.Refusals.{In, Gives, Fault}
 use Rattle.codec.proofs.RefusalLaws.{in_more, gives_test}
 use Rattle.house_file.specs.House.{Block, block, sound, filled, block_fault, file_fault, file, is_length, blocks_of, payload_of, unpacked_in, count, is_count, packed_in}
-use Rattle.house_file.specs.declared.Unpacked.{Unpacked}
-use Rattle.house_file.specs.declared.Packed.{Packed}
 
 -- what refuses a file: its length, check words, an index, a used count or filler
 abbrev pub file_numbers : List ℕ
@@ -49,23 +48,29 @@ blocks_give s =
     ((file (length s / 512)).refuses P (file-numbers (length s / 512)) 0 s 0)
 
 -- 1, or what refuses the file
-pub unpacked_refuses : (n : ℕ) (s : List ℕ) {k : ℕ} → unpacked_in n (blocks_of s) ≡ Unpacked.Refused k → In (1 ∷ file_numbers) k
+pub unpacked_refuses : (n : ℕ) (s : List ℕ) {k : Refusal} → unpacked_in n (blocks_of s) ≡ Err k → In (1 ∷ file_numbers) k.number
 unfolding unpacked_in
 unpacked_refuses n s {k} = go (blocks_of s) (blocks_give s)
   where
-    room : (b : Bool) (m : ℕ) → cond b (Unpacked.Payload m) (Unpacked.Refused 1) ≡ Unpacked.Refused k → In (1 ∷ file_numbers) k
-    room true m q = let z : ◌≡◌ {A = ℕ} 0 1 = cc in absurd (omega arith)
-    room false m q = let i : 1 ≡ k = cc in subst (In (1 ∷ file_numbers)) i refl
+    is : (m : ℕ) → In (1 ∷ file_numbers) m → refusal m 0 ≡ k → In (1 ∷ file_numbers) k.number
+    is m g i = subst (λ (j : Refusal). In (1 ∷ file_numbers) j.number) i g
 
-    go : (r : Res (List Block)) → Gives P r → unpacked_in n r ≡ Unpacked.Refused k → In (1 ∷ file_numbers) k
-    go (refuse e) g q = let i : e.number ≡ k = cc in subst (In (1 ∷ file_numbers)) i (in_more file_numbers (1 ∷ file_numbers) refl e.number g)
+    room : (b : Bool) (m : ℕ) → cond b (Ok m) (Err (refusal 1 0)) ≡ Err k → In (1 ∷ file_numbers) k.number
+    room true m q = let z : ◌≡◌ {A = ℕ} 0 1 = cc in absurd (omega arith)
+    room false m q = is 1 refl (cc)
+
+    go : (r : Res (List Block)) → Gives P r → unpacked_in n r ≡ Err k → In (1 ∷ file_numbers) k.number
+    go (refuse e) g q = is e.number (in_more file_numbers (1 ∷ file_numbers) refl e.number g) (cc)
     go (ok xs j) g q = room (leb (length (payload_of xs)) n) (length (payload_of xs)) q
 
-pub packed_refuses : (n : ℕ) (s : List ℕ) {k : ℕ} → packed_in n s ≡ Packed.Refused k → In pack_numbers k
+pub packed_refuses : (n : ℕ) (s : List ℕ) {k : Refusal} → packed_in n s ≡ Err k → In pack_numbers k.number
 unfolding packed_in
 packed_refuses n s {k} = go (is_count (count s)) (leb (512 * count s) n) (512 * count s)
   where
-    go : (b c : Bool) (m : ℕ) → cond b (cond c (Packed.Written m) (Packed.Refused 112)) (Packed.Refused 130) ≡ Packed.Refused k → In pack_numbers k
-    go false c m q = let i : 130 ≡ k = cc in subst (In pack_numbers) i refl
-    go true false m q = let i : 112 ≡ k = cc in subst (In pack_numbers) i refl
+    is : (m : ℕ) → In pack_numbers m → refusal m 0 ≡ k → In pack_numbers k.number
+    is m g i = subst (λ (j : Refusal). In pack_numbers j.number) i g
+
+    go : (b c : Bool) (m : ℕ) → cond b (cond c (Ok m) (Err (refusal 112 0))) (Err (refusal 130 0)) ≡ Err k → In pack_numbers k.number
+    go false c m q = is 130 refl (cc)
+    go true false m q = is 112 refl (cc)
     go true true m q = let z : ◌≡◌ {A = ℕ} 0 1 = cc in absurd (omega arith)

@@ -1,5 +1,5 @@
 // Blocks, stored one after the other.
-ghost use Rattle.std.specs.Prelude.{◌≡◌, ◌+◌, ◌-◌, ◌*◌, ◌≤◌, ◌<◌, min, length};
+ghost use Rattle.std.specs.Prelude.{◌+◌, ◌*◌, ◌≤◌, ◌<◌, length};
 ghost use Rattle.codec.specs.Codec.{times_print};
 ghost use Rattle.put.specs.Output.{RoomFor, Wrote};
 ghost use Rattle.house_file.specs.House.{block, sealed, blocks_from};
@@ -12,27 +12,10 @@ pub(crate) fn put_blocks(out: &mut [u8], s: &[u8], n: usize) -> usize
     ensures { Wrote 0 (times_print block.codec (blocks_from n 0 s.now)) out.old out.new result }
 {
     let mut at = 0;
-    let mut index = 0;
-    let mut from = 0;
-    let mut todo = n;
-    while 0 < todo {
-        at = put_block(out, at, index, &s[from..part_end(from, s.len())]);
-        index += 1;
-        from += 504;
-        todo -= 1;
+    for (index, part) in s.chunks(504).enumerate() {
+        at = put_block(out, at, index, part);
     }
     at
-}
-
-// Where the part from `from` on ends: after 504 bytes, or with all.
-fn part_end(from: usize, len: usize) -> usize
-    requires { from ≤ len }
-    ensures { result ≡ from + min 504 (len - from) }
-{
-    if len - from < 504 {
-        return len;
-    }
-    from + 504
 }
 
 // Stores a block of these bytes: zeros after them, then the check words of all that stands before.

@@ -1,9 +1,7 @@
 -- A day as people write it, in ASCII. Assumes nothing.
-use Rattle.std.specs.Prelude.{ℕ, ◌+◌, ◌/◌, ◌%◌, ◌≡◌, List, [], ◌∷◌, replicate}
+use Rattle.std.specs.Prelude.{ℕ, Option, Some, None, ◌+◌, ◌/◌, ◌%◌, ◌≡◌, List, [], ◌∷◌, replicate}
 use Rattle.std.proofs.Common.{sym, ◌∙◌}
 use Rattle.dates.specs.Day.{date_on}
-use Rattle.dates.specs.declared.Calendar.{Calendar}
-use Rattle.dates.specs.declared.Calendar.TheVariants.{Has, Lacks}
 
 -- the digit of n that counts w
 abbrev pub digit_of : ℕ → ℕ → ℕ
@@ -17,9 +15,9 @@ date_text n =
     ∷ 45 ∷ digit_of n 10 ∷ digit_of n 1 ∷ []
 
 -- a day by its date, where it has one
-abbrev pub day_text : Calendar → List ℕ
-day_text (Has n) = date_text n
-day_text Lacks = replicate 10 63
+abbrev pub day_text : Option ℕ → List ℕ
+day_text (Some n) = date_text n
+day_text None = replicate 10 63
 
 -- ONE ANSWER: two that meet the promise are equal
 pub one-text : (k : ℕ) (x y : List ℕ) → x ≡ day_text (date_on k) → y ≡ day_text (date_on k) → x ≡ y

@@ -5,15 +5,13 @@ ghost use Rattle.std.specs.Prelude.{◌≡◌, ◌<◌};
 ghost use Rattle.dates.specs.Day.{date_on};
 ghost use Rattle.iso.specs.DateText.{digit_of, date_text, day_text};
 
-use dates::Calendar;
-
 // The date of the day of this number as yyyy-mm-dd, in ASCII; ten question marks where there is no such day.
 pub fn day_text(day: u32) -> [u8; 10]
     ensures { result ≡ day_text (date_on day) }
 {
     match dates::date_of_day(day) {
-        Calendar::Has(yyyymmdd) => date_text(yyyymmdd),
-        Calendar::Lacks => [b'?'; 10],
+        Some(yyyymmdd) => date_text(yyyymmdd),
+        None => [b'?'; 10],
     }
 }
 

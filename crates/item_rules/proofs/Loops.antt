@@ -1,15 +1,16 @@
 -- What one turn of each loop over the entries does, over judged lists. Assumes nothing.
 use Prim.Native.Nat.{ℕ, suc, ◌+◌, ◌≤◌, ◌<◌, max}
 use mathlib.Core.Path.{◌≡◌, refl, sym, ap, ◌∙◌, subst}
-use mathlib.Core.Bool.{Bool, true, false, ◌||◌, cond}
+use mathlib.Core.Bool.{Bool, true, false, ◌||◌, cond, not}
 use mathlib.Core.List.{List, [], ◌∷◌}
 use native.Mathlib.Omega.{arith}
 use native.Mathlib.Nat.{add-zero, zero-add}
 use lib.ListN.{length}
-use lib.Dec.{eqb, lit<}
+use lib.Dec.{eqb}
 use borrow.Author.Tests.{eq-eqb, ne_eqb}
 use Rattle.codec.specs.Codec.{among}
-use Rattle.codec.specs.CaseLaws.{no_true, by_bool}
+use Rattle.std.specs.Prelude.{Option, Some, None as Nothing}
+use Rattle.codec.specs.CaseLaws.{no_true, by_bool, by_eqb}
 use Rattle.marks.specs.Marks.{marked, with_mark, Marks, Only, wiped}
 use Rattle.marks.specs.MarkLaws.{marks-more, only_next, only_end}
 use Rattle.fields.specs.Sheet.{id_of, off_of, end_of, is_padding, past_base, member_align}
@@ -20,11 +21,20 @@ use Rattle.plain_tiling.specs.Tile.{Span}
 use Rattle.item_rules.specs.Rules.{first, noted, spans, largest, struct_align, base_fault, ext_fault, tiling_fault, fields_fault, seq_fault, judged}
 use Rattle.item_rules.specs.Entries.{entry_of, entries_of, rest_of, InSlice}
 use Rattle.item_rules.specs.EntryLaws.{entries-cons, entries-nil, room-rest}
-use Rattle.item_rules.specs.Search.{Has, there, None, Chase, stop, Proper, find, starts_here, on_side, PartOf, Sought, Hits}
+use Rattle.item_rules.specs.Search.{Has, here, there, None, Chase, stop, Proper, find, starts_here, on_side, PartOf, Sought, Hits}
 use Rattle.item_rules.specs.Ids.{ids_of, noted_marks}
 use Rattle.plain_tiling.specs.Owners.{Placed}
 use Rattle.item_rules.specs.Engines.{Passed}
-use Rattle.item_rules.proofs.Search.{walk-sorted, find_none, find-has}
+use Rattle.item_rules.proofs.Search.{walk-sorted, find_none}
+
+-- of a bool and what is not so
+pub is_out : (b : Bool) → not b ≡ true → b ≡ false
+is_out true e = absurd (no_true (sym e))
+is_out false e = refl
+
+pub is_in : (b : Bool) → not b ≡ false → b ≡ true
+is_in true e = refl
+is_in false e = absurd (no_true e)
 
 -- ---- the side of the base
 
@@ -32,6 +42,13 @@ module _ (isRecord : Bool) (base : ℕ) (ext : Bool) where
   find_hit : (c : ℕ) (e : List ℕ) (es : List (List ℕ)) → starts_here isRecord base ext c e ≡ true → find (spans isRecord base ext (e ∷ es)) c ≡ end_of e
   unfolding starts_here spans
   find_hit c e es h = by_bool (differs ext (past_base isRecord base e)) (λ d. absurd (no_true (sym (rw d at h)))) (λ d. rw (d, rw d at h))
+
+  has_hit : (c : ℕ) (e : List ℕ) (es : List (List ℕ)) → starts_here isRecord base ext c e ≡ true → Has (spans isRecord base ext (e ∷ es)) c (end_of e)
+  unfolding starts_here spans
+  has_hit c e es h =
+      by_bool (differs ext (past_base isRecord base e))
+      (λ d. absurd (no_true (sym (rw d at h))))
+      (λ d. rw d (by_eqb (off_of e) c (λ q f. here f refl) (λ q n. absurd (no_true (sym (rw d at h) ∙ q)))))
 
   find_miss : (c : ℕ) (e : List ℕ) (es : List (List ℕ)) → starts_here isRecord base ext c e ≡ false → find (spans isRecord base ext (e ∷ es)) c ≡ find (spans isRecord base ext es) c
   unfolding starts_here spans
@@ -78,40 +95,34 @@ module _ (isRecord : Bool) (base : ℕ) (ext : Bool) where
           same = v.same ∙ rw (entries-cons l t left m) (find_miss c (entry_of l t left) (entries_of l t (rest_of left)) (rw is at h));
         }
 
-        pub seek_hit : starts_here isRecord base ext c e ≡ true → {x : ℕ} → x ≡ end_of e → x < 131072 → {r : Source} → r ≡ rest_of left → Sought l t isRecord base ext src c (record { end = x; rest = r })
-        seek_hit h {x} q b {r} p = record {
-          is = q ∙ sym (v.same ∙ rw (entries-cons l t left m) (find_hit c (entry_of l t left) (entries_of l t (rest_of left)) (rw is at h)) ∙ ap (λ (y : List ℕ). end_of y) (sym is));
-          small = b;
-          within = rw p (within-rest v.within m);
-        }
+        pub seek_hit : starts_here isRecord base ext c e ≡ true → {x : ℕ} → x ≡ end_of e → x < 131072 → {r : Source} → r ≡ rest_of left → Sought l t isRecord base ext src c (Some (record { end = x; rest = r }))
+        seek_hit h {x} q b {r} p = (
+          q ∙ sym (v.same ∙ rw (entries-cons l t left m) (find_hit c (entry_of l t left) (entries_of l t (rest_of left)) (rw is at h)) ∙ ap (λ (y : List ℕ). end_of y) (sym is)),
+          record {
+            has = v.within.has c x (rw (q, is, entries-cons l t left m) (has_hit c (entry_of l t left) (entries_of l t (rest_of left)) (rw is at h)));
+            small = b;
+            within = rw p (within-rest v.within m);
+          },
+        )
 
-      pub seek_end : left.count ≤ 0 → Sought l t isRecord base ext src c (record { end = 0; rest = left })
+      pub seek_end : left.count ≤ 0 → Sought l t isRecord base ext src c Nothing
       unfolding spans
-      seek_end z = record {
-        is = sym (v.same ∙ rw (entries-nil l t left z));
-        small = lit< tt;
-        within = v.within;
-      }
+      seek_end z = v.same ∙ rw (entries-nil l t left z)
 
     within_trans : {a b d : Source} → PartOf l t isRecord base ext a b → PartOf l t isRecord base ext b d → PartOf l t isRecord base ext a d
     within_trans v w = record { room = w.room; has = λ x y h. v.has x y (w.has x y h) }
 
     -- a hit near the last one, and the search from the front
-    pub near_hit : {src from : Source} {c : ℕ} {r : Hit} → PartOf l t isRecord base ext src from → Sought l t isRecord base ext from c r → (r.end ≡ 0 → ⊥) → Hits l t isRecord base ext src c r
-    near_hit {src} {from} {c} {r} w s n = record {
-      none = λ z. absurd (n z);
-      some = λ _. w.has c r.end (rw s.is (find-has (S from) c (λ z. n (s.is ∙ z))));
-      small = s.small;
-      within = within_trans w s.within;
+    pub near_hit : {src from : Source} {c : ℕ} {r : Hit} → PartOf l t isRecord base ext src from → Sought l t isRecord base ext from c (Some r) → Hits l t isRecord base ext src c (Some r)
+    near_hit {c = c} {r} w s = record {
+      has = w.has c r.end s.1.has;
+      small = s.1.small;
+      within = within_trans w s.1.within;
     }
 
-    pub far_hit : {src : Source} {c : ℕ} {r : Hit} → Proper (S src) → Sought l t isRecord base ext src c r → Hits l t isRecord base ext src c r
-    far_hit {src} {c} {r} p s = record {
-      none = λ z. find_none (S src) c p (sym s.is ∙ z);
-      some = λ n. rw s.is (find-has (S src) c (λ z. n (s.is ∙ z)));
-      small = s.small;
-      within = s.within;
-    }
+    pub far_hit : (src : Source) (c : ℕ) (r : Option Hit) → Proper (S src) → Sought l t isRecord base ext src c r → Hits l t isRecord base ext src c r
+    far_hit src c (Some r) p s = s.1
+    far_hit src c Nothing p s = find_none (S src) c p s
 
     -- ---- the count
 

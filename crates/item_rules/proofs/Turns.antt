@@ -1,4 +1,5 @@
 -- What one turn of each loop over the records or structs does, over judged lists. Assumes nothing.
+use Rattle.std.specs.Prelude.{Option, Some, None}
 use Prim.Native.Nat.{ℕ, zero, suc, ◌+◌, ◌%◌, ◌≤◌, ◌<◌, min}
 use mathlib.Core.Path.{◌≡◌, refl, sym, ap, ◌∙◌}
 use mathlib.Core.Bool.{Bool, true, false}
@@ -15,25 +16,23 @@ use Rattle.marks.specs.Marks.{marked, with_mark, Marks}
 use Rattle.marks.specs.MarkLaws.{marks-more}
 use Rattle.item_rules.specs.declared.Place.{Place}
 use Rattle.item_rules.specs.declared.Item.{Item}
-use Rattle.item_rules.specs.declared.Next.{Next}
-use Rattle.item_rules.specs.declared.Next.TheVariants.{Found, End}
 use Rattle.item_rules.specs.Rules.{Seq, judged, first, struct_align, seq_fault, struct_fault, record_fault, structs_fault, records_fault, aligns_of}
 use Rattle.item_rules.specs.Entries.{entries_of}
 use Rattle.item_rules.specs.Ids.{Clean}
 use Rattle.item_rules.specs.Items.{item_seq, next_at, seqs_by, seqs_from, Good, Step, Stepped, found, ended, first_aligns, fault_of}
 use Rattle.item_rules.proofs.Loops.{first-none, first_some}
 
-module _ {l t : List ℕ} {isRecord : Bool} {p : Place} {r : Next} (s : Stepped l t isRecord p r) where
-  pub step-found : {i : Item} {p' : Place} → r ≡ Found i p' → Step l t isRecord p i p'
+module _ {l t : List ℕ} {isRecord : Bool} {p : Place} {r : Option (Item × Place)} (s : Stepped l t isRecord p r) where
+  pub step-found : {i : Item} {p' : Place} → r ≡ Some (i, p') → Step l t isRecord p i p'
   step-found {i} {p'} e = go (rw e at s)
     where
-      go : Stepped l t isRecord p (Found i p') → Step l t isRecord p i p'
+      go : Stepped l t isRecord p (Some (i, p')) → Step l t isRecord p i p'
       go (found x) = x
 
-  pub step_end : r ≡ End → seqs_from l t isRecord p ≡ []
+  pub step_end : r ≡ None → seqs_from l t isRecord p ≡ []
   step_end e = go (rw e at s)
     where
-      go : Stepped l t isRecord p End → seqs_from l t isRecord p ≡ []
+      go : Stepped l t isRecord p None → seqs_from l t isRecord p ≡ []
       go (ended x) = x
 
 -- fewer are to come after each

@@ -7,13 +7,13 @@ use native.Mathlib.Omega.{arith}
 use lib.ListN.{length, get_or}
 use lib.Dec.{leb, lit<, lit≤}
 use borrow.Author.Tests.{le-leb, lt-leb}
-use Rattle.codec.specs.CaseLaws.{no_true, by_le}
+use Rattle.codec.specs.CaseLaws.{by_le}
 use Rattle.numbers.specs.Numbers.{le16}
 use Rattle.layout.specs.LayoutOf.{D, D-least}
 use Rattle.rows_check.specs.Tree.{cell, next_section}
 use Rattle.item_rules.specs.declared.Place.{Place}
 use Rattle.item_rules.specs.declared.Item.{Item}
-use Rattle.item_rules.specs.declared.Next.TheVariants.{Found, End}
+use Rattle.std.specs.Prelude.{Some, None}
 use Rattle.item_rules.specs.Entries.{InSlice}
 use Rattle.item_rules.specs.RowLaws.{next-is}
 use Rattle.item_rules.specs.Items.{column, kind_of, item_seq, count_in, section_item, SectionInside, fields_in, row_item, RowInside, item_at, next_at, InsideAt, seqs_by, Stand, end_by, seqs_from, end_from, Good, Stepped, found, ended}
@@ -70,7 +70,7 @@ module _ (l t : List ℕ) (isRecord : Bool) (small : length l < 1844674407370955
   room_at false at v = record { least = D-least; inside = omega (arith, v.fields, v.inside); small = omega (arith, v.fields, v.inside) }
 
 module _ (l t : List ℕ) (isRecord : Bool) (p : Place) where
-  pub item-end : p.left ≡ 0 → Stepped l t isRecord p End
+  pub item-end : p.left ≡ 0 → Stepped l t isRecord p None
   unfolding seqs_from
   item-end z = ended (rw z)
 
@@ -90,7 +90,7 @@ module _ (l t : List ℕ) (isRecord : Bool) (p : Place) where
     item-inside = standing.0
 
     pub item-step : {i : Item} → i ≡ item_at isRecord l t p.rows p.at → i.base < 65536 → {a : ℕ} → a ≡ next
-        → length l < 18446744073709551616 → length t < 18446744073709551616 → Stepped l t isRecord p (Found i (record { rows = p.rows; at = a; left = p.left - 1 }))
+        → length l < 18446744073709551616 → length t < 18446744073709551616 → Stepped l t isRecord p (Some (i, record { rows = p.rows; at = a; left = p.left - 1 }))
     unfolding seqs_from Good
     item-step {i} e b {a} q small few = found {i = i} {p' = record { rows = p.rows; at = a; left = p.left - 1 }} (record {
       seqs = rw (e, q) (go p.left more);
@@ -192,10 +192,10 @@ module _ (l t : List ℕ) (isRecord rows : Bool) where
         go (suc m) h g q = absurd (let z : ⊥ = omega arith in z)
 
 module _ (l t : List ℕ) (isRecord : Bool) (p : Place) where
-  pub reached_out : stand_by isRecord l t p.rows p.at p.left ≡ false → Reached l t isRecord p (record { stands = false; at = 0 })
+  pub reached_out : stand_by isRecord l t p.rows p.at p.left ≡ false → Reached l t isRecord p None
   unfolding stands
-  reached_out e = record { is = sym e; end = λ f. absurd (no_true (sym f)) }
+  reached_out e = e
 
-  pub reached_all : {a : ℕ} → (stand_by isRecord l t p.rows p.at p.left ≡ true) × (a ≡ end_by isRecord l t p.rows p.at p.left) → Reached l t isRecord p (record { stands = true; at = a })
+  pub reached_all : {a : ℕ} → (stand_by isRecord l t p.rows p.at p.left ≡ true) × (a ≡ end_by isRecord l t p.rows p.at p.left) → Reached l t isRecord p (Some a)
   unfolding stands end_from
-  reached_all (e, f) = record { is = sym e; end = λ _. f }
+  reached_all (e, f) = (e, f)

@@ -1,6 +1,6 @@
 -- Records and structs where they stand, one by one: in the sections of a layout, or in rows that are in their places.
 -- Assumes nothing.
-use Rattle.std.specs.Prelude.{ℕ, zero, suc, ◌+◌, ◌*◌, ◌≤◌, ◌<◌, ◌≡◌, Bool, true, false, cond, List, [], ◌∷◌, length, take}
+use Rattle.std.specs.Prelude.{ℕ, zero, suc, ◌+◌, ◌*◌, ◌≤◌, ◌<◌, ◌≡◌, Bool, true, false, cond, List, [], ◌∷◌, length, take, Option, Some, None}
 use Rattle.numbers.specs.Numbers.{le16}
 use Rattle.layout.specs.LayoutOf.{D}
 use Rattle.layout.specs.PlaceLaws.{count_at}
@@ -8,8 +8,6 @@ use Rattle.rows_check.specs.Tree.{cell, next_section}
 use Rattle.item_rules.specs.declared.Place.{Place}
 use Rattle.item_rules.specs.declared.Task.{Task}
 use Rattle.item_rules.specs.declared.Item.{Item}
-use Rattle.item_rules.specs.declared.Next.{Next}
-use Rattle.item_rules.specs.declared.Next.TheVariants.{Found, End}
 use Rattle.item_rules.specs.Rules.{Seq, first, structs_fault, records_fault, aligns_of}
 use Rattle.item_rules.specs.Entries.{entries_of, InSlice}
 
@@ -111,9 +109,9 @@ pub record Step (l t : List ℕ) (isRecord : Bool) (p : Place) (i : Item) (p' : 
   pub room : InSlice l t i.entries
   pub base : i.base < 65536
 
-pub data Stepped (l t : List ℕ) (isRecord : Bool) (p : Place) : Next → Type 0 where
-  found : {i : Item} {p' : Place} → Step l t isRecord p i p' → Stepped l t isRecord p (Found i p')
-  ended : seqs_from l t isRecord p ≡ [] → Stepped l t isRecord p End
+pub data Stepped (l t : List ℕ) (isRecord : Bool) (p : Place) : Option (Item × Place) → Type 0 where
+  found : {i : Item} {p' : Place} → Step l t isRecord p i p' → Stepped l t isRecord p (Some (i, p'))
+  ended : seqs_from l t isRecord p ≡ [] → Stepped l t isRecord p None
 
 -- the structs and the records, all within their slices
 pub record Ready (l t : List ℕ) (structs records : Place) : Type 0 where

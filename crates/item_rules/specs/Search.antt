@@ -1,6 +1,6 @@
 -- Tiling by search: from end to end, until no span starts at the cursor.
 -- Assumes nothing.
-use Rattle.std.specs.Prelude.{ℕ, suc, ◌+◌, ◌<◌, ◌≡◌, Bool, false, cond, List, [], ◌∷◌, eqb}
+use Rattle.std.specs.Prelude.{ℕ, suc, ◌+◌, ◌<◌, ◌≡◌, Bool, false, cond, List, [], ◌∷◌, eqb, Option, Some, None as Nothing}
 use Rattle.fields.specs.Sheet.{off_of, past_base}
 use Rattle.fields.specs.Field.{differs}
 use Rattle.item_rules.specs.declared.Source.{Source}
@@ -50,15 +50,18 @@ pub record PartOf (l t : List ℕ) (isRecord : Bool) (base : ℕ) (ext : Bool) (
   pub room : InSlice l t part
   pub has : (c e : ℕ) → Has (spans isRecord base ext (entries_of l t part)) c e → Has (spans isRecord base ext (entries_of l t whole)) c e
 
--- what a search through a source for a span at the cursor gives: the end of the first, or 0, and the entries after it
-pub record Sought (l t : List ℕ) (isRecord : Bool) (base : ℕ) (ext : Bool) (src : Source) (c : ℕ) (r : Hit) : Type 0 where
-  pub is : r.end ≡ find (spans isRecord base ext (entries_of l t src)) c
+-- a span at the cursor is found: its end, and the entries after it
+pub record Found (l t : List ℕ) (isRecord : Bool) (base : ℕ) (ext : Bool) (src : Source) (c : ℕ) (r : Hit) : Type 0 where
+  pub has : Has (spans isRecord base ext (entries_of l t src)) c r.end
   pub small : r.end < 131072
   pub within : PartOf l t isRecord base ext src r.rest
 
+-- what a search through a source for a span at the cursor gives: the first, or nothing
+abbrev pub Sought : List ℕ → List ℕ → Bool → ℕ → Bool → Source → ℕ → Option Hit → Type 0
+Sought l t isRecord base ext src c (Some r) = (r.end ≡ find (spans isRecord base ext (entries_of l t src)) c) × Found l t isRecord base ext src c r
+Sought l t isRecord base ext src c Nothing = find (spans isRecord base ext (entries_of l t src)) c ≡ 0
+
 -- the same where any span at the cursor will do
-pub record Hits (l t : List ℕ) (isRecord : Bool) (base : ℕ) (ext : Bool) (src : Source) (c : ℕ) (r : Hit) : Type 0 where
-  pub none : r.end ≡ 0 → None (spans isRecord base ext (entries_of l t src)) c
-  pub some : (r.end ≡ 0 → ⊥) → Has (spans isRecord base ext (entries_of l t src)) c r.end
-  pub small : r.end < 131072
-  pub within : PartOf l t isRecord base ext src r.rest
+abbrev pub Hits : List ℕ → List ℕ → Bool → ℕ → Bool → Source → ℕ → Option Hit → Type 0
+Hits l t isRecord base ext src c (Some r) = Found l t isRecord base ext src c r
+Hits l t isRecord base ext src c Nothing = None (spans isRecord base ext (entries_of l t src)) c

@@ -1,11 +1,10 @@
 -- Whether records and structs lie where they are looked for, and the number that they then give.
 -- Assumes nothing.
-use Rattle.std.specs.Prelude.{ℕ, zero, suc, ◌+◌, ◌*◌, ◌≡◌, Bool, true, false, ◌&&◌, cond, List, length, ltb, leb}
+use Rattle.std.specs.Prelude.{ℕ, zero, suc, ◌+◌, ◌*◌, ◌≡◌, Bool, true, false, ◌&&◌, cond, List, length, ltb, leb, Option, Some, None}
 use Rattle.numbers.specs.Numbers.{le16}
 use Rattle.layout.specs.LayoutOf.{D}
 use Rattle.rows_check.specs.Tree.{cell, next_section}
 use Rattle.item_rules.specs.declared.Place.{Place}
-use Rattle.item_rules.specs.declared.Reach.{Reach}
 use Rattle.item_rules.specs.Rules.{seqs_fault}
 use Rattle.item_rules.specs.Items.{column, kind_of, count_in, next_at, seqs_from, end_from}
 
@@ -31,10 +30,10 @@ module _ (isRecord : Bool) (l t : List ℕ) where
 unfoldable pub stands : List ℕ → List ℕ → Bool → Place → Bool
 stands l t isRecord p = stand_by isRecord l t p.rows p.at p.left
 
--- what is told of them: whether they lie there, and then where the last of them ends
-pub record Reached (l t : List ℕ) (isRecord : Bool) (p : Place) (r : Reach) : Type 0 where
-  pub is : r.stands ≡ stands l t isRecord p
-  pub end : r.stands ≡ true → r.at ≡ end_from l t isRecord p
+-- what is told of them: where the last of them ends, or nothing where one does not lie there
+abbrev pub Reached : List ℕ → List ℕ → Bool → Place → Option ℕ → Type 0
+Reached l t isRecord p (Some at) = (stands l t isRecord p ≡ true) × (at ≡ end_from l t isRecord p)
+Reached l t isRecord p None = stands l t isRecord p ≡ false
 
 -- ---- in rows
 

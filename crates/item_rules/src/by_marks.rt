@@ -38,7 +38,7 @@ fn mark_side(
     let mut left = src;
     let mut owner: u16 = 0;
     let mut top = start;
-    while 0 < left.count {
+    for _ in 0..src.count {
         let e = entries::entry_at(layout, rows, left);
         left = entries::rest(left);
         let x = fields::extent_of(frame, ext, e);
@@ -135,7 +135,7 @@ pub(crate) fn too_few(layout: &[u8], rows: &[u32], src: Source, frame: Frame, n:
         return true;
     }
     let mut left = src;
-    while 0 < left.count {
+    for _ in 0..src.count {
         let e = entries::entry_at(layout, rows, left);
         let x = fields::extent_of(frame, true, e);
         if n <= x.end {

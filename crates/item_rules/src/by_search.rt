@@ -1,5 +1,5 @@
 // Numbers 81 to 83: base entries tile 0 to base, extensions go on from it. Each time the entry at the cursor is searched for.
-ghost use Rattle.std.specs.Prelude.{◌≡◌, true, false, [], ◌<◌, ◌≤◌, length};
+ghost use Rattle.std.specs.Prelude.{◌≡◌, true, false, [], ◌<◌, ◌≤◌, length, IfSome};
 ghost use Rattle.item_rules.specs.Rules.{spans, base_fault, ext_fault, tiling_fault};
 ghost use Rattle.item_rules.specs.Entries.{entries_of, InSlice};
 ghost use Rattle.item_rules.specs.Engines.{Passed};
@@ -17,10 +17,7 @@ fn starts_here(frame: Frame, ext: bool, cursor: usize, e: [u8; 11]) -> bool
     ensures { result ≡ starts_here frame.is_record frame.base ext cursor e }
 {
     let x = fields::extent_of(frame, ext, e);
-    if x.other {
-        return false;
-    }
-    x.off == cursor
+    !x.other && x.off == cursor
 }
 
 // 1 for an entry of the side, else 0.
@@ -34,27 +31,34 @@ fn on_side(frame: Frame, ext: bool, e: [u8; 11]) -> usize
     1
 }
 
-// The end of the first entry of the side that starts at the cursor, or 0, and the entries after it.
-fn seek(layout: &[u8], rows: &[u32], src: Source, frame: Frame, ext: bool, cursor: usize) -> Hit
+// The first entry of the side that starts at the cursor.
+fn seek(
+    layout: &[u8],
+    rows: &[u32],
+    src: Source,
+    frame: Frame,
+    ext: bool,
+    cursor: usize,
+) -> Option<Hit>
     requires { InSlice layout.now rows.now src }
     ensures { Sought layout.now rows.now frame.is_record frame.base ext src cursor result }
 {
     let mut left = src;
-    while 0 < left.count {
+    for _ in 0..src.count {
         let e = entries::entry_at(layout, rows, left);
         if starts_here(frame, ext, cursor, e) {
             let x = fields::extent_of(frame, ext, e);
-            return Hit {
+            return Some(Hit {
                 end: x.end,
                 rest: entries::rest(left),
-            };
+            });
         }
         left = entries::rest(left);
     }
-    Hit { end: 0, rest: left }
+    None
 }
 
-// The same with the search begun at `from`, and then from the front, unless fewer looks are to spare than there are entries.
+// The same with the search begun at `from`, and then from the front; nothing where fewer looks are to spare than there are entries.
 fn seek_on(
     layout: &[u8],
     rows: &[u32],
@@ -64,33 +68,26 @@ fn seek_on(
     ext: bool,
     cursor: usize,
     spare: usize,
-) -> Turn
+) -> Option<Turn>
     requires in_slice { InSlice layout.now rows.now src }
     requires part_of { PartOf layout.now rows.now frame.is_record frame.base ext src from }
     requires proper { Proper (spans frame.is_record frame.base ext (entries_of layout.now rows.now src)) }
-    ensures { result.quit ≡ false → Hits layout.now rows.now frame.is_record frame.base ext src cursor result.hit }
+    ensures { IfSome result (λ turn. Hits layout.now rows.now frame.is_record frame.base ext src cursor turn.hit) }
 {
-    let near = seek(layout, rows, from, frame, ext, cursor);
-    if near.end != 0 {
-        return Turn {
-            quit: false,
-            hit: near,
+    if let Some(near) = seek(layout, rows, from, frame, ext, cursor) {
+        return Some(Turn {
+            hit: Some(near),
             spare,
-        };
+        });
     }
     if spare < src.count {
-        return Turn {
-            quit: true,
-            hit: near,
-            spare,
-        };
+        return None;
     }
-    let far = seek(layout, rows, src, frame, ext, cursor);
-    Turn {
-        quit: false,
-        hit: far,
+    let hit = seek(layout, rows, src, frame, ext, cursor);
+    Some(Turn {
+        hit,
         spare: spare - src.count,
-    }
+    })
 }
 
 // How many entries the side has.
@@ -100,7 +97,7 @@ fn count(layout: &[u8], rows: &[u32], src: Source, frame: Frame, ext: bool) -> u
 {
     let mut left = src;
     let mut k = 0;
-    while 0 < left.count {
+    for _ in 0..src.count {
         let e = entries::entry_at(layout, rows, left);
         k += on_side(frame, ext, e);
         left = entries::rest(left);
@@ -108,15 +105,8 @@ fn count(layout: &[u8], rows: &[u32], src: Source, frame: Frame, ext: bool) -> u
     k
 }
 
-// How far a chase went.
-fn chased(quit: bool, used: usize, cursor: usize) -> Chased
-    ensures { (result.quit ≡ quit) × ((result.used ≡ used) × (result.cursor ≡ cursor)) }
-{
-    Chased { quit, used, cursor }
-}
-
-// From end to end, until no entry of the side starts at the cursor, or until no looks are to spare. None starts at `stop`, where
-// the search is spared.
+// From end to end, until no entry of the side starts at the cursor; nothing where no looks are to spare. None starts at `stop`,
+// where the search is spared.
 fn chase(
     layout: &[u8],
     rows: &[u32],
@@ -126,32 +116,29 @@ fn chase(
     start: usize,
     stop: usize,
     spare: usize,
-) -> Chased
+) -> Option<Chased>
     requires in_slice { InSlice layout.now rows.now src }
     requires proper { Proper (spans frame.is_record frame.base ext (entries_of layout.now rows.now src)) }
     requires start_bound { start < 65536 }
     requires none { stop < 131072 → None (spans frame.is_record frame.base ext (entries_of layout.now rows.now src)) stop }
-    ensures { result.quit ≡ false → Chase (spans frame.is_record frame.base ext (entries_of layout.now rows.now src)) start result.used result.cursor }
+    ensures { IfSome result (λ far. Chase (spans frame.is_record frame.base ext (entries_of layout.now rows.now src)) start far.used far.cursor) }
 {
     let mut used: usize = 0;
     let mut cursor = start;
     let mut from = src;
     let mut looks = spare;
+    // How many turns there are is what is asked, so no count bounds them.
     while cursor != stop {
-        let turn = seek_on(layout, rows, src, from, frame, ext, cursor, looks);
-        if turn.quit {
-            return chased(true, used, cursor);
-        }
-        let hit = turn.hit;
-        if hit.end == 0 {
-            return chased(false, used, cursor);
-        }
+        let turn = seek_on(layout, rows, src, from, frame, ext, cursor, looks)?;
+        let Some(hit) = turn.hit else {
+            return Some(Chased { used, cursor });
+        };
         used += 1;
         cursor = hit.end;
         from = hit.rest;
         looks = turn.spare;
     }
-    chased(false, used, cursor)
+    Some(Chased { used, cursor })
 }
 
 // 81 and 82 of entries that passed 71 to 80, k of which are on the side of the base, or 0; or the search gave up.
@@ -162,10 +149,9 @@ fn base_fault(layout: &[u8], rows: &[u32], src: Source, frame: Frame, k: usize, 
     requires count { k ≡ length (spans frame.is_record frame.base false (entries_of layout.now rows.now src)) }
     ensures { Tried [] (base_fault frame.is_record frame.base (entries_of layout.now rows.now src)) result }
 {
-    let c = chase(layout, rows, src, frame, false, 0, frame.base, spare);
-    if c.quit {
+    let Some(c) = chase(layout, rows, src, frame, false, 0, frame.base, spare) else {
         return GAVE_UP;
-    }
+    };
     if c.used != k {
         return refusal::BASE_GAP;
     }
@@ -186,10 +172,9 @@ fn ext_fault(layout: &[u8], rows: &[u32], src: Source, frame: Frame, k: usize, s
     if k == 0 {
         return 0;
     }
-    let c = chase(layout, rows, src, frame, true, frame.base, NEVER, spare);
-    if c.quit {
+    let Some(c) = chase(layout, rows, src, frame, true, frame.base, NEVER, spare) else {
         return GAVE_UP;
-    }
+    };
     if c.used != k {
         return refusal::EXTENSION_GAP;
     }

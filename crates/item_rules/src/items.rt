@@ -6,10 +6,12 @@ ghost use Rattle.plain_tiling.specs.Places.{Unowned};
 ghost use Rattle.item_rules.specs.Tried.{Tried};
 ghost use Rattle.item_rules.specs.Entries.{InSlice};
 ghost use Rattle.item_rules.specs.Ids.{Clean};
+ghost use Rattle.codec.specs.Telling.{passed};
 ghost use Rattle.item_rules.specs.Items.{item_seq, seqs_from, Good, Ready, first_aligns, task_fault};
 
 use crate::sequence::seq_fault;
-use crate::{GAVE_UP, How, Item, Next, Place, Task, sequence, walk};
+use crate::{GAVE_UP, How, Item, Place, Task, sequence, walk};
+use refusal::Refusal;
 
 fn wide(x: u16) -> usize
     ensures { result ≡ x }
@@ -24,18 +26,12 @@ fn fill_aligns(sheet: &[u16; 520], layout: &[u8], rows: &[u32], place: Place, al
     ensures { aligns.new ≡ first_aligns sheet.now (seqs_from layout.now rows.now false place) }
 {
     let mut p = place;
-    let mut k = 0;
-    while k < aligns.len() {
-        match walk::next_item(layout, rows, false, p) {
-            Next::Found(item, after) => {
-                let src = item.entries;
-                let a = sequence::struct_align(sheet, layout, rows, src);
-                aligns[k] = a;
-                p = after;
-                k += 1;
-            }
-            Next::End => return,
-        }
+    for a in aligns.iter_mut() {
+        let Some((item, after)) = walk::next_item(layout, rows, false, p) else {
+            return;
+        };
+        *a = sequence::struct_align(sheet, layout, rows, item.entries);
+        p = after;
     }
 }
 
@@ -120,18 +116,15 @@ fn structs_fault(
 {
     let how = task.how;
     let mut p = task.structs;
-    loop {
-        match walk::next_item(layout, rows, false, p) {
-            Next::Found(item, after) => {
-                let v = struct_fault(sheet, aligns, layout, rows, item, how, marks, owners);
-                if v != 0 {
-                    return v;
-                }
-                p = after;
-            }
-            Next::End => return 0,
+    // Each item tells where the next one is.
+    while let Some((item, after)) = walk::next_item(layout, rows, false, p) {
+        let v = struct_fault(sheet, aligns, layout, rows, item, how, marks, owners);
+        if v != 0 {
+            return v;
         }
+        p = after;
     }
+    0
 }
 
 // The first number that a record gives, in table order, or 0.
@@ -152,21 +145,18 @@ fn records_fault(
     let mut rtypes = [0u64; 1024];
     let how = task.how;
     let mut p = task.records;
-    loop {
-        match walk::next_item(layout, rows, true, p) {
-            Next::Found(item, after) => {
-                let rtype = item.rtype;
-                let seen = marks::is_marked(&rtypes, rtype);
-                let v = record_fault(sheet, aligns, layout, rows, item, seen, how, marks, owners);
-                if v != 0 {
-                    return v;
-                }
-                marks::mark(&mut rtypes, rtype);
-                p = after;
-            }
-            Next::End => return 0,
+    // Each item tells where the next one is.
+    while let Some((item, after)) = walk::next_item(layout, rows, true, p) {
+        let rtype = item.rtype;
+        let seen = marks::is_marked(&rtypes, rtype);
+        let v = record_fault(sheet, aligns, layout, rows, item, seen, how, marks, owners);
+        if v != 0 {
+            return v;
         }
+        marks::mark(&mut rtypes, rtype);
+        p = after;
     }
+    0
 }
 
 // The rules, with room for the alignment of each struct.
@@ -211,18 +201,8 @@ fn rules_by(
     rules_in(sheet, layout, rows, task, &mut table[..n], owners)
 }
 
-fn rules_64(sheet: &[u16; 520], layout: &[u8], rows: &[u32], task: Task, owners: &mut [u16]) -> u32
-    requires ready { Ready layout.now rows.now task.structs task.records }
-    requires left_bound { min task.structs.left 65536 ≤ 64 }
-    requires unowned { Unowned owners.old }
-    ensures { Tried owners.old (task_fault sheet.now layout.now rows.now task) result }
-{
-    let mut table = [0u16; 64];
-    rules_by(sheet, layout, rows, task, &mut table, owners)
-}
-
-// The rules of at most 4,096 structs.
-fn rules_4096(
+// The rules, with room for the alignments of n structs; of 65,536 for any number of them, since no field names a later one.
+fn rules_of<const N: usize>(
     sheet: &[u16; 520],
     layout: &[u8],
     rows: &[u32],
@@ -230,27 +210,12 @@ fn rules_4096(
     owners: &mut [u16],
 ) -> u32
     requires ready { Ready layout.now rows.now task.structs task.records }
-    requires left_bound { min task.structs.left 65536 ≤ 4096 }
+    requires left_bound { min task.structs.left 65536 ≤ N }
+    requires small { N ≤ 65536 }
     requires unowned { Unowned owners.old }
     ensures { Tried owners.old (task_fault sheet.now layout.now rows.now task) result }
 {
-    let mut table = [0u16; 4096];
-    rules_by(sheet, layout, rows, task, &mut table, owners)
-}
-
-// The rules of any number of structs, with the alignments of the first 65,536: no field names a later one.
-fn rules_65536(
-    sheet: &[u16; 520],
-    layout: &[u8],
-    rows: &[u32],
-    task: Task,
-    owners: &mut [u16],
-) -> u32
-    requires ready { Ready layout.now rows.now task.structs task.records }
-    requires unowned { Unowned owners.old }
-    ensures { Tried owners.old (task_fault sheet.now layout.now rows.now task) result }
-{
-    let mut table = [0u16; 65536];
+    let mut table = [0u16; N];
     rules_by(sheet, layout, rows, task, &mut table, owners)
 }
 
@@ -262,9 +227,9 @@ fn rules_few(sheet: &[u16; 520], layout: &[u8], rows: &[u32], task: Task, owners
     ensures { Tried owners.old (task_fault sheet.now layout.now rows.now task) result }
 {
     if task.structs.left <= 64 {
-        return rules_64(sheet, layout, rows, task, owners);
+        return rules_of::<64>(sheet, layout, rows, task, owners);
     }
-    rules_4096(sheet, layout, rows, task, owners)
+    rules_of::<4096>(sheet, layout, rows, task, owners)
 }
 
 // The rules by search alone, or that it gave up.
@@ -310,13 +275,13 @@ fn rules_marked(sheet: &[u16; 520], layout: &[u8], rows: &[u32], task: Task) -> 
     if task.structs.left <= 4096 {
         return rules_few(sheet, layout, rows, task, &mut owners);
     }
-    rules_65536(sheet, layout, rows, task, &mut owners)
+    rules_of::<65536>(sheet, layout, rows, task, &mut owners)
 }
 
 // The rules of the structs and of the records. Where the task says so all of 81 to 83 are found by marks; else by search, and
 // by marks only for a record or a struct whose search gives up. Layouts of up to 4,096 structs whose search gives an answer, or
 // whose records and structs end below place 8,192 where the task says so, pay nothing for the large frames.
-pub(crate) fn rules(sheet: &[u16; 520], layout: &[u8], rows: &[u32], task: Task) -> u32
+fn first_number(sheet: &[u16; 520], layout: &[u8], rows: &[u32], task: Task) -> u32
     requires { Ready layout.now rows.now task.structs task.records }
     ensures { result ≡ (task_fault sheet.now layout.now rows.now task) }
 {
@@ -327,4 +292,21 @@ pub(crate) fn rules(sheet: &[u16; 520], layout: &[u8], rows: &[u32], task: Task)
         }
     }
     rules_marked(sheet, layout, rows, task)
+}
+
+// The same, as a refusal, which is about no byte.
+pub(crate) fn rules(
+    sheet: &[u16; 520],
+    layout: &[u8],
+    rows: &[u32],
+    task: Task,
+) -> Result<(), Refusal>
+    requires { Ready layout.now rows.now task.structs task.records }
+    ensures { result ≡ passed (task_fault sheet.now layout.now rows.now task) }
+{
+    let number = first_number(sheet, layout, rows, task);
+    if number == 0 {
+        return Ok(());
+    }
+    Err(Refusal { number, place: 0 })
 }

@@ -1,5 +1,5 @@
 // One record or struct: its alignment, and numbers 71 to 83.
-ghost use Rattle.std.specs.Prelude.{◌≡◌, true, false, cond, [], ◌<◌, ◌≤◌, max, eqb};
+ghost use Rattle.std.specs.Prelude.{◌≡◌, ◌≢◌, true, false, cond, [], ◌<◌, ◌≤◌, max, eqb, OnOk, IfOk, IfErr, IfSome};
 ghost use Rattle.marks.specs.Marks.{Marks, Only};
 ghost use Rattle.item_rules.specs.Rules.{struct_align, fields_fault, tiling_fault, seq_fault, judged};
 ghost use Rattle.item_rules.specs.Engines.{Passed};
@@ -7,9 +7,9 @@ ghost use Rattle.plain_tiling.specs.Places.{Unowned};
 ghost use Rattle.item_rules.specs.Tried.{Tried};
 ghost use Rattle.item_rules.specs.Entries.{entries_of, InSlice};
 ghost use Rattle.item_rules.specs.InOrder.{InTurn, Onward};
-ghost use Rattle.item_rules.specs.Ids.{ids_of, noted_marks, OnlyIds, Clean};
+ghost use Rattle.item_rules.specs.Ids.{ids_of, noted_marks, Clean};
 
-use crate::{Course, GAVE_UP, How, Item, Source, Walked, by_marks, by_search, entries, walk};
+use crate::{Course, GAVE_UP, How, Item, Source, by_marks, by_search, entries, walk};
 use fields::Frame;
 
 fn larger(a: u16, b: u16) -> u16
@@ -25,7 +25,7 @@ pub(crate) fn struct_align(sheet: &[u16; 520], layout: &[u8], rows: &[u32], src:
 {
     let mut left = src;
     let mut a: u16 = 1;
-    while 0 < left.count {
+    for _ in 0..src.count {
         let e = entries::entry_at(layout, rows, left);
         let c = fields::class_of(sheet, e);
         a = larger(a, c.align);
@@ -64,19 +64,8 @@ fn onward(frame: Frame, so: Course, e: [u8; 11]) -> Course
     }
 }
 
-// What a walk tells.
-fn walked(fault: u32, in_order: bool, end: usize) -> Walked
-    ensures { (result.fault ≡ fault) × ((result.in_order ≡ in_order) × (result.end ≡ end)) }
-{
-    Walked {
-        fault,
-        in_order,
-        end,
-    }
-}
-
-// The first of rules 71 to 80 that an entry breaks, in order, or 0; whether the entries of either side stand in order, and where the last
-// of the base then ends. The ids are marked, and no others.
+// The first of rules 71 to 80 that an entry breaks, in order; or where the last of the base ends, if the entries of either side stand
+// in order, and then the ids are marked, and no others.
 fn fields_fault(
     sheet: &[u16; 520],
     aligns: &[u16],
@@ -85,12 +74,13 @@ fn fields_fault(
     src: Source,
     frame: Frame,
     marks: &mut [u64; 1024],
-) -> Walked
+) -> Result<Option<usize>, u32>
     requires in_slice { InSlice layout.now rows.now src }
     requires marks { Marks marks.old [] }
-    ensures fault { result.fault ≡ fields_fault sheet.now frame.width frame.labels aligns.now frame.is_record frame.base [] (entries_of layout.now rows.now src) }
-    ensures only_ids { OnlyIds result.fault (entries_of layout.now rows.now src) marks.new }
-    ensures in_turn { result.in_order ≡ true → InTurn frame.is_record frame.base 0 frame.base (entries_of layout.now rows.now src) result.end }
+    ensures sound { OnOk result (fields_fault sheet.now frame.width frame.labels aligns.now frame.is_record frame.base [] (entries_of layout.now rows.now src) ≡ 0) }
+    ensures broken { IfErr result (λ k. (k ≡ fields_fault sheet.now frame.width frame.labels aligns.now frame.is_record frame.base [] (entries_of layout.now rows.now src)) × (k ≢ 0)) }
+    ensures only_ids { OnOk result (Only marks.new (ids_of (entries_of layout.now rows.now src))) }
+    ensures in_turn { IfOk result (λ in_order. IfSome in_order (λ end. InTurn frame.is_record frame.base 0 frame.base (entries_of layout.now rows.now src) end)) }
 {
     let mut left = src;
     let mut so = Course {
@@ -98,19 +88,21 @@ fn fields_fault(
         cursor: 0,
         beyond: frame.base,
     };
-    while 0 < left.count {
+    for _ in 0..src.count {
         let e = entries::entry_at(layout, rows, left);
         let c = fields::class_of(sheet, e);
         let seen = marks::is_marked(marks, c.id);
-        let v = fields::check_field(sheet, aligns, frame, seen, e);
-        if v != 0 {
-            return walked(v, false, 0);
+        if let Some(number) = fields::check_field(sheet, aligns, frame, seen, e) {
+            return Err(number);
         }
         note(sheet, marks, e);
         so = onward(frame, so, e);
         left = entries::rest(left);
     }
-    walked(0, so.in_order, so.cursor)
+    if so.in_order {
+        return Ok(Some(so.cursor));
+    }
+    Ok(None)
 }
 
 // Clears the marks of the entries' ids.
@@ -120,7 +112,7 @@ fn wipe_ids(sheet: &[u16; 520], layout: &[u8], rows: &[u32], src: Source, marks:
     ensures { Marks marks.new [] }
 {
     let mut left = src;
-    while 0 < left.count {
+    for _ in 0..src.count {
         let e = entries::entry_at(layout, rows, left);
         let c = fields::class_of(sheet, e);
         marks::wipe(marks, c.id);
@@ -206,14 +198,14 @@ pub(crate) fn seq_fault(
         width: how.width,
         labels: how.labels,
     };
-    let a = fields_fault(sheet, aligns, layout, rows, src, frame, marks);
-    if a.fault != 0 {
-        return a.fault;
-    }
+    let in_order = match fields_fault(sheet, aligns, layout, rows, src, frame, marks) {
+        Ok(in_order) => in_order,
+        Err(number) => return number,
+    };
     wipe_ids(sheet, layout, rows, src, marks);
     if !how.by_marks {
-        if a.in_order {
-            return unfilled(a.end, frame.base);
+        if let Some(end) = in_order {
+            return unfilled(end, frame.base);
         }
     }
     tiling(layout, rows, src, frame, how.by_marks, owners)

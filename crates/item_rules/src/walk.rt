@@ -5,7 +5,7 @@ ghost use Rattle.rows_check.specs.Tree.{cell};
 ghost use Rattle.item_rules.specs.Items.{column, section_item, SectionInside, fields_in, row_item, RowInside, item_at, next_at, InsideAt, Good, Stepped};
 ghost use Rattle.item_rules.specs.Standing.{section_lies, row_lies, lies_at, Reached};
 
-use crate::{Item, Next, Place, Reach, Source};
+use crate::{Item, Place, Source};
 
 // The u16 at `at`.
 pub(crate) fn half(s: &[u8], at: usize) -> usize
@@ -143,13 +143,18 @@ fn next_at(layout: &[u8], rows: &[u32], is_record: bool, in_rows: bool, at: usiz
     at + half(layout, at)
 }
 
-// The next record, where `is_record` holds, or the next struct.
-pub(crate) fn next_item(layout: &[u8], rows: &[u32], is_record: bool, place: Place) -> Next
+// The next record, where `is_record` holds, or the next struct; and what comes after it.
+pub(crate) fn next_item(
+    layout: &[u8],
+    rows: &[u32],
+    is_record: bool,
+    place: Place,
+) -> Option<(Item, Place)>
     requires { Good layout.now rows.now is_record place }
     ensures { Stepped layout.now rows.now is_record place result }
 {
     if place.left == 0 {
-        return Next::End;
+        return None;
     }
     let in_rows = place.rows;
     let at = place.at;
@@ -159,7 +164,7 @@ pub(crate) fn next_item(layout: &[u8], rows: &[u32], is_record: bool, place: Pla
         at: next_at(layout, rows, is_record, in_rows, at),
         left: place.left - 1,
     };
-    Next::Found(item, after)
+    Some((item, after))
 }
 
 // Whether the section at `at` and its fields lie in the layout's bytes.
@@ -208,23 +213,17 @@ fn lies(layout: &[u8], rows: &[u32], is_record: bool, in_rows: bool, at: usize) 
     section_lies(layout, is_record, at)
 }
 
-// Whether all of them lie in their slice, and the place after the last.
-pub(crate) fn reach(layout: &[u8], rows: &[u32], is_record: bool, place: Place) -> Reach
+// The place after the last of them, where all of them lie in their slice.
+pub(crate) fn reach(layout: &[u8], rows: &[u32], is_record: bool, place: Place) -> Option<usize>
     ensures { Reached layout.now rows.now is_record place result }
 {
     let in_rows = place.rows;
     let mut at = place.at;
-    let mut left = place.left;
-    while 0 < left {
-        if lies(layout, rows, is_record, in_rows, at) {
-            at = next_at(layout, rows, is_record, in_rows, at);
-            left -= 1;
-        } else {
-            return Reach {
-                stands: false,
-                at: 0,
-            };
+    for _ in 0..place.left {
+        if !lies(layout, rows, is_record, in_rows, at) {
+            return None;
         }
+        at = next_at(layout, rows, is_record, in_rows, at);
     }
-    Reach { stands: true, at }
+    Some(at)
 }

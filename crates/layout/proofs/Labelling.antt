@@ -1,4 +1,5 @@
 -- The walks over labels: the one that marks their codes, and the one that wipes the marks. Assumes nothing.
+use Rattle.std.specs.Prelude.{Ok, Err}
 use Prim.Native.Nat.{ℕ, suc, ◌+◌, ◌-◌, ◌≤◌, ◌<◌}
 use mathlib.Core.Path.{◌≡◌, refl, sym, ap, ◌∙◌, subst}
 use mathlib.Core.Bool.{Bool, true, false, ◌||◌}
@@ -10,14 +11,12 @@ use Rattle.table.specs.Table.{put_row}
 use Rattle.codec.specs.Codec.{among}
 use Rattle.marks.specs.Marks.{wiped, Marks, Only}
 use Rattle.marks.specs.MarkLaws.{only_next, only_end}
-use Rattle.numbers.specs.Numbers.{le16, u16_at}
+use Rattle.numbers.specs.Numbers.{le16, u16_at, Got}
 use Rattle.wire.specs.Formats.{Tests}
 use Rattle.wire.specs.Reader.{name_at}
 use Rattle.numbers.specs.NumberLaws.{u16-value}
 use Rattle.wire.proofs.NameLaws.{name-place}
 use Rattle.table.specs.ReadingLaws.{Going}
-use Rattle.numbers.specs.declared.Got.{Got}
-use Rattle.numbers.specs.declared.Got.TheVariants.{Value, Refused}
 use Rattle.layout.specs.Reader.{labels_at}
 use Rattle.layout.specs.Labels.{Cleared, Walk, done, more, Codes}
 
@@ -91,7 +90,7 @@ pub record Labelling (light : Bool) (base : ℕ) (s : List ℕ) (at count n : �
   pub trail : Trail s count at todo p seen
 
 -- what one label more tells
-pub label-place : (tests : Tests) (s : List ℕ) (p : ℕ) {code q len e : ℕ} → u16_at s p ≡ Value code q → name_at tests s q ≡ Value len e → e ≤ length s
+pub label-place : (tests : Tests) (s : List ℕ) (p : ℕ) {code q len e : ℕ} → u16_at s p ≡ Ok (code, q) → name_at tests s q ≡ Ok (len, e) → e ≤ length s
     → (code ≡ le16 s p) × (e ≡ p + 4 + get_or s (p + 2) 0)
 label-place tests s p {code} {q} {len} {e} x y l =
     let a = u16-value s p x in
@@ -102,8 +101,8 @@ label-place tests s p {code} {q} {len} {e} x y l =
 
 -- marks that no label left
 pub cleared_any : (r : Got) {ws : List ℕ} → Marks ws [] → Cleared r ws
-cleared_any (Value v p) m = m
-cleared_any (Refused k) m = tt
+cleared_any (Ok (v, p)) m = m
+cleared_any (Err k) m = tt
 
-pub cleared_at : {r : Got} {ws : List ℕ} {v p : ℕ} → Cleared r ws → r ≡ Value v p → Marks ws []
+pub cleared_at : {r : Got} {ws : List ℕ} {v p : ℕ} → Cleared r ws → r ≡ Ok (v, p) → Marks ws []
 cleared_at {ws = ws} h e = subst (λ (r : Got). Cleared r ws) e h

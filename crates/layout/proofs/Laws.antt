@@ -1,4 +1,5 @@
 -- The layout's formats, as the code meets them. Assumes nothing.
+use Rattle.std.specs.Prelude.{Ok, Err}
 use Prim.Native.Nat.{ℕ, zero, suc, ◌^◌, ◌+◌, ◌-◌, ◌/◌, ◌%◌, ◌≤◌, ◌<◌, zero-le}
 use mathlib.Core.Path.{◌≡◌, refl, sym, ap, ap₂, ◌∙◌}
 use mathlib.Core.List.{List, [], ◌∷◌, ◌++◌, map}
@@ -19,14 +20,12 @@ use Rattle.codec.proofs.PlaceLaws.{within-is, within-then}
 use Rattle.wire.specs.Formats
 use Rattle.wire.specs.Formats.{Name, Tests}
 use Rattle.wire.specs.Reader.{tests_of, name_by, name_at, section_at}
-use Rattle.numbers.specs.Numbers.{take_at, u16_at, part, le16, le32, le64}
+use Rattle.numbers.specs.Numbers.{take_at, u16_at, part, le16, le32, le64, Got}
 use Rattle.numbers.specs.NumberLaws.{take-value, take-refused, num-is, u16-is, u64-is}
 use Rattle.wire.proofs.NameLaws.{name-ok, name-no}
 use Rattle.table.specs.Table.{Out, said, row, seq, on_got, all_rows}
 use Rattle.table.specs.StepLaws.{items_end, items_row, items_no, both, both-seq, said-named, count-row, said-num, seq-same}
 use Rattle.wire.proofs.StepLaws.{said-name, parts-end, parts-run, parts-no}
-use Rattle.numbers.specs.declared.Got.{Got}
-use Rattle.numbers.specs.declared.Got.TheVariants.{Value, Refused}
 use Rattle.layout.specs.Layout
 use Rattle.layout.specs.Layout.{Entry, Fields, RecordL, StructL, Label, LabelDef, to_record, to_struct, to_label_def}
 use Rattle.layout.specs.LayoutOf
@@ -38,23 +37,23 @@ use Rattle.layout.specs.Reader.{entries_at, names_at, fields_at, record_head, re
 
 -- a record's own numbers: the first that does not fit is refused
 module _ (s : List ℕ) where
-  pub head_ok : 14 ≤ length s → Value 14 14 ≡ record_head s
+  pub head_ok : 14 ≤ length s → Ok (14, 14) ≡ record_head s
   unfolding record_head ◌then◌
   head_ok h = rw (num_got 50 2 0 s 0 (omega arith), num_got 50 2 0 s 2 (omega arith), num_got 50 2 0 s 4 (omega arith), num_got 50 8 0 s 6 (omega arith))
 
-  pub head_0 : length s < 2 → Refused (refusal 50 0) ≡ record_head s
+  pub head_0 : length s < 2 → Err (refusal 50 0) ≡ record_head s
   unfolding record_head ◌then◌
   head_0 h = rw (num-bad 50 2 0 s 0 (omega arith))
 
-  pub head_2 : 2 ≤ length s → length s < 4 → Refused (refusal 50 2) ≡ record_head s
+  pub head_2 : 2 ≤ length s → length s < 4 → Err (refusal 50 2) ≡ record_head s
   unfolding record_head ◌then◌
   head_2 h h2 = rw (num_got 50 2 0 s 0 (omega arith), num-bad 50 2 0 s 2 (omega arith))
 
-  pub head_4 : 4 ≤ length s → length s < 6 → Refused (refusal 50 4) ≡ record_head s
+  pub head_4 : 4 ≤ length s → length s < 6 → Err (refusal 50 4) ≡ record_head s
   unfolding record_head ◌then◌
   head_4 h h4 = rw (num_got 50 2 0 s 0 (omega arith), num_got 50 2 0 s 2 (omega arith), num-bad 50 2 0 s 4 (omega arith))
 
-  pub head_6 : 6 ≤ length s → length s < 14 → Refused (refusal 50 6) ≡ record_head s
+  pub head_6 : 6 ≤ length s → length s < 14 → Err (refusal 50 6) ≡ record_head s
   unfolding record_head ◌then◌
   head_6 h h6 = rw (num_got 50 2 0 s 0 (omega arith), num_got 50 2 0 s 2 (omega arith), num_got 50 2 0 s 4 (omega arith), num-bad 50 8 0 s 6 (omega arith))
 
@@ -102,7 +101,7 @@ module _ (light : Bool) where
 
   -- an entry of D bytes
   module _ (base : ℕ) (s : List ℕ) (at : ℕ) where
-    pub entry-ok : {v p : ℕ} → take_at 50 D s at ≡ Value v p → (x : Entry) × (Entry'.parse base s at ≡ ok x p) × (entry_row x ≡ head_row (entry_bytes s at))
+    pub entry-ok : {v p : ℕ} → take_at 50 D s at ≡ Ok (v, p) → (x : Entry) × (Entry'.parse base s at ≡ ok x p) × (entry_row x ≡ head_row (entry_bytes s at))
     unfolding Layout.entry named padded
     entry-ok {v} {p} e =
         let w = take-value 50 D s at e in
@@ -115,7 +114,7 @@ module _ (light : Bool) where
           ap head_row (take-take 11 (11 + (D - 11)) (drop at s) (omega arith) ∙ sym (bytes_11 s at l)),
         )
 
-    pub entry-no : {k : Refusal} → take_at 50 D s at ≡ Refused k → Entry'.parse base s at ≡ refuse k
+    pub entry-no : {k : Refusal} → take_at 50 D s at ≡ Err k → Entry'.parse base s at ≡ refuse k
     unfolding Layout.entry named padded
     entry-no {k} e =
         let (x, h) = take-refused 50 D s at e in
@@ -126,13 +125,13 @@ module _ (light : Bool) where
   unfolding entries_at
   entries-end base n s at h = items_end Entry' entry_row base s n at h
 
-  pub entries-row : (base n : ℕ) (s : List ℕ) (at : ℕ) {d v p : ℕ} → d ≡ D → 0 < n → take_at 50 d s at ≡ Value v p → entries_at light base n s at ≡ row (head_row (entry_bytes s at)) (entries_at light base (n - 1) s p)
+  pub entries-row : (base n : ℕ) (s : List ℕ) (at : ℕ) {d v p : ℕ} → d ≡ D → 0 < n → take_at 50 d s at ≡ Ok (v, p) → entries_at light base n s at ≡ row (head_row (entry_bytes s at)) (entries_at light base (n - 1) s p)
   unfolding entries_at
   entries-row base n s at {d} {v} {p} q h e =
       let (x, e1, e2) = entry-ok base s at (rw q at e) in
       items_row Entry' entry_row base s n at h e1 ∙ ap (λ r. row r (said (map entry_row) (times_parse Entry' (n - 1) base s p))) e2
 
-  pub entries-no : (base n : ℕ) (s : List ℕ) (at : ℕ) {d : ℕ} {k : Refusal} → d ≡ D → 0 < n → take_at 50 d s at ≡ Refused k → entries_at light base n s at ≡ refuse k
+  pub entries-no : (base n : ℕ) (s : List ℕ) (at : ℕ) {d : ℕ} {k : Refusal} → d ≡ D → 0 < n → take_at 50 d s at ≡ Err k → entries_at light base n s at ≡ refuse k
   unfolding entries_at
   entries-no base n s at q h e = items_no Entry' entry_row base s n at h (entry-no base s at (rw q at e))
 
@@ -140,13 +139,13 @@ module _ (light : Bool) where
   unfolding names_at
   names-end base n s at h = items_end (name_by T) name_row base s n at h
 
-  pub names-row : (base n : ℕ) (s : List ℕ) (at : ℕ) {len p : ℕ} → 0 < n → name_at T s at ≡ Value len p → names_at light base n s at ≡ row (row12 (base + (at + 1)) len) (names_at light base (n - 1) s p)
+  pub names-row : (base n : ℕ) (s : List ℕ) (at : ℕ) {len p : ℕ} → 0 < n → name_at T s at ≡ Ok (len, p) → names_at light base n s at ≡ row (row12 (base + (at + 1)) len) (names_at light base (n - 1) s p)
   unfolding names_at
   names-row base n s at {len} {p} h e =
       let (x, e1, e2, e3) = name-ok T base s at e in
       items_row (name_by T) name_row base s n at h e1 ∙ ap₂ (λ a l. row (row12 a l) (said (map name_row) (times_parse (name_by T) (n - 1) base s p))) e2 e3
 
-  pub names-no : (base n : ℕ) (s : List ℕ) (at : ℕ) {k : Refusal} → 0 < n → name_at T s at ≡ Refused k → names_at light base n s at ≡ refuse k
+  pub names-no : (base n : ℕ) (s : List ℕ) (at : ℕ) {k : Refusal} → 0 < n → name_at T s at ≡ Err k → names_at light base n s at ≡ refuse k
   unfolding names_at
   names-no base n s at h e = items_no (name_by T) name_row base s n at h (name-no T base s at e)
 
@@ -155,14 +154,14 @@ module _ (light : Bool) where
   abbrev fields_to : List Entry × List Name → Fields
   fields_to z = record { entries = z.0; names = z.1 }
 
-  pub fields-ok : (base : ℕ) (s : List ℕ) (at : ℕ) {count p : ℕ} → u16_at s at ≡ Value count p → fields_at light base s at ≡ seq (entries_at light base count s p) (λ q. names_at light base count s q)
+  pub fields-ok : (base : ℕ) (s : List ℕ) (at : ℕ) {count p : ℕ} → u16_at s at ≡ Ok (count, p) → fields_at light base s at ≡ seq (entries_at light base count s p) (λ q. names_at light base count s q)
   unfolding fields_at entries_at names_at Layout.fields named sized ◌then◌ times
   fields-ok base s at {count} {p} e =
       let r : Res (List Entry) = times_parse Entry' count base s p in
       let g : ℕ → Res (List Name) = λ q. times_parse (name_by T) count base s q in
       rw (num-is 50 2 s at base, e) (said-named field_rows fields_to (both r g) ∙ both-seq (map entry_row) (map name_row) r g)
 
-  pub fields-no : (base : ℕ) (s : List ℕ) (at : ℕ) {k : Refusal} → u16_at s at ≡ Refused k → fields_at light base s at ≡ refuse k
+  pub fields-no : (base : ℕ) (s : List ℕ) (at : ℕ) {k : Refusal} → u16_at s at ≡ Err k → fields_at light base s at ≡ refuse k
   unfolding fields_at Layout.fields named sized
   fields-no base s at e = rw (num-is 50 2 s at base, e)
 
@@ -178,7 +177,7 @@ module _ (light : Bool) where
         let q : (x, y) ≡ z = cc in
         ap (λ w. length w.0) (sym q) ∙ times-length Entry' base s n p x m e1
 
-    pairs_said : {count p : ℕ} → u16_at s at ≡ Value count p → fields_at light base s at ≡ said (λ z. field_rows (fields_to z)) (pairs_at count p)
+    pairs_said : {count p : ℕ} → u16_at s at ≡ Ok (count, p) → fields_at light base s at ≡ said (λ z. field_rows (fields_to z)) (pairs_at count p)
     unfolding fields_at Layout.fields named sized ◌then◌ times
     pairs_said {count} {p} e = rw (num-is 50 2 s at base, e) (said-named field_rows fields_to (pairs_at count p))
 
@@ -190,8 +189,8 @@ module _ (light : Bool) where
         ∙ go (u16_at s at) refl
       where
         go : (g : Got) → u16_at s at ≡ g → on_got g (λ count p. row (h count) (said (λ z. field_rows (fields_to z)) (pairs_at count p))) ≡ on_got g (λ count _. row (h count) (fields_at light base s at))
-        go (Value count p) e = ap (row (h count)) (sym (pairs_said e))
-        go (Refused k) e = refl
+        go (Ok (count, p)) e = ap (row (h count)) (sym (pairs_said e))
+        go (Err k) e = refl
 
   -- a name and fields after what h tells
   module _ {A : Type 0} (f : A → List (List ℕ)) (to : Name × Fields → A) (h : ℕ → ℕ → ℕ → List ℕ)
@@ -307,7 +306,7 @@ module _ (light : Bool) where
         (λ d. rw (b, d) (parts-end (Layout.struct_body T D) to_struct _ struct_rows (λ x r. refl) s n at h))
         (λ d. rw (b, d) (parts-end (Layout.label_body T) to_label_def _ label_def_rows (λ x r. refl) s n at h)))
 
-    pub sections-run : {b e : ℕ} → 0 < n → section_at s at ≡ Value b e → sections_at light kind n s at ≡ seq (shifted b (body_of light kind b (part s b e))) (λ _. sections_at light kind (n - 1) s e)
+    pub sections-run : {b e : ℕ} → 0 < n → section_at s at ≡ Ok (b, e) → sections_at light kind n s at ≡ seq (shifted b (body_of light kind b (part s b e))) (λ _. sections_at light kind (n - 1) s e)
     unfolding sections_at body_of record_body struct_body label_body Layout.record_l Layout.struct_l Layout.label_def
     sections-run h q =
         by_bool (eqb kind 0)
@@ -316,7 +315,7 @@ module _ (light : Bool) where
         (λ d. rw (b, d) (parts-run (Layout.struct_body T D) to_struct _ struct_rows (λ x r. refl) s n at h q))
         (λ d. rw (b, d) (parts-run (Layout.label_body T) to_label_def _ label_def_rows (λ x r. refl) s n at h q)))
 
-    pub sections-no : {k : Refusal} → 0 < n → section_at s at ≡ Refused k → sections_at light kind n s at ≡ refuse k
+    pub sections-no : {k : Refusal} → 0 < n → section_at s at ≡ Err k → sections_at light kind n s at ≡ refuse k
     unfolding sections_at Layout.record_l Layout.struct_l Layout.label_def
     sections-no h q =
         by_bool (eqb kind 0)
@@ -356,15 +355,15 @@ module _ (light : Bool) where
   -- ---- labels, after labels of the codes `seen`
 
   module _ (base : ℕ) (s : List ℕ) (at : ℕ) where
-    label-no : {j : Refusal} → u16_at s at ≡ Refused j → Label'.parse base s at ≡ refuse j
+    label-no : {j : Refusal} → u16_at s at ≡ Err j → Label'.parse base s at ≡ refuse j
     unfolding Layout.label named ◌then◌
     label-no e = rw (num-is 50 2 s at base, e)
 
-    label_no2 : {code p : ℕ} {j : Refusal} → u16_at s at ≡ Value code p → name_at T s p ≡ Refused j → Label'.parse base s at ≡ refuse j
+    label_no2 : {code p : ℕ} {j : Refusal} → u16_at s at ≡ Ok (code, p) → name_at T s p ≡ Err j → Label'.parse base s at ≡ refuse j
     unfolding Layout.label named ◌then◌
     label_no2 {code} {p} e f = rw (num-is 50 2 s at base, e, name-no T base s p f)
 
-    label-ok : {code p len q : ℕ} → u16_at s at ≡ Value code p → name_at T s p ≡ Value len q
+    label-ok : {code p len q : ℕ} → u16_at s at ≡ Ok (code, p) → name_at T s p ≡ Ok (len, q)
         → (x : Label) × (Label'.parse base s at ≡ ok x q) × (x.code ≡ code) × (label_row x ≡ row15 (base + (p + 1)) len code)
     unfolding Layout.label named ◌then◌
     label-ok {code} {p} {len} {q} e f =
@@ -377,24 +376,24 @@ module _ (light : Bool) where
     labels-end zero s at h = refl
     labels-end (suc n) s at h = let z : ⊥ = omega arith in absurd z
 
-    pub labels-no : (n : ℕ) (s : List ℕ) (at : ℕ) {j : Refusal} → 0 < n → u16_at s at ≡ Refused j → labels_at light base seen n s at ≡ refuse j
+    pub labels-no : (n : ℕ) (s : List ℕ) (at : ℕ) {j : Refusal} → 0 < n → u16_at s at ≡ Err j → labels_at light base seen n s at ≡ refuse j
     unfolding labels_at
     labels-no zero s at h e = let z : ⊥ = omega arith in absurd z
     labels-no (suc n) s at h e = rw (label-no base s at e)
 
-    pub labels_no2 : (n : ℕ) (s : List ℕ) (at : ℕ) {code p : ℕ} {j : Refusal} → 0 < n → u16_at s at ≡ Value code p → name_at T s p ≡ Refused j → labels_at light base seen n s at ≡ refuse j
+    pub labels_no2 : (n : ℕ) (s : List ℕ) (at : ℕ) {code p : ℕ} {j : Refusal} → 0 < n → u16_at s at ≡ Ok (code, p) → name_at T s p ≡ Err j → labels_at light base seen n s at ≡ refuse j
     unfolding labels_at
     labels_no2 zero s at h e f = let z : ⊥ = omega arith in absurd z
     labels_no2 (suc n) s at h e f = rw (label_no2 base s at e f)
 
-    pub labels_55 : (n : ℕ) (s : List ℕ) (at : ℕ) {code p len q : ℕ} → 0 < n → u16_at s at ≡ Value code p → name_at T s p ≡ Value len q → among code seen ≡ true → labels_at light base seen n s at ≡ refuse (refusal 55 at)
+    pub labels_55 : (n : ℕ) (s : List ℕ) (at : ℕ) {code p len q : ℕ} → 0 < n → u16_at s at ≡ Ok (code, p) → name_at T s p ≡ Ok (len, q) → among code seen ≡ true → labels_at light base seen n s at ≡ refuse (refusal 55 at)
     unfolding labels_at
     labels_55 zero s at h e f g = let z : ⊥ = omega arith in absurd z
     labels_55 (suc n) s at h e f g =
         let (x, e1, e2, e3) = label-ok base s at e f in
         rw (e1, e2, g)
 
-    pub labels-row : (n : ℕ) (s : List ℕ) (at : ℕ) {code p len q : ℕ} → 0 < n → u16_at s at ≡ Value code p → name_at T s p ≡ Value len q → among code seen ≡ false →
+    pub labels-row : (n : ℕ) (s : List ℕ) (at : ℕ) {code p len q : ℕ} → 0 < n → u16_at s at ≡ Ok (code, p) → name_at T s p ≡ Ok (len, q) → among code seen ≡ false →
         labels_at light base seen n s at ≡ row (row15 (base + (p + 1)) len code) (labels_at light base (code ∷ seen) (n - 1) s q)
     unfolding labels_at
     labels-row zero s at h e f g = let z : ⊥ = omega arith in absurd z

@@ -5,29 +5,26 @@ use mathlib.Core.List.{List, ◌++◌, append_assoc}
 use native.Mathlib.Nat.{zero-add}
 use native.Mathlib.Omega.{arith}
 use lib.ListN.{length, drop}
+use Rattle.std.specs.Prelude.{Ok, Err}
 use borrow.Author.Tests.{le-leb, lt-leb}
 use Rattle.refusal.specs.declared.Refusal.{Refusal}
 use Rattle.codec.specs.Codec.{◌then◌, Res, ok, refuse, refusal, ◌>>=◌, whole}
 use Rattle.codec.specs.CaseLaws.{by_le}
 use mathlib.Core.Bool.{Bool}
 use Rattle.wire.specs.Reader.{tests_of}
-use Rattle.numbers.specs.Numbers.{u16_at}
-use Rattle.numbers.specs.NumberLaws.{num-is, u16-value}
+use Rattle.numbers.specs.Numbers.{u16_at, Got}
+use Rattle.numbers.specs.NumberLaws.{num-is, u16-value, same_got}
 use Rattle.table.specs.Table.{put_row, said, answer, fill, Fills, Ran, all_rows}
 use Rattle.table.proofs.TableLaws.{fill-rows}
-use Rattle.numbers.specs.declared.Got.{Got}
-use Rattle.numbers.specs.declared.Got.TheVariants.{Value}
-use Rattle.numbers.specs.declared.Got.TheVariants as Got'
 use Rattle.layout.specs.Layout
 use Rattle.layout.specs.Layout.{Layout, RecordL, StructL, LabelDef, to_layout}
 use Rattle.layout.specs.LayoutOf.{D, layout_by}
 use Rattle.layout.specs.Rows.{rows, record_rows, struct_rows, label_def_rows}
 use Rattle.layout.specs.Reader.{groups_at}
-use Rattle.layout.specs.Answers.{Answers, verdict, judge, leave}
+use Rattle.layout.specs.Answers.{accepted, Answers, verdict, judge, leave}
+use Rattle.layout.specs.declared.ReadError.TheVariants.{Refused, Short}
+use Rattle.layout.specs.AnswerLaws.{accepted-same}
 use Rattle.layout.specs.ReadLaws.{rows-nine}
-use Rattle.layout.specs.declared.Verdict.TheVariants.{Accepted}
-use Rattle.layout.specs.declared.Verdict.TheVariants as Verdict'
-use Rattle.layout.specs.declared.Answer.TheVariants.{Read, Short, Refused}
 
 abbrev Groups : Type 0
 Groups = List RecordL × (List StructL × List LabelDef)
@@ -51,11 +48,11 @@ module _ (light : Bool) where
   layout_13 l h = rw (lt-leb (length l) 4294967295 h)
 
   module _ (l : List ℕ) (h : length l ≤ 4294967295) where
-    pub layout-no : {k : Refusal} → u16_at l 0 ≡ Got'.Refused k → layout_by (tests_of light) l ≡ refuse k
+    pub layout-no : {k : Refusal} → u16_at l 0 ≡ Err k → layout_by (tests_of light) l ≡ refuse k
     unfolding layout_by Layout.read_layout whole Layout.parts ◌then◌
     layout-no e = rw (le-leb (length l) 4294967295 h, num-is 50 2 l 0 0, e)
 
-    pub layout-ok : {v p : ℕ} → u16_at l 0 ≡ Value v p → layout_by (tests_of light) l ≡ layout_from l v ((Layout.groups (tests_of light) D).codec.parse 0 l p)
+    pub layout-ok : {v p : ℕ} → u16_at l 0 ≡ Ok (v, p) → layout_by (tests_of light) l ≡ layout_from l v ((Layout.groups (tests_of light) D).codec.parse 0 l p)
     unfolding layout_by Layout.read_layout whole Layout.parts ◌then◌
     layout-ok {v} {p} e = rw (le-leb (length l) 4294967295 h, num-is 50 2 l 0 0, e) (go ((Layout.groups (tests_of light) D).codec.parse 0 l p))
       where
@@ -65,28 +62,28 @@ module _ (light : Bool) where
 
   -- ---- the verdict
 
-  pub ver_no : (l : List ℕ) {k : Refusal} → layout_by (tests_of light) l ≡ refuse k → Verdict'.Refused k ≡ verdict (layout_by (tests_of light) l)
+  pub ver_no : (l : List ℕ) {k : Refusal} → layout_by (tests_of light) l ≡ refuse k → Err k ≡ verdict (layout_by (tests_of light) l)
   unfolding verdict
   ver_no l e = rw e
 
   -- the rows' reader ran on the groups, with any table
-  module _ (l : List ℕ) {v p n q base : ℕ} {s t t' : List ℕ} {r : Got} (h : length l ≤ 4294967295) (e : u16_at l 0 ≡ Value v p) (g : Ran (put_row 9) base s (groups_at light l p) 0 t t' r) where
-    pub ver_ok : r ≡ Value n q → Accepted v n ≡ verdict (layout_by (tests_of light) l)
+  module _ (l : List ℕ) {v p n q base : ℕ} {s t t' : List ℕ} {r : Got} (h : length l ≤ 4294967295) (e : u16_at l 0 ≡ Ok (v, p)) (g : Ran (put_row 9) base s (groups_at light l p) 0 t t' r) where
+    pub ver_ok : r ≡ Ok (n, q) → Ok (accepted v n) ≡ verdict (layout_by (tests_of light) l)
     unfolding groups_at verdict
     ver_ok f = rw (layout-ok l h e) (go ((Layout.groups (tests_of light) D).codec.parse 0 l p) (sym g.answered ∙ f))
       where
-        go : (r : Res Groups) → answer 0 (said group_rows r) ≡ Value n q → Accepted v n ≡ verdict (layout_from l v r)
-        go (ok z k) a = let w : 0 + length (group_rows z) ≡ n = cc in ap (Accepted v) (sym w ∙ zero-add (length (group_rows z)) ∙ ap length (sym (same_rows v z (drop k l))))
+        go : (r : Res Groups) → answer 0 (said group_rows r) ≡ Ok (n, q) → Ok (accepted v n) ≡ verdict (layout_from l v r)
+        go (ok z k) a = let w : 0 + length (group_rows z) ≡ n = (same_got a).0 in ap (λ (m : ℕ). Ok (accepted v m)) (sym w ∙ zero-add (length (group_rows z)) ∙ ap length (sym (same_rows v z (drop k l))))
         go (refuse k) a = absurd (let z : ◌≡◌ {A = ℕ} 0 1 = cc in omega arith)
 
-  module _ (l : List ℕ) {v p base : ℕ} {k : Refusal} {s t t' : List ℕ} {r : Got} (h : length l ≤ 4294967295) (e : u16_at l 0 ≡ Value v p) (g : Ran (put_row 9) base s (groups_at light l p) 0 t t' r) where
-    pub ver_bad : r ≡ Got'.Refused k → Verdict'.Refused k ≡ verdict (layout_by (tests_of light) l)
+  module _ (l : List ℕ) {v p base : ℕ} {k : Refusal} {s t t' : List ℕ} {r : Got} (h : length l ≤ 4294967295) (e : u16_at l 0 ≡ Ok (v, p)) (g : Ran (put_row 9) base s (groups_at light l p) 0 t t' r) where
+    pub ver_bad : r ≡ Err k → Err k ≡ verdict (layout_by (tests_of light) l)
     unfolding groups_at verdict
     ver_bad f = rw (layout-ok l h e) (go ((Layout.groups (tests_of light) D).codec.parse 0 l p) (sym g.answered ∙ f))
       where
-        go : (r : Res Groups) → answer 0 (said group_rows r) ≡ Got'.Refused k → Verdict'.Refused k ≡ verdict (layout_from l v r)
+        go : (r : Res Groups) → answer 0 (said group_rows r) ≡ Err k → Err k ≡ verdict (layout_from l v r)
         go (ok z j) a = absurd (let z : ◌≡◌ {A = ℕ} 0 1 = cc in omega arith)
-        go (refuse j) a = let z : j ≡ k = cc in ap Verdict'.Refused (sym z)
+        go (refuse j) a = let z : j ≡ k = cc in ap Err (sym z)
 
   -- ---- the rows
 
@@ -100,19 +97,20 @@ module _ (light : Bool) where
     pub is : layout_by (tests_of light) l ≡ ok (to_layout ((v, z), drop k l)) (length l)
     pub many : length (rows (to_layout ((v, z), drop k l))) ≡ n
 
-  pub accepts : (l : List ℕ) {v n : ℕ} → Accepted v n ≡ verdict (layout_by (tests_of light) l) → Accepts l v n
+  pub accepts : (l : List ℕ) {v n : ℕ} → Ok (accepted v n) ≡ verdict (layout_by (tests_of light) l) → Accepts l v n
   unfolding verdict
   accepts l {v} {n} e =
       by_le (length l) 4294967295
       (λ h. number h (u16_at l 0) refl)
-      (λ h. let f : Accepted v n ≡ Verdict'.Refused (refusal 13 0) = e ∙ rw (layout_13 l h) in absurd (let z : ◌≡◌ {A = ℕ} 0 1 = cc in omega arith))
+      (λ h. let f : Ok (accepted v n) ≡ Err (refusal 13 0) = e ∙ rw (layout_13 l h) in absurd (let z : ◌≡◌ {A = ℕ} 0 1 = cc in omega arith))
     where
-      groups : (h : length l ≤ 4294967295) (w : ℕ) → u16_at l 0 ≡ Value w 2 → 2 ≤ length l → (r : Res Groups) → (Layout.groups (tests_of light) D).codec.parse 0 l 2 ≡ r → Accepts l v n
+      groups : (h : length l ≤ 4294967295) (w : ℕ) → u16_at l 0 ≡ Ok (w, 2) → 2 ≤ length l → (r : Res Groups) → (Layout.groups (tests_of light) D).codec.parse 0 l 2 ≡ r → Accepts l v n
       groups h w f two (ok y j) q =
           let i : layout_by (tests_of light) l ≡ ok (to_layout ((w, y), drop j l)) (length l) = layout-ok l h f ∙ ap (layout_from l w) q in
-          let g : Accepted v n ≡ Accepted w (length (rows (to_layout ((w, y), drop j l)))) = e ∙ ap verdict i in
-          let vw : w ≡ v = cc in
-          let nn : length (rows (to_layout ((w, y), drop j l))) ≡ n = cc in
+          let g : Ok (accepted v n) ≡ Ok (accepted w (length (rows (to_layout ((w, y), drop j l))))) = e ∙ ap verdict i in
+          let (vv, nm) = accepted-same g in
+          let vw : w ≡ v = sym vv in
+          let nn : length (rows (to_layout ((w, y), drop j l))) ≡ n = sym nm in
           record {
             small = h;
             two = two;
@@ -123,20 +121,20 @@ module _ (light : Bool) where
             many = ap (λ (m : ℕ). length (rows (to_layout ((m, y), drop j l)))) (sym vw) ∙ nn;
           }
       groups h w f two (refuse j) q =
-          let g : Accepted v n ≡ Verdict'.Refused j = e ∙ ap verdict (layout-ok l h f ∙ ap (layout_from l w) q) in
+          let g : Ok (accepted v n) ≡ Err j = e ∙ ap verdict (layout-ok l h f ∙ ap (layout_from l w) q) in
           absurd (let z : ◌≡◌ {A = ℕ} 0 1 = cc in omega arith)
 
       number : length l ≤ 4294967295 → (g : Got) → u16_at l 0 ≡ g → Accepts l v n
-      number h (Value w p) f =
+      number h (Ok (w, p)) f =
           let y = u16-value l 0 f in
           let p2 : p ≡ 2 = y.1 in
-          groups h w (f ∙ ap (Value w) p2) (omega arith) ((Layout.groups (tests_of light) D).codec.parse 0 l 2) refl
-      number h (Got'.Refused j) f =
-          let g : Accepted v n ≡ Verdict'.Refused j = e ∙ ap verdict (layout-no l h f) in
+          groups h w (f ∙ ap (λ p. Ok (w, p)) p2) (omega arith) ((Layout.groups (tests_of light) D).codec.parse 0 l 2) refl
+      number h (Err j) f =
+          let g : Ok (accepted v n) ≡ Err j = e ∙ ap verdict (layout-no l h f) in
           absurd (let z : ◌≡◌ {A = ℕ} 0 1 = cc in omega arith)
 
   module _ {l : List ℕ} {v n : ℕ} (a : Accepts l v n) where
-    pub ans_read : {base : ℕ} {s t t' : List ℕ} {r : Got} → n ≤ length t / 9 → Ran (put_row 9) base s (groups_at light l 2) 0 t t' r → Answers light l t t' (Read v n)
+    pub ans_read : {base : ℕ} {s t t' : List ℕ} {r : Got} → n ≤ length t / 9 → Ran (put_row 9) base s (groups_at light l 2) 0 t t' r → Answers light l t t' (Ok (accepted v n))
     unfolding groups_at judge leave
     ans_read {t = t} {t'} h g =
         let T : Layout.Layout = to_layout ((v, a.z), drop a.k l) in
@@ -150,7 +148,7 @@ module _ (light : Bool) where
           leaves = rw (a.is, le-leb (length (rows T)) (length t / 9) h1) (i ∙ fill-rows 9 (omega arith) (rows T) t (rows-nine T) h1);
         }
 
-    pub ans_short : {t : List ℕ} → length t / 9 < n → Answers light l t t (Short v n)
+    pub ans_short : {t : List ℕ} → length t / 9 < n → Answers light l t t (Err (Short (accepted v n)))
     unfolding judge leave
     ans_short {t} h =
         let T : Layout.Layout = to_layout ((v, a.z), drop a.k l) in
@@ -158,10 +156,10 @@ module _ (light : Bool) where
         let h1 : length t / 9 < length (rows T) = omega arith in
         record { is = rw (a.is, lt-leb (length (rows T)) (length t / 9) h1, e); leaves = rw (a.is, lt-leb (length (rows T)) (length t / 9) h1) }
 
-  pub ans_no : (l t : List ℕ) {k : Refusal} → Verdict'.Refused k ≡ verdict (layout_by (tests_of light) l) → Answers light l t t (Refused k)
+  pub ans_no : (l t : List ℕ) {k : Refusal} → Err k ≡ verdict (layout_by (tests_of light) l) → Answers light l t t (Err (Refused k))
   unfolding verdict judge leave
   ans_no l t {k} e = go (layout_by (tests_of light) l) refl e
     where
-      go : (r : Res Layout.Layout) → layout_by (tests_of light) l ≡ r → Verdict'.Refused k ≡ verdict r → Answers light l t t (Refused k)
+      go : (r : Res Layout.Layout) → layout_by (tests_of light) l ≡ r → Err k ≡ verdict r → Answers light l t t (Err (Refused k))
       go (ok x j) q e = absurd (let z : ◌≡◌ {A = ℕ} 0 1 = cc in omega arith)
       go (refuse j) q e = let z : k ≡ j = cc in record { is = rw (q, z); leaves = rw q }

@@ -1,5 +1,5 @@
 -- The cases of the layout's answers: what each says of what was read. Assumes nothing.
-use Rattle.std.specs.Prelude.{ℕ, ◌*◌, ◌/◌, ◌≡◌, Bool, cond, List, ◌++◌, length, drop, leb}
+use Rattle.std.specs.Prelude.{ℕ, ◌*◌, ◌/◌, ◌≡◌, Bool, cond, List, ◌++◌, length, drop, leb, Ok, Err}
 use Rattle.std.proofs.Common.{arith, sym, ◌∙◌}
 use Rattle.std.proofs.Math.Path.{refl, ap}
 use Rattle.std.proofs.Math.Bool.{true, false}
@@ -8,39 +8,40 @@ use Rattle.codec.specs.Codec.{Res, ok, refuse}
 use Rattle.table.specs.Table.{flat}
 use Rattle.layout.specs.Layout.{Layout}
 use Rattle.layout.specs.Rows.{rows}
-use Rattle.layout.specs.Answers.{verdict, judge, leave}
-use Rattle.layout.specs.declared.Verdict.{Verdict}
-use Rattle.layout.specs.declared.Verdict.TheVariants as Verdict'
-use Rattle.layout.specs.declared.Answer.{Answer}
-use Rattle.layout.specs.declared.Answer.TheVariants.{Read, Short, Refused}
+use Rattle.layout.specs.Answers.{accepted, Verdict, Answer, verdict, judge, leave}
+use Rattle.layout.specs.declared.Accepted.{Accepted}
+use Rattle.layout.specs.declared.ReadError.TheVariants.{Refused, Short}
 
 -- ---- the verdict
 
-pub verdict-accepted : (l : Layout) (j : ℕ) → verdict (ok l j) ≡ Verdict'.Accepted l.version (length (rows l))
+pub verdict-accepted : (l : Layout) (j : ℕ) → verdict (ok l j) ≡ Ok (accepted l.version (length (rows l)))
 unfolding verdict
 verdict-accepted l j = refl
 
-pub verdict-refused : (k : Refusal) → verdict (refuse k) ≡ Verdict'.Refused k
+pub accepted-same : {v n w m : ℕ} → ◌≡◌ {A = Verdict} (Ok (accepted v n)) (Ok (accepted w m)) → (v ≡ w) × (n ≡ m)
+accepted-same {v} {n} {w} {m} e = let z : accepted v n ≡ accepted w m = cc in (ap (λ (a : Accepted). a.version) z, ap (λ (a : Accepted). a.rows) z)
+
+pub verdict-refused : (k : Refusal) → verdict (refuse k) ≡ Err k
 unfolding verdict
 verdict-refused k = refl
 
-pub verdict-ok : (r : Res Layout) {v n : ℕ} → Verdict'.Accepted v n ≡ verdict r → (l : Layout) × (j : ℕ) × (r ≡ ok l j) × (l.version ≡ v) × (length (rows l) ≡ n)
+pub verdict-ok : (r : Res Layout) {v n : ℕ} → Ok (accepted v n) ≡ verdict r → (l : Layout) × (j : ℕ) × (r ≡ ok l j) × (l.version ≡ v) × (length (rows l) ≡ n)
 unfolding verdict
-verdict-ok (ok l j) {v} {n} e = (l, j, refl, (let z : l.version ≡ v = cc in z), (let z : length (rows l) ≡ n = cc in z))
+verdict-ok (ok l j) {v} {n} e = let (a, b) = accepted-same (sym e) in (l, j, refl, a, b)
 verdict-ok (refuse k) e = absurd (let z : ◌≡◌ {A = ℕ} 0 1 = cc in omega arith)
 
-pub verdict-no : (r : Res Layout) {k : Refusal} → Verdict'.Refused k ≡ verdict r → r ≡ refuse k
+pub verdict-no : (r : Res Layout) {k : Refusal} → Err k ≡ verdict r → r ≡ refuse k
 unfolding verdict
 verdict-no (ok l j) e = absurd (let z : ◌≡◌ {A = ℕ} 0 1 = cc in omega arith)
 verdict-no (refuse j) {k} e = let z : j ≡ k = cc in ap (λ (m : Refusal). refuse m) z
 
 -- ---- the answer for a table of cap rows
 
-pub judge-ok : (cap : ℕ) (l : Layout) (j : ℕ) → judge cap (ok l j) ≡ cond (leb (length (rows l)) cap) (Read l.version (length (rows l))) (Short l.version (length (rows l)))
+pub judge-ok : (cap : ℕ) (l : Layout) (j : ℕ) → judge cap (ok l j) ≡ cond (leb (length (rows l)) cap) (Ok (accepted l.version (length (rows l)))) (Err (Short (accepted l.version (length (rows l)))))
 unfolding judge
 judge-ok cap l j = refl
 
-pub judge-no : (cap : ℕ) (k : Refusal) → judge cap (refuse k) ≡ Refused k
+pub judge-no : (cap : ℕ) (k : Refusal) → judge cap (refuse k) ≡ Err (Refused k)
 unfolding judge
 judge-no cap k = refl
 
@@ -51,16 +52,16 @@ judge_anywhere cap l i j = refl
 
 -- an answer's verdict, whatever the table
 abbrev verdict_in : Answer → Verdict
-verdict_in (Read v n) = Verdict'.Accepted v n
-verdict_in (Short v n) = Verdict'.Accepted v n
-verdict_in (Refused k) = Verdict'.Refused k
+verdict_in (Ok a) = Ok a
+verdict_in (Err (Short a)) = Ok a
+verdict_in (Err (Refused k)) = Err k
 
 module _ (cap : ℕ) (r : Res Layout) {a : Answer} (is : a ≡ judge cap r) where
   answer-verdict : verdict_in a ≡ verdict r
   unfolding verdict judge
   answer-verdict = ap verdict_in is ∙ go r
     where
-      by : (l : Layout) (b : Bool) → verdict_in (cond b (Read l.version (length (rows l))) (Short l.version (length (rows l)))) ≡ Verdict'.Accepted l.version (length (rows l))
+      by : (l : Layout) (b : Bool) → verdict_in (cond b (Ok (accepted l.version (length (rows l)))) (Err (Short (accepted l.version (length (rows l)))))) ≡ Ok (accepted l.version (length (rows l)))
       by l true = refl
       by l false = refl
 
@@ -68,13 +69,13 @@ module _ (cap : ℕ) (r : Res Layout) {a : Answer} (is : a ≡ judge cap r) wher
       go (ok l j) = by l (leb (length (rows l)) cap)
       go (refuse k) = refl
 
-  pub read-verdict : {v n : ℕ} → a ≡ Read v n → Verdict'.Accepted v n ≡ verdict r
+  pub read-verdict : {v n : ℕ} → a ≡ Ok (accepted v n) → Ok (accepted v n) ≡ verdict r
   read-verdict e = ap verdict_in (sym e) ∙ answer-verdict
 
-  pub short-verdict : {v n : ℕ} → a ≡ Short v n → Verdict'.Accepted v n ≡ verdict r
+  pub short-verdict : {v n : ℕ} → a ≡ Err (Short (accepted v n)) → Ok (accepted v n) ≡ verdict r
   short-verdict e = ap verdict_in (sym e) ∙ answer-verdict
 
-  pub refused-verdict : {k : Refusal} → a ≡ Refused k → Verdict'.Refused k ≡ verdict r
+  pub refused-verdict : {k : Refusal} → a ≡ Err (Refused k) → Err k ≡ verdict r
   refused-verdict e = ap verdict_in (sym e) ∙ answer-verdict
 
 -- ---- the table afterwards

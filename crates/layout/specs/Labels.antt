@@ -1,15 +1,13 @@
 -- The marks of label codes: set as labels are read, and cleared by a second walk over the labels.
 -- Assumes nothing.
-use Rattle.std.specs.Prelude.{ℕ, suc, ◌+◌, ◌≤◌, List, [], ◌∷◌, get_or, length}
+use Rattle.std.specs.Prelude.{ℕ, suc, ◌+◌, ◌≤◌, List, [], ◌∷◌, get_or, length, Ok, Err}
 use Rattle.marks.specs.Marks.{Marks, Only}
-use Rattle.numbers.specs.Numbers.{le16}
-use Rattle.numbers.specs.declared.Got.{Got}
-use Rattle.numbers.specs.declared.Got.TheVariants.{Value, Refused}
+use Rattle.numbers.specs.Numbers.{le16, Got}
 
 -- no mark is left where all was accepted
 abbrev pub Cleared : Got → List ℕ → Type 0
-Cleared (Value v p) ws = Marks ws []
-Cleared (Refused k) ws = Unit {0}
+Cleared (Ok (v, p)) ws = Marks ws []
+Cleared (Err k) ws = Unit {0}
 
 -- n labels stand at `at`, and only their codes may be marked
 pub data Walk (s : List ℕ) : ℕ → ℕ → List ℕ → Type 0 where

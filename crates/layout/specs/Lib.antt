@@ -19,3 +19,4 @@ pub mod ReadLaws
 pub mod PlaceLaws
 pub mod SpanLaws
 pub mod NameCountLaws
+pub mod Kinds

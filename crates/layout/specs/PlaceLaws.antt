@@ -3,7 +3,7 @@
 use Prim.Native.Nat.{ℕ, zero, suc, ◌+◌, ◌-◌, ◌*◌, ◌≤◌, ◌<◌}
 use Rattle.std.proofs.Common.{mul-zero, add-zero, arith, sym, ◌∙◌, subst, length-take, length-drop, take-take, drop-cons, get_or-take, get_or-drop, le-leb}
 use Rattle.std.proofs.Math.Nat.{mul-suc}
-use Rattle.std.specs.Prelude.{◌≡◌, false, length, get_or, take, drop}
+use Rattle.std.specs.Prelude.{◌≡◌, false, length, get_or, take, drop, Ok, Err}
 use Rattle.std.proofs.Math.Path.{refl, ap, ap₂}
 use mathlib.Core.List.{List, [], ◌∷◌, ◌++◌, map, append_assoc}
 use Rattle.std.proofs.lemmas.Bool.{lt-leb}
@@ -16,13 +16,11 @@ use Rattle.codec.proofs.Format.{Format}
 use Rattle.wire.specs.Formats
 use Rattle.wire.specs.Formats.{Name, section}
 use Rattle.wire.specs.FormatLaws.{section-bare}
-use Rattle.numbers.specs.Numbers.{num_at, u16_at, part, le16}
+use Rattle.numbers.specs.Numbers.{num_at, u16_at, part, le16, Got}
 use Rattle.wire.specs.Reader.{name, name_at, section_at}
 use Rattle.numbers.specs.NumberLaws.{num_of, num-is, num-value, u16-value}
 use Rattle.wire.proofs.NameLaws.{name_of, name-is, name-place}
 use Rattle.wire.specs.SectionLaws.{section_got, section-bad, section-of}
-use Rattle.numbers.specs.declared.Got.{Got}
-use Rattle.numbers.specs.declared.Got.TheVariants.{Value, Refused}
 use Rattle.layout.specs.Layout
 use Rattle.layout.specs.Layout.{Entry, Fields, RecordL, StructL, Layout, Parts, to_layout}
 use Rattle.layout.specs.LayoutOf.{D, D-least, entry, fields, record_l, struct_l, label_def, layout_of, layout_by}
@@ -55,9 +53,9 @@ pub record FieldsAt (s : List ℕ) (h : ℕ) (f : Fields) : Type 0 where
 
 -- ---- numbers, names, entries
 
-got_of_lem : (g : Got) {v j : ℕ} → num_of g ≡ ok v j → g ≡ Value v j
-got_of_lem (Value a b) {v} {j} e = let p : a ≡ v = cc in let q : b ≡ j = cc in ap₂ Value p q
-got_of_lem (Refused k) e = absurd (let z : ◌≡◌ {A = ℕ} 0 1 = cc in omega arith)
+got_of_lem : (g : Got) {v j : ℕ} → num_of g ≡ ok v j → g ≡ Ok (v, j)
+got_of_lem (Ok (a, b)) {v} {j} e = let p : a ≡ v = cc in let q : b ≡ j = cc in ap₂ (λ x y. Ok (x, y)) p q
+got_of_lem (Err k) e = absurd (let z : ◌≡◌ {A = ℕ} 0 1 = cc in omega arith)
 
 u16-back : (base : ℕ) (s : List ℕ) (i : ℕ) {v j : ℕ} → (num 50 2).parse base s i ≡ ok v j → (v ≡ le16 s i) × (j ≡ i + 2) × (i + 2 ≤ length s)
 u16-back base s i e = u16-value s i (got_of_lem (u16_at s i) (sym (num-is 50 2 s i base) ∙ e))
@@ -69,8 +67,8 @@ name_back : (base : ℕ) (s : List ℕ) (i : ℕ) {x : Name} {j : ℕ} → name.
 name_back base s i {x} {j} e = go (name_at all_tests s i) refl (sym (name-is all_tests s i base) ∙ e)
   where
     go : (g : Got) → name_at all_tests s i ≡ g → name_of base s i g ≡ ok x j → j ≡ count_at s i
-    go (Value len q) f h = let p : q ≡ j = cc in let w = name-place all_tests s i f in omega arith
-    go (Refused k) f h = absurd (let z : ◌≡◌ {A = ℕ} 0 1 = cc in omega arith)
+    go (Ok (len, q)) f h = let p : q ≡ j = cc in let w = name-place all_tests s i f in omega arith
+    go (Err k) f h = absurd (let z : ◌≡◌ {A = ℕ} 0 1 = cc in omega arith)
 
 bytes_from : ℕ → List ℕ → ℕ → ℕ → List ℕ
 bytes_from zero s at k = []
@@ -209,8 +207,8 @@ pub section-back : {A : Type 0} (F : Format A false) (s : List ℕ) (at : ℕ) {
 section-back {A} F s at {z} {j} e = go (section_at s at) refl
   where
     go : (g : Got) → section_at s at ≡ g → Boxed F.codec s at z.0 j
-    go (Refused k) f = absurd (let q = sym (section-bad F s at f) ∙ e in let y : ◌≡◌ {A = ℕ} 0 1 = cc in omega arith)
-    go (Value b n) f =
+    go (Err k) f = absurd (let q = sym (section-bad F s at f) ∙ e in let y : ◌≡◌ {A = ℕ} 0 1 = cc in omega arith)
+    go (Ok (b, n)) f =
         let (x, m, es, e1) = bind_ok (shifted b (F.codec.parse b (part s b n) 0)) _ z j (sym (section_got F s at f) ∙ e) in
         let ex = shifted-ok b (F.codec.parse b (part s b n) 0) x m es in
         let w = section-of s at f in

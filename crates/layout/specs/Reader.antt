@@ -6,8 +6,7 @@ use Rattle.codec.specs.Codec.{times_parse, distinct_parse}
 use Rattle.codec.proofs.Format.{◌then◌}
 use Rattle.wire.specs.Formats.{u16, u64}
 use Rattle.wire.specs.Reader.{tests_of, name_by}
-use Rattle.numbers.specs.Numbers.{got_of, u16_at}
-use Rattle.numbers.specs.declared.Got.{Got}
+use Rattle.numbers.specs.Numbers.{got_of, u16_at, Got}
 use Rattle.table.specs.Table.{Out, said, on_got, all_rows}
 use Rattle.layout.specs.Layout
 use Rattle.layout.specs.Layout.{to_record, to_struct, to_label_def}

@@ -1,6 +1,6 @@
 -- Which numbers a layout gives.
 -- Assumes nothing.
-use Rattle.std.specs.Prelude.{ℕ, ◌/◌, ◌≤◌, ◌≡◌, Bool, true, false, cond, List, length, leb}
+use Rattle.std.specs.Prelude.{ℕ, ◌/◌, ◌≤◌, ◌≡◌, Bool, true, false, cond, List, length, leb, Ok, Err}
 use Rattle.std.proofs.Common.{zero-le, arith, ap}
 use Rattle.std.proofs.Math.Path.{refl}
 use Rattle.refusal.specs.declared.Refusal.{Refusal}
@@ -16,8 +16,8 @@ use Rattle.layout.specs.Layout.{Layout, label, label_body, label_def, entry, fie
 use Rattle.layout.specs.LayoutOf.{D, layout_of, layout_by}
 use Rattle.layout.specs.Rows.{rows}
 use Rattle.layout.specs.ReadLaws.{layout-whole}
-use Rattle.layout.specs.Answers.{wire_numbers, layout_numbers, judge, Answers}
-use Rattle.layout.specs.declared.Answer.TheVariants.{Read, Short, Refused}
+use Rattle.layout.specs.Answers.{accepted, wire_numbers, layout_numbers, judge, Answers}
+use Rattle.layout.specs.declared.ReadError.TheVariants.{Refused, Short}
 
 module _ (P : ℕ → Type 0) (h : (k : ℕ) → In wire_numbers k → P k) (tests : Tests) (D : ℕ) where
   pub parts-numbers : (parts tests D).numbers P
@@ -58,15 +58,15 @@ layout-within s e = within-is (go (leb (length s) 4294967295)) e
     go true = within-then (whole (parts all_tests D).codec 0 s) (λ z j. ok (to_layout z) j) (within-whole (parts all_tests D).codec (parts all_tests D).inside 0 s) (λ z j a b. ends a b)
     go false = tells zero-le
 
-pub judge-refused : (cap : ℕ) (r : Res Layout) {k : Refusal} → Refused k ≡ judge cap r → r ≡ refuse k
+pub judge-refused : (cap : ℕ) (r : Res Layout) {k : Refusal} → Err (Refused k) ≡ judge cap r → r ≡ refuse k
 unfolding judge
 judge-refused cap (ok l j) {k} e = absurd (go (leb (length (rows l)) cap) e)
   where
-    go : (b : Bool) → Refused k ≡ cond b (Read l.version (length (rows l))) (Short l.version (length (rows l))) → ⊥
+    go : (b : Bool) → Err (Refused k) ≡ cond b (Ok (accepted l.version (length (rows l)))) (Err (Short (accepted l.version (length (rows l))))) → ⊥
     go true e = let z : ◌≡◌ {A = ℕ} 0 1 = cc in omega arith
     go false e = let z : ◌≡◌ {A = ℕ} 0 1 = cc in omega arith
 judge-refused cap (refuse j) {k} e = let q : j ≡ k = cc in ap refuse q
 
 -- what the reader's answer refuses with
-pub layout-refuses : (light : Bool) (s t t' : List ℕ) (k : Refusal) → Answers light s t t' (Refused k) → In layout_numbers k.number
+pub layout-refuses : (light : Bool) (s t t' : List ℕ) (k : Refusal) → Answers light s t t' (Err (Refused k)) → In layout_numbers k.number
 layout-refuses light s t t' k a = gives_is (In layout_numbers) (layout_gives (tests_of light) s) (judge-refused (length t / 9) (layout_by (tests_of light) s) a.is)

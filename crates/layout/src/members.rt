@@ -4,7 +4,7 @@ ghost use Rattle.table.specs.Table.{put_row, Room, Ran};
 ghost use Rattle.layout.specs.Reader.{entries_at, names_at, fields_at};
 
 use super::rows;
-use numbers::Got;
+use refusal::Refusal;
 
 pub(crate) fn fields(
     s: &[u8],
@@ -13,17 +13,13 @@ pub(crate) fn fields(
     base: usize,
     table: &mut [u32],
     n: usize,
-) -> Got
+) -> Result<(usize, usize), Refusal>
     requires { Room base s.now at n }
     ensures { Ran (put_row 9) base s.now (fields_at light base s.now at) n table.old table.new result }
 {
-    match numbers::u16_at(s, at, refusal::LAYOUT_TRUNCATED) {
-        Got::Value { value, next } => match entries(s, next, value, light, base, table, n) {
-            Got::Value { value: m, next: p } => names(s, p, value, light, base, table, m),
-            Got::Refused(why) => Got::Refused(why),
-        },
-        Got::Refused(why) => Got::Refused(why),
-    }
+    let (count, p) = numbers::u16_at(s, at, refusal::LAYOUT_TRUNCATED)?;
+    let (m, q) = entries(s, p, count, light, base, table, n)?;
+    names(s, q, count, light, base, table, m)
 }
 
 fn entries(
@@ -34,27 +30,20 @@ fn entries(
     base: usize,
     table: &mut [u32],
     n: usize,
-) -> Got
+) -> Result<(usize, usize), Refusal>
     requires { Room base s.now at n }
     ensures { Ran (put_row 9) base s.now (entries_at light base count s.now at) n table.old table.new result }
 {
-    let mut todo = count;
     let mut p = at;
     let mut k = n;
-    while 0 < todo {
-        match numbers::take(s, p, super::D, refusal::LAYOUT_TRUNCATED) {
-            Got::Value { value: _, next } => {
-                let b = entry::entry_bytes(s, p);
-                let row = rows::entry_row(b);
-                table::put_row(table, k, &row);
-                k += 1;
-                p = next;
-                todo -= 1;
-            }
-            Got::Refused(why) => return Got::Refused(why),
-        }
+    for _ in 0..count {
+        let (_, next) = numbers::take(s, p, super::D, refusal::LAYOUT_TRUNCATED)?;
+        let row = rows::entry_row(entry::entry_bytes(s, p));
+        table::put_row(table, k, &row);
+        k += 1;
+        p = next;
     }
-    Got::Value { value: k, next: p }
+    Ok((k, p))
 }
 
 fn names(
@@ -65,24 +54,18 @@ fn names(
     base: usize,
     table: &mut [u32],
     n: usize,
-) -> Got
+) -> Result<(usize, usize), Refusal>
     requires { Room base s.now at n }
     ensures { Ran (put_row 9) base s.now (names_at light base count s.now at) n table.old table.new result }
 {
-    let mut todo = count;
     let mut p = at;
     let mut k = n;
-    while 0 < todo {
-        match wire::name_in(s, p, light) {
-            Got::Value { value, next } => {
-                let row = rows::name_row(base + (p + 1), value);
-                table::put_row(table, k, &row);
-                k += 1;
-                p = next;
-                todo -= 1;
-            }
-            Got::Refused(why) => return Got::Refused(why),
-        }
+    for _ in 0..count {
+        let (len, next) = wire::name_in(s, p, light)?;
+        let row = rows::name_row(base + (p + 1), len);
+        table::put_row(table, k, &row);
+        k += 1;
+        p = next;
     }
-    Got::Value { value: k, next: p }
+    Ok((k, p))
 }

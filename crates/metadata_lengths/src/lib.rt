@@ -18,29 +18,27 @@ pub struct MetadataLengths {
 pub fn lengths_of(version: u8) -> MetadataLengths
     ensures { result ≡ lengths version }
 {
-    if version == 1 {
-        return MetadataLengths {
+    match version {
+        1 => MetadataLengths {
             dataset_cstr_len: 16,
             record_count_len: 8,
             symbol_cstr_len_len: 0,
             reserved_len: 47,
             has_layout: false,
-        };
-    }
-    if version == 4 {
-        return MetadataLengths {
+        },
+        4 => MetadataLengths {
             dataset_cstr_len: 38,
             record_count_len: 0,
             symbol_cstr_len_len: 2,
             reserved_len: 31,
             has_layout: true,
-        };
-    }
-    MetadataLengths {
-        dataset_cstr_len: 16,
-        record_count_len: 0,
-        symbol_cstr_len_len: 2,
-        reserved_len: 53,
-        has_layout: false,
+        },
+        _ => MetadataLengths {
+            dataset_cstr_len: 16,
+            record_count_len: 0,
+            symbol_cstr_len_len: 2,
+            reserved_len: 53,
+            has_layout: false,
+        },
     }
 }

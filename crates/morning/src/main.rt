@@ -15,14 +15,6 @@ use std::rt::Files;
 // The most pieces that are read, 2^64 - 1: more than any input has.
 const MOST_PIECES: u64 = 18446744073709551615;
 
-// What came of a turn of reading: a read that failed, the night's end with so many bytes held, or more to come.
-#[derive(Clone, Copy)]
-enum Turn {
-    Failed(io::Error),
-    Over(usize),
-    Held(usize),
-}
-
 fn main(rt: HostRuntime) {
     let asked = command_line::read(&rt);
     let status = run(&rt, &mut io::writer(&rt), &mut rt.stderr(), asked);
@@ -36,8 +28,8 @@ fn run<R: Env + Files + Input>(
     err: &mut impl Write,
     asked: Asked,
 ) -> u64 {
-    if asked.fault != 0 {
-        tell::wrong_argument(rt, err, asked.fault, asked.at);
+    if let Some(wrong) = asked.wrong {
+        tell::wrong_argument(rt, err, wrong);
         return 2;
     }
     if asked.help {
@@ -59,13 +51,13 @@ fn count_night(
 ) -> u64 {
     let mut counts = [0u64; 260];
     match read_all(input, sheet, &mut counts) {
-        Turn::Failed(why) => {
-            tell::unread(err, why);
-            1
-        }
-        Turn::Over(held) | Turn::Held(held) => {
+        Ok(held) => {
             count::count_end(&mut counts, held);
             report(out, err, &counts)
+        }
+        Err(why) => {
+            tell::unread(err, why);
+            1
         }
     }
 }
@@ -74,16 +66,15 @@ fn count_night(
 fn report(out: &mut impl Write, err: &mut impl Write, counts: &[u64; 260]) -> u64 {
     let mut text = [0u8; 16384];
     let n = report::write_report(counts, &mut text);
-    tell::ended(err, write(out, &text, n))
+    tell::ended(err, out.write_all(command_line::front(&text, n)))
 }
 
-// Writes the first n bytes.
-fn write(out: &mut impl Write, text: &[u8; 16384], n: usize) -> io::Result<()> {
-    out.write_all(command_line::front(text, n))
-}
-
-// Reads the night, with a store and tables of its own.
-fn read_all(input: &mut impl Read, sheet: &[u16; 520], counts: &mut [u64; 260]) -> Turn {
+// Reads the night, with a store and tables of its own, and answers how many bytes are held at its end.
+fn read_all(
+    input: &mut impl Read,
+    sheet: &[u16; 520],
+    counts: &mut [u64; 260],
+) -> io::Result<usize> {
     let mut store = [0u8; 65536];
     let mut symbology = [0u32; 6144];
     let mut layout = [0u32; 9216];
@@ -105,40 +96,21 @@ fn read_night(
     symbology: &mut [u32],
     layout: &mut [u32],
     counts: &mut [u64; 260],
-) -> Turn {
-    let mut held = 0;
+) -> io::Result<usize> {
+    let mut state = State {
+        held: 0,
+        ended: false,
+    };
+    let mut piece = [0u8; 4096];
     for _ in 0..MOST_PIECES {
-        let turn = read_some(input, held, store, sheet, symbology, layout, counts);
-        match turn {
-            Turn::Held(n) => held = n,
-            _ => return turn,
+        let n = input.read(&mut piece)?;
+        if n == 0 {
+            break;
+        }
+        state = night::read_piece(state, store, &piece[..n], sheet, symbology, layout, counts);
+        if state.ended {
+            break;
         }
     }
-    Turn::Over(held)
-}
-
-// Reads once, at most 4,096 bytes, and counts what the piece completes.
-fn read_some(
-    input: &mut impl Read,
-    held: usize,
-    store: &mut [u8],
-    sheet: &[u16; 520],
-    symbology: &mut [u32],
-    layout: &mut [u32],
-    counts: &mut [u64; 260],
-) -> Turn {
-    let mut piece = [0u8; 4096];
-    let n = match input.read(&mut piece) {
-        Ok(n) => n,
-        Err(why) => return Turn::Failed(why),
-    };
-    if n == 0 {
-        return Turn::Over(held);
-    }
-    let before = State { held, ended: false };
-    let after = night::read_piece(before, store, &piece[..n], sheet, symbology, layout, counts);
-    if after.ended {
-        return Turn::Over(after.held);
-    }
-    Turn::Held(after.held)
+    Ok(state.held)
 }

@@ -1,4 +1,5 @@
 // What is told besides the report: the help, and on standard error what cannot be done.
+use command_line::{BadArgument, Fault};
 use std::env::Env;
 use std::io;
 use std::io::Write;
@@ -30,11 +31,7 @@ be used, or a report that cannot be written. scripts/morning ends with it; the p
 
 // The status, which is 0 where all was written; else it is 2, and why is said.
 pub(crate) fn ended(err: &mut impl Write, written: io::Result<()>) -> u64 {
-    let status = match written {
-        Ok(()) => Ok(0),
-        Err(why) => Err(why),
-    };
-    command_line::ended(err, &NAME, status)
+    command_line::ended(err, &NAME, written.map(|()| 0))
 }
 
 // Says on standard error why standard input cannot be read. What standard error does not take is lost, here and below.
@@ -43,16 +40,10 @@ pub(crate) fn unread(err: &mut impl Write, why: io::Error) {
 }
 
 // Says on standard error what is wrong with an argument.
-pub(crate) fn wrong_argument(rt: &impl Env, err: &mut impl Write, fault: u64, at: usize) {
-    let _ = command_line::say_wrong_argument(
-        rt,
-        err,
-        &NAME,
-        at,
-        b"
-01: no such option, morning --help says which there are
-02--sheet: the file's name is missing
-",
-        fault,
-    );
+pub(crate) fn wrong_argument(rt: &impl Env, err: &mut impl Write, wrong: BadArgument) {
+    let text = match wrong.fault {
+        Fault::Unknown => ": no such option, morning --help says which there are",
+        Fault::NoSheet => "--sheet: the file's name is missing",
+    };
+    let _ = command_line::say_wrong_argument(rt, err, &NAME, wrong.at, text);
 }

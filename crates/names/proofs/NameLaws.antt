@@ -1,4 +1,5 @@
 -- The spans of rows and their bytes, by the tests of the code. Assumes nothing.
+use Rattle.std.specs.Prelude.{Err}
 use Prim.Native.Nat.{ℕ, ◌+◌, ◌-◌, ◌≤◌, ◌<◌}
 use native.Mathlib.Omega.{arith}
 use mathlib.Core.Path.{◌≡◌, refl, sym, ◌∙◌}
@@ -7,9 +8,7 @@ use mathlib.Core.List.{List, []}
 use lib.ListN.{length, take, drop}
 use borrow.Author.Tests.{le-leb, lt-leb, lt-ltb, le-ltb}
 use Rattle.refusal.specs.declared.Refusal.{Refusal}
-use Rattle.names.specs.Names.{no_text, text_span, span_of, part_in}
-use Rattle.names.specs.declared.Span.{Span}
-use Rattle.names.specs.declared.Span.TheVariants.{Part, Refused}
+use Rattle.names.specs.Names.{no_text, text_span, span_of, part_in, spanned, Spanned}
 
 -- the row is past the table, or in it
 module _ (hasText : ℕ → Bool) (n count : ℕ) (number : ℕ → ℕ) (index : ℕ) where
@@ -28,7 +27,7 @@ module _ (n : ℕ) {has : Bool} (start len : ℕ) where
   span_none e = rw e
 
   module _ (e : has ≡ true) {a b : ℕ} (ea : a ≡ start) (eb : b ≡ len) where
-    pub span_in : a + b ≤ n → Part a b ≡ text_span has n start len
+    pub span_in : a + b ≤ n → spanned a b ≡ text_span has n start len
     unfolding text_span
     span_in h = rw (e, ← ea, ← eb, le-leb (a + b) n h)
 
@@ -36,15 +35,15 @@ module _ (n : ℕ) {has : Bool} (start len : ℕ) where
     unfolding text_span
     span-out h = rw (e, ← ea, ← eb, lt-leb (a + b) n h)
 
-module _ (b : List ℕ) {span : Span} where
-  pub part_in_lem : {p n : ℕ} → span ≡ Part p n → p + n ≤ length b → take (p + n - p) (drop p b) ≡ part_in b span
+module _ (b : List ℕ) {span : Spanned} where
+  pub part_in_lem : {p n : ℕ} → span ≡ spanned p n → p + n ≤ length b → take (p + n - p) (drop p b) ≡ part_in b span
   unfolding part_in
   part_in_lem {p} {n} e h = let z : p + n - p ≡ n = omega arith in rw (e, le-leb (p + n) (length b) h, z)
 
-  pub part_out : {p n : ℕ} → span ≡ Part p n → length b < p + n → [] ≡ part_in b span
+  pub part_out : {p n : ℕ} → span ≡ spanned p n → length b < p + n → [] ≡ part_in b span
   unfolding part_in
   part_out {p} {n} e h = rw (e, lt-leb (p + n) (length b) h)
 
-  pub part_none : {k : Refusal} → span ≡ Refused k → [] ≡ part_in b span
+  pub part_none : {k : Refusal} → span ≡ Err k → [] ≡ part_in b span
   unfolding part_in
   part_none e = rw e

@@ -1,17 +1,16 @@
 -- Which part of the bytes a row names, by its numbers, and which kinds of rows have a text. Assumes nothing.
-use Rattle.std.specs.Prelude.{ℕ, ◌+◌, ◌≤◌, ◌<◌, ◌≡◌, Bool, not, ◌&&◌, List, [], length, take, drop, leb, eqb}
+use Rattle.std.specs.Prelude.{ℕ, ◌+◌, ◌≤◌, ◌<◌, ◌≡◌, Bool, not, ◌&&◌, List, [], length, take, drop, leb, eqb, Err}
 use Rattle.std.proofs.Common.{arith, sym, ap, ◌∙◌}
 use Rattle.std.proofs.Math.Path.{refl}
 use Rattle.std.proofs.Math.Bool.{true, false}
 use Rattle.std.proofs.Math.Dec.{ltb, leb-zero}
 use borrow.Author.Tests.{lt-ltb, le-leb, leb-true, ne_eqb}
 use Rattle.refusal.specs.declared.Refusal.{Refusal}
-use Rattle.names.specs.Names.{no_text, symbol_text, item_text, text_span, span_of, part_in}
-use Rattle.names.specs.declared.Span.TheVariants.{Part, Refused}
+use Rattle.names.specs.Names.{no_text, symbol_text, item_text, text_span, span_of, part_in, spanned}
 
 module _ (hasText : ℕ → Bool) (n count : ℕ) (number : ℕ → ℕ) (i : ℕ) where
   -- a row with a text within n bytes gives its second and third number
-  pub span-part : i < count → hasText (number 0) ≡ true → number 1 + number 2 ≤ n → span_of hasText n count number i ≡ Part (number 1) (number 2)
+  pub span-part : i < count → hasText (number 0) ≡ true → number 1 + number 2 ≤ n → span_of hasText n count number i ≡ spanned (number 1) (number 2)
   unfolding span_of text_span
   span-part l t h = rw (lt-ltb i count l, t, le-leb (number 1 + number 2) n h)
 
@@ -25,12 +24,12 @@ module _ (hasText : ℕ → Bool) (n count : ℕ) (number : ℕ → ℕ) (i : �
       go false q = rw q
 
 -- the bytes of a part that lies within them
-pub part_bytes : (b : List ℕ) (start len : ℕ) → start + len ≤ length b → part_in b (Part start len) ≡ take len (drop start b)
+pub part_bytes : (b : List ℕ) (start len : ℕ) → start + len ≤ length b → part_in b (spanned start len) ≡ take len (drop start b)
 unfolding part_in
 part_bytes b start len h = rw (le-leb (start + len) (length b) h)
 
 -- a refusal has none
-pub part_none : (b : List ℕ) (k : Refusal) → part_in b (Refused k) ≡ []
+pub part_none : (b : List ℕ) (k : Refusal) → part_in b (Err k) ≡ []
 unfolding part_in
 part_none b k = refl
 

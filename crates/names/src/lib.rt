@@ -6,16 +6,16 @@ ghost use Rattle.names.specs.Names.{no_text, symbol_text, item_text, text_span, 
 
 use refusal::Refusal;
 
-// A part of a slice by start and length; or the refusal, which is about no byte.
+// A part of a slice by start and length.
 #[derive(Clone, Copy)]
-pub enum Span {
-    Part { start: usize, len: usize },
-    Refused(Refusal),
+pub struct Span {
+    pub start: usize,
+    pub len: usize,
 }
 
 // Where the text of a symbology row stands in its block. The table is as it was lent, by column. 90 for an index past its height, a row
 // without a text, or a span outside.
-pub fn symbology_span(block: &[u8], table: &[u32], index: usize) -> Span
+pub fn symbology_span(block: &[u8], table: &[u32], index: usize) -> Result<Span, Refusal>
     ensures { result ≡ symbology_span (length block.now) table.now index }
 {
     let height = table.len() / 6;
@@ -40,7 +40,7 @@ pub fn symbology_name<'a>(block: &'a [u8], table: &[u32], index: usize) -> &'a [
 }
 
 // Where the text of a layout row stands in its layout; 90 as for a symbology row. A field has none.
-pub fn layout_span(layout: &[u8], rows: &[u32], index: usize) -> Span
+pub fn layout_span(layout: &[u8], rows: &[u32], index: usize) -> Result<Span, Refusal>
     ensures { result ≡ layout_span (length layout.now) rows.now index }
 {
     if index < rows.len() / 9 {
@@ -63,21 +63,21 @@ pub fn layout_name<'a>(layout: &'a [u8], rows: &[u32], index: usize) -> &'a [u8]
 }
 
 // The bytes of a span; none for a refusal or a span outside.
-fn part<'a>(s: &'a [u8], span: Span) -> &'a [u8]
+fn part<'a>(s: &'a [u8], span: Result<Span, Refusal>) -> &'a [u8]
     ensures { result.now ≡ part_in s.now span }
 {
     match span {
-        Span::Part { start, len } => {
+        Ok(Span { start, len }) => {
             if s.len() < start {
-                return &s[0..0];
+                return &[];
             }
             if s.len() - start < len {
-                return &s[0..0];
+                return &[];
             }
             let end = start + len;
             &s[start..end]
         }
-        Span::Refused(_) => &s[0..0],
+        Err(_) => &[],
     }
 }
 
@@ -92,24 +92,18 @@ fn symbol_text(kind: u32) -> bool
 fn item_text(kind: u32) -> bool
     ensures { result ≡ item_text kind }
 {
-    if kind == 11 {
-        return false;
-    }
-    if kind < 10 {
-        return false;
-    }
-    kind <= 15
+    matches!(kind, 10 | 12..=15)
 }
 
 // This start and length, where the row has a text and they lie in n bytes.
-fn text_span(has: bool, n: usize, start: u32, len: u32) -> Span
+fn text_span(has: bool, n: usize, start: u32, len: u32) -> Result<Span, Refusal>
     ensures { result ≡ text_span has n start len }
 {
     if has {
         let start = wide(start);
         let len = wide(len);
         if start + len <= n {
-            return Span::Part { start, len };
+            return Ok(Span { start, len });
         }
         return no_text();
     }
@@ -117,13 +111,10 @@ fn text_span(has: bool, n: usize, start: u32, len: u32) -> Span
 }
 
 // 90, for what has no text.
-fn no_text() -> Span
+fn no_text() -> Result<Span, Refusal>
     ensures { result ≡ no_text }
 {
-    Span::Refused(Refusal {
-        number: refusal::ROWS_MALFORMED,
-        place: 0,
-    })
+    refusal::refuse(refusal::ROWS_MALFORMED, 0)
 }
 
 fn wide(x: u32) -> usize

@@ -1,15 +1,17 @@
 -- A night, as document 02's request 12 has it: preludes with their blocks, end on end. Its history is what comes of each input that is begun.
 -- Assumes nothing.
-use Rattle.std.specs.Prelude.{ℕ, zero, suc, Bool, true, false, ◌||◌, cond, ◌≡◌, List, [], ◌∷◌, length, drop, eqb}
+use Rattle.refusal.specs.declared.Refusal.{Refusal}
+use Rattle.block_format.specs.declared.Fields.{Fields}
+use Rattle.block_format.specs.declared.ReadError.{ReadError}
+use Rattle.std.specs.Prelude.{ℕ, zero, suc, Bool, true, false, ◌||◌, cond, ◌≡◌, List, [], ◌∷◌, length, drop, eqb, Result, Ok, Err}
 use Rattle.codec.specs.Codec.{among}
 use Rattle.block_format.specs.Read.{block_answer}
-use Rattle.block_format.specs.declared.BlockAnswer.{BlockAnswer}
 use Rattle.prelude.specs.Prelude.{prelude_numbers}
 use Rattle.held.specs.Held.{first_of}
 use Rattle.held.specs.declared.Holding.{Holding}
 use Rattle.feed.specs.Feeding.{start, stage_of, block_in, answer_at, symbology_at, layout_at, taken_of, held_after, store_after}
 use Rattle.feed.specs.declared.Answer.{Answer}
-use Rattle.feed.specs.declared.Answer.TheVariants.{Needs, Done, Refused, Short}
+use Rattle.feed.specs.declared.Answer.TheVariants.{Needs, Done}
 use Rattle.count.specs.Count.{History, counted_all}
 use Rattle.count.specs.declared.Outcome.TheVariants as Outcome'
 use Rattle.night.specs.declared.State.{State}
@@ -18,17 +20,17 @@ use Rattle.night.specs.declared.State.{State}
 
 -- a block of the night s, with w bytes of prelude and block: accepted or refused it is counted, and the next input begins after it; 3, where a
 -- table is short, ends the reading
-abbrev pub after_block : List ℕ → (List ℕ → History) → ℕ → BlockAnswer → History
-after_block s rest w (BlockAnswer.Read f) = Outcome'.Accepted f.symbology_rows ∷ rest (drop w s)
-after_block s rest w (BlockAnswer.Refused e) = Outcome'.Refused e.number ∷ rest (drop w s)
-after_block s rest w (BlockAnswer.Short m n) = Outcome'.Refused 3 ∷ []
+abbrev pub after_block : List ℕ → (List ℕ → History) → ℕ → Result Fields ReadError → History
+after_block s rest w (Ok f) = Outcome'.Accepted f.symbology_rows ∷ rest (drop w s)
+after_block s rest w (Err (ReadError.Refused e)) = Outcome'.Refused e.number ∷ rest (drop w s)
+after_block s rest w (Err (ReadError.Short m n)) = Outcome'.Refused 3 ∷ []
 
 -- what stands first in s decides: bytes that are needed and do not come are a cut; 2 or a prelude that is refused ends the reading; t is the
 -- sheet, y and l are the tables
-abbrev pub goes_on : List ℕ → List ℕ → List ℕ → List ℕ → (List ℕ → History) → Holding → History
-goes_on t y l s rest (Holding.Needs n) = Outcome'.Cut ∷ []
-goes_on t y l s rest (Holding.Refused e) = Outcome'.Refused e.number ∷ []
-goes_on t y l s rest (Holding.Whole w v) = after_block s rest w (block_answer v (block_in s w) t y l)
+abbrev pub goes_on : List ℕ → List ℕ → List ℕ → List ℕ → (List ℕ → History) → Result Holding Refusal → History
+goes_on t y l s rest (Ok (Holding.Needs n)) = Outcome'.Cut ∷ []
+goes_on t y l s rest (Err e) = Outcome'.Refused e.number ∷ []
+goes_on t y l s rest (Ok (Holding.Whole w v)) = after_block s rest w (block_answer v (block_in s w) t y l)
 
 -- at most m inputs, with a store of n bytes; no bytes begin none
 unfoldable pub history_in : ℕ → ℕ → List ℕ → List ℕ → List ℕ → List ℕ → History
@@ -42,29 +44,29 @@ history_of n t y l s = history_in (length s) n t y l s
 -- ---- what an answer of the reader comes to
 
 -- while bytes are needed nothing, else one outcome
-abbrev pub outcomes : Answer → History
-outcomes (Needs n) = []
-outcomes (Done f) = Outcome'.Accepted f.symbology_rows ∷ []
-outcomes (Refused e) = Outcome'.Refused e.number ∷ []
-outcomes (Short m n) = Outcome'.Refused 3 ∷ []
+abbrev pub outcomes : Result Answer ReadError → History
+outcomes (Ok (Needs n)) = []
+outcomes (Ok (Done f)) = Outcome'.Accepted f.symbology_rows ∷ []
+outcomes (Err (ReadError.Refused e)) = Outcome'.Refused e.number ∷ []
+outcomes (Err (ReadError.Short m n)) = Outcome'.Refused 3 ∷ []
 
 -- after these numbers the next start is unknown: the held count, the store, the prelude
 abbrev pub end_numbers : List ℕ
 end_numbers = 1 ∷ 2 ∷ prelude_numbers
 
 -- whether the reading is over; 3 ends it too
-abbrev pub ends : Answer → Bool
-ends (Needs n) = false
-ends (Done f) = false
-ends (Refused e) = among e.number end_numbers
-ends (Short m n) = true
+abbrev pub ends : Result Answer ReadError → Bool
+ends (Ok (Needs n)) = false
+ends (Ok (Done f)) = false
+ends (Err (ReadError.Refused e)) = among e.number end_numbers
+ends (Err (ReadError.Short m n)) = true
 
 -- how many of k held bytes are held on: all where more are needed; else the next input begins
-abbrev pub kept : ℕ → Answer → ℕ
-kept k (Needs n) = k
-kept k (Done f) = 0
-kept k (Refused e) = 0
-kept k (Short m n) = 0
+abbrev pub kept : ℕ → Result Answer ReadError → ℕ
+kept k (Ok (Needs n)) = k
+kept k (Ok (Done f)) = 0
+kept k (Err (ReadError.Refused e)) = 0
+kept k (Err (ReadError.Short m n)) = 0
 
 -- ---- a piece
 
@@ -81,7 +83,7 @@ abbrev pub standing : State → List ℕ → List ℕ → List ℕ → List ℕ 
 standing x st s l c = record { held = x.held; ended = x.ended; store = st; symbology = s; layout = l; counts = c }
 
 -- where it stands after the answer a on k held bytes
-abbrev pub met : Night → ℕ → Answer → List ℕ → List ℕ → List ℕ → Night
+abbrev pub met : Night → ℕ → Result Answer ReadError → List ℕ → List ℕ → List ℕ → Night
 met x k a st s l = record { held = kept k a; ended = ends a; store = st; symbology = s; layout = l; counts = counted_all (outcomes a) x.counts }
 
 -- where it stands once k bytes are held in the store st

@@ -1,7 +1,8 @@
 -- A piece turn by turn, as the code meets it. Assumes nothing.
+use Rattle.block_format.specs.declared.ReadError.{ReadError}
 use Prim.Native.Nat.{ℕ, zero, suc, ◌+◌, ◌-◌, ◌≤◌, ◌<◌}
 use Rattle.std.proofs.Common.{arith, sym, ap, ap₂, subst, ◌∙◌, length-drop, drop-drop, take_all, eq-eqb, ne_eqb, leb-true}
-use Rattle.std.specs.Prelude.{◌≡◌, Bool, ◌||◌, List, length, take, drop, eqb, leb}
+use Rattle.std.specs.Prelude.{◌≡◌, Bool, ◌||◌, List, length, take, drop, eqb, leb, Result, Ok, Err}
 use Rattle.std.proofs.Math.Path.{refl}
 use Rattle.std.proofs.Math.Bool.{true, false, cond}
 use Rattle.refusal.specs.declared.Refusal.{Refusal}
@@ -14,7 +15,7 @@ use Rattle.feed.proofs.StageLaws.{start-law}
 use Rattle.feed.proofs.RefusalLaws.{feed_refuses}
 use Rattle.feed.specs.declared.Fed.{Fed}
 use Rattle.feed.specs.declared.Answer.{Answer}
-use Rattle.feed.specs.declared.Answer.TheVariants.{Needs, Done, Refused, Short}
+use Rattle.feed.specs.declared.Answer.TheVariants.{Needs, Done}
 use Rattle.count.specs.Count.{counted}
 use Rattle.count.specs.CountLaws.{all_none, all_one}
 use Rattle.count.specs.declared.Outcome.{Outcome}
@@ -25,21 +26,21 @@ use Rattle.night.specs.declared.Turn.{Turn}
 
 -- ---- what an answer comes to
 
-pub small_is : {a : Answer} {e : Refusal} → Small a → a ≡ Refused e → e.number < 256
+pub small_is : {a : Result Answer ReadError} {e : Refusal} → Small a → a ≡ Err (ReadError.Refused e) → e.number < 256
 small_is s q = subst Small q s
 
-pub judged_needs : {k : ℕ} {a : Answer} {c : List ℕ} {n : ℕ} → a ≡ Needs n → Judged k a c (record { held = k; ended = false }) c
+pub judged_needs : {k : ℕ} {a : Result Answer ReadError} {c : List ℕ} {n : ℕ} → a ≡ Ok (Needs n) → Judged k a c (record { held = k; ended = false }) c
 judged_needs {k} {a} {c} q = subst (λ b. Judged k b c (record { held = k; ended = false }) c) (sym q) (record { held = refl; ended = refl; counts = sym (all_none c) })
 
-module _ {k : ℕ} {a : Answer} {c c2 : List ℕ} where
-  pub judged-done : {f : Fields} → a ≡ Done f → c2 ≡ counted (Outcome.Accepted f.symbology_rows) c → Judged k a c (record { held = 0; ended = false }) c2
+module _ {k : ℕ} {a : Result Answer ReadError} {c c2 : List ℕ} where
+  pub judged-done : {f : Fields} → a ≡ Ok (Done f) → c2 ≡ counted (Outcome.Accepted f.symbology_rows) c → Judged k a c (record { held = 0; ended = false }) c2
   judged-done q n = subst (λ b. Judged k b c (record { held = 0; ended = false }) c2) (sym q) (record { held = refl; ended = refl; counts = n ∙ sym (all_one _ c) })
 
-  pub judged-refused : {e : Refusal} {b : Bool} → a ≡ Refused e → c2 ≡ counted (Outcome.Refused e.number) c → b ≡ among e.number end_numbers
+  pub judged-refused : {e : Refusal} {b : Bool} → a ≡ Err (ReadError.Refused e) → c2 ≡ counted (Outcome.Refused e.number) c → b ≡ among e.number end_numbers
       → Judged k a c (record { held = 0; ended = b }) c2
   judged-refused {b = b} q n h = subst (λ i. Judged k i c (record { held = 0; ended = b }) c2) (sym q) (record { held = refl; ended = h; counts = n ∙ sym (all_one _ c) })
 
-  pub judged-short : {m n : ℕ} → a ≡ Short m n → c2 ≡ counted (Outcome.Refused 3) c → Judged k a c (record { held = 0; ended = true }) c2
+  pub judged-short : {m n : ℕ} → a ≡ Err (ReadError.Short m n) → c2 ≡ counted (Outcome.Refused 3) c → Judged k a c (record { held = 0; ended = true }) c2
   judged-short q n = subst (λ b. Judged k b c (record { held = 0; ended = true }) c2) (sym q) (record { held = refl; ended = refl; counts = n ∙ sym (all_one _ c) })
 
 -- ---- one turn
@@ -48,11 +49,11 @@ module _ {k : ℕ} {a : Answer} {c c2 : List ℕ} where
 pub feed_small : (k : ℕ) (st p t s l : List ℕ) (r : Fed) (st' s' l' : List ℕ) → Feeding k st p t s l r st' s' l' → Small r.answer
 feed_small k st p t s l r st' s' l' f = go r.answer refl
   where
-    go : (a : Answer) → r.answer ≡ a → Small a
-    go (Needs n) q = tt
-    go (Done n) q = tt
-    go (Refused e) q = leb-true (suc e.number) 256 (in_pass (λ n. leb (suc n) 256) feed_numbers refl e.number (feed_refuses k st p t s l r st' s' l' f q))
-    go (Short m n) q = tt
+    go : (a : Result Answer ReadError) → r.answer ≡ a → Small a
+    go (Ok (Needs n)) q = tt
+    go (Ok (Done n)) q = tt
+    go (Err (ReadError.Refused e)) q = leb-true (suc e.number) 256 (in_pass (λ n. leb (suc n) 256) feed_numbers refl e.number (feed_refuses k st p t s l r st' s' l' f q))
+    go (Err (ReadError.Short m n)) q = tt
 
 -- a feed, and what its answer comes to, are a turn
 pub turn_is : (t : List ℕ) (x : Night) (p : List ℕ) (f : Fed) (st s l : List ℕ) (r : State) (c : List ℕ)

@@ -7,6 +7,7 @@ ghost use Rattle.codec.specs.Codec.{among};
 ghost use Rattle.night.specs.Night.{end_numbers, standing, Passed};
 ghost use Rattle.night.specs.Turns.{Small, Judged, TurnIs};
 
+use block::ReadError;
 use count::Outcome;
 use feed::Answer;
 
@@ -81,13 +82,13 @@ fn take_turn(
 }
 
 // Counts what an answer comes to, and answers the state after it: bytes are still needed, or the next input begins, or the reading is over.
-fn judge(held: usize, answer: Answer, counts: &mut [u64; 260]) -> State
+fn judge(held: usize, answer: Result<Answer, ReadError>, counts: &mut [u64; 260]) -> State
     requires { Small answer }
     ensures { Judged held answer counts.old result counts.new }
 {
     match answer {
-        Answer::Needs(_) => State { held, ended: false },
-        Answer::Done(f) => {
+        Ok(Answer::Needs(_)) => State { held, ended: false },
+        Ok(Answer::Done(f)) => {
             count::count(
                 counts,
                 Outcome::Accepted {
@@ -99,17 +100,19 @@ fn judge(held: usize, answer: Answer, counts: &mut [u64; 260]) -> State
                 ended: false,
             }
         }
-        Answer::Refused(e) => {
+        Err(ReadError::Refused(e)) => {
             count::count(counts, Outcome::Refused(e.number as u8));
             State {
                 held: 0,
                 ended: is_end(e.number),
             }
         }
-        Answer::Short {
-            symbology: _,
-            layout: _,
-        } => {
+        Err(
+            ReadError::Short {
+                symbology: _,
+                layout: _,
+            },
+        ) => {
             count::count(counts, Outcome::Refused(refusal::TABLE_SHORT as u8));
             State {
                 held: 0,
@@ -123,17 +126,12 @@ fn judge(held: usize, answer: Answer, counts: &mut [u64; 260]) -> State
 fn is_end(number: u32) -> bool
     ensures { result ≡ among number end_numbers }
 {
-    if number == refusal::HELD_BEYOND {
-        return true;
-    }
-    if number == refusal::STORE_SHORT {
-        return true;
-    }
-    if number == refusal::MAGIC {
-        return true;
-    }
-    if number == refusal::VERSION {
-        return true;
-    }
-    number == refusal::BLOCK_LENGTH
+    matches!(
+        number,
+        refusal::HELD_BEYOND
+            | refusal::STORE_SHORT
+            | refusal::MAGIC
+            | refusal::VERSION
+            | refusal::BLOCK_LENGTH
+    )
 }

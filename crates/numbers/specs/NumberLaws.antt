@@ -1,32 +1,34 @@
 -- What reading a number or some bytes at a place gives, where it reads and where it refuses. Assumes nothing.
-use Rattle.std.specs.Prelude.{ℕ, zero, suc, ◌+◌, ◌-◌, ◌*◌, ◌^◌, ◌≤◌, ◌<◌, ◌≡◌, refl, List, [], ◌∷◌, length, get_or, take, drop}
+use Rattle.std.specs.Prelude.{ℕ, zero, suc, ◌+◌, ◌-◌, ◌*◌, ◌^◌, ◌≤◌, ◌<◌, ◌≡◌, refl, List, [], ◌∷◌, length, get_or, take, drop, Ok, Err}
 use Rattle.std.proofs.Common.{zero-le, sym, ap, ◌∙◌, add-zero, zero-add, suc-add, mul_comm, mul_assoc, pow-suc, add-one, arith, length-take, length-drop, take_all}
 use Rattle.refusal.specs.declared.Refusal.{Refusal}
 use Rattle.codec.specs.Codec.{Res, ok, refuse, refusal, raw, value, num}
 use Rattle.codec.proofs.StepLaws.{raw_got, raw-bad, num_got, num-bad}
 use Rattle.codec.specs.CaseLaws.{by_le}
-use Rattle.numbers.specs.Numbers.{got_of, Past, past, take_at, num_at, u16_at, part, le16, le32, le64}
-use Rattle.numbers.specs.declared.Got.{Got}
-use Rattle.numbers.specs.declared.Got.TheVariants.{Value, Refused}
+use Rattle.numbers.specs.Numbers.{got_of, Past, past, take_at, num_at, u16_at, part, le16, le32, le64, Got}
+
+-- equal answers have equal numbers and places
+pub same_got : {v p w q : ℕ} → ◌≡◌ {A = Got} (Ok (v, p)) (Ok (w, q)) → (v ≡ w) × (p ≡ q)
+same_got {v} {p} {w} {q} e = let y : ◌≡◌ {A = ℕ × ℕ} (v, p) (w, q) = cc in (ap (λ x. x.0) y, ap (λ x. x.1) y)
 
 -- ---- bytes
 
 module _ (why n : ℕ) (s : List ℕ) (at : ℕ) where
-  pub take-ok : at + n ≤ length s → take_at why n s at ≡ Value n (at + n)
+  pub take-ok : at + n ≤ length s → take_at why n s at ≡ Ok (n, at + n)
   unfolding take_at
   take-ok h = rw (raw_got why n 0 s at h)
 
-  pub take_no : length s < at + n → take_at why n s at ≡ Refused (refusal why at)
+  pub take_no : length s < at + n → take_at why n s at ≡ Err (refusal why at)
   unfolding take_at
   take_no h = rw (raw-bad why n 0 s at h)
 
-  pub take-value : {v p : ℕ} → take_at why n s at ≡ Value v p → (p ≡ at + n) × (at + n ≤ length s)
+  pub take-value : {v p : ℕ} → take_at why n s at ≡ Ok (v, p) → (p ≡ at + n) × (at + n ≤ length s)
   take-value {v} {p} e =
       by_le (at + n) (length s)
-      (λ h. (let q = sym (take-ok h) ∙ e in let y : at + n ≡ p = cc in sym y, h))
+      (λ h. (sym (same_got (sym (take-ok h) ∙ e)).1, h))
       (λ h. let q = sym (take_no h) ∙ e in absurd (let z : ◌≡◌ {A = ℕ} 0 1 = cc in omega arith))
 
-  pub take-refused : {k : Refusal} → take_at why n s at ≡ Refused k → (k ≡ refusal why at) × (length s < at + n)
+  pub take-refused : {k : Refusal} → take_at why n s at ≡ Err k → (k ≡ refusal why at) × (length s < at + n)
   take-refused {k} e =
       by_le (at + n) (length s)
       (λ h. let q = sym (take-ok h) ∙ e in absurd (let z : ◌≡◌ {A = ℕ} 0 1 = cc in omega arith))
@@ -69,8 +71,8 @@ u64-is s i = value_join 4 4 s i ∙ rw (u32_is s i, u32_is s (i + 4))
 
 -- a number that was read, in the words of the format
 abbrev pub num_of : Got → Res ℕ
-num_of (Value v p) = ok v p
-num_of (Refused k) = refuse k
+num_of (Ok (v, p)) = ok v p
+num_of (Err k) = refuse k
 
 num-of : (r : Res ℕ) → r ≡ num_of (got_of (λ v. v) r)
 num-of (ok v p) = refl
@@ -81,39 +83,39 @@ module _ (why w : ℕ) (s : List ℕ) (at : ℕ) where
   unfolding num_at num raw
   num-is base = num-of ((num why w).parse 0 s at)
 
-  pub num-ok : at + w ≤ length s → num_at why w s at ≡ Value (value (take w (drop at s))) (at + w)
+  pub num-ok : at + w ≤ length s → num_at why w s at ≡ Ok (value (take w (drop at s)), at + w)
   unfolding num_at
   num-ok h = rw (num_got why w 0 s at h)
 
-  pub num-no : length s < at + w → num_at why w s at ≡ Refused (refusal why at)
+  pub num-no : length s < at + w → num_at why w s at ≡ Err (refusal why at)
   unfolding num_at
   num-no h = rw (num-bad why w 0 s at h)
 
   -- the number that was read, and where
-  pub num-value : {v p : ℕ} → num_at why w s at ≡ Value v p → (v ≡ value (take w (drop at s))) × (p ≡ at + w) × (at + w ≤ length s)
+  pub num-value : {v p : ℕ} → num_at why w s at ≡ Ok (v, p) → (v ≡ value (take w (drop at s))) × (p ≡ at + w) × (at + w ≤ length s)
   num-value {v} {p} e =
       by_le (at + w) (length s)
-      (λ h. let q = sym (num-ok h) ∙ e in (let z : value (take w (drop at s)) ≡ v = cc in sym z, let y : at + w ≡ p = cc in sym y, h))
+      (λ h. let q = sym (num-ok h) ∙ e in (sym (same_got q).0, sym (same_got q).1, h))
       (λ h. let q = sym (num-no h) ∙ e in absurd (let z : ◌≡◌ {A = ℕ} 0 1 = cc in omega arith))
 
-pub u16-ok : (why : ℕ) (s : List ℕ) (at : ℕ) → 2 ≤ length s - at → Value (le16 s at) (at + 2) ≡ num_at why 2 s at
-u16-ok why s at h = sym (num-ok why 2 s at (omega arith) ∙ ap (λ v. Value v (at + 2)) (u16-is s at))
+pub u16-ok : (why : ℕ) (s : List ℕ) (at : ℕ) → 2 ≤ length s - at → Ok (le16 s at, at + 2) ≡ num_at why 2 s at
+u16-ok why s at h = sym (num-ok why 2 s at (omega arith) ∙ ap (λ v. Ok (v, at + 2)) (u16-is s at))
 
-pub u32_ok : (why : ℕ) (s : List ℕ) (at : ℕ) → 4 ≤ length s - at → Value (le32 s at) (at + 4) ≡ num_at why 4 s at
-u32_ok why s at h = sym (num-ok why 4 s at (omega arith) ∙ ap (λ v. Value v (at + 4)) (u32_is s at))
+pub u32_ok : (why : ℕ) (s : List ℕ) (at : ℕ) → 4 ≤ length s - at → Ok (le32 s at, at + 4) ≡ num_at why 4 s at
+u32_ok why s at h = sym (num-ok why 4 s at (omega arith) ∙ ap (λ v. Ok (v, at + 4)) (u32_is s at))
 
 -- the u16 that was read, and where
-pub u16-value : (s : List ℕ) (at : ℕ) {v p : ℕ} → u16_at s at ≡ Value v p → (v ≡ le16 s at) × (p ≡ at + 2) × (at + 2 ≤ length s)
+pub u16-value : (s : List ℕ) (at : ℕ) {v p : ℕ} → u16_at s at ≡ Ok (v, p) → (v ≡ le16 s at) × (p ≡ at + 2) × (at + 2 ≤ length s)
 u16-value s at e = let (x, y, z) = num-value 50 2 s at e in (x ∙ u16-is s at, y, z)
 
 -- what a number that was read tells
-pub past-at : {b m at v p : ℕ} {s : List ℕ} {r : Got} → Past b m s at r → r ≡ Value v p → (at + m ≤ p) × (p ≤ length s) × (v < b)
+pub past-at : {b m at v p : ℕ} {s : List ℕ} {r : Got} → Past b m s at r → r ≡ Ok (v, p) → (at + m ≤ p) × (p ≤ length s) × (v < b)
 past-at {b} {m} {at} {v} {p} {s} {r} h e = go (rw e at h)
   where
-    go : Past b m s at (Value v p) → (at + m ≤ p) × (p ≤ length s) × (v < b)
+    go : Past b m s at (Ok (v, p)) → (at + m ≤ p) × (p ≤ length s) × (v < b)
     go (past x y z) = (x, y, z)
 
-pub past-mk : {b m at v p : ℕ} {s : List ℕ} → at + m ≤ p → p ≤ length s → v < b → Past b m s at (Value v p)
+pub past-mk : {b m at v p : ℕ} {s : List ℕ} → at + m ≤ p → p ≤ length s → v < b → Past b m s at (Ok (v, p))
 past-mk x y z = past x y z
 
 -- the part of a slice that a section's body is

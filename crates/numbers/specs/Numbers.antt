@@ -1,15 +1,17 @@
 -- What reading a number or some bytes at a place of a slice answers.
 -- Assumes nothing.
-use Rattle.std.specs.Prelude.{ℕ, ◌+◌, ◌-◌, ◌*◌, ◌≤◌, ◌<◌, Bool, List, length, get_or, take, drop, leb}
+use Rattle.std.specs.Prelude.{ℕ, ◌+◌, ◌-◌, ◌*◌, ◌≤◌, ◌<◌, Bool, List, length, get_or, take, drop, leb, Result, Ok, Err}
 use Rattle.refusal.specs.declared.Refusal.{Refusal}
 use Rattle.codec.specs.Codec.{Res, ok, refuse, raw, num}
-use Rattle.numbers.specs.declared.Got.{Got}
-use Rattle.numbers.specs.declared.Got.TheVariants.{Value, Refused}
+
+-- what was read, as a number, and the place after it; or the refusal
+abbrev pub Got : Type 0
+Got = Result (ℕ × ℕ) Refusal
 
 -- a number of what was read, and the place after it
 abbrev pub got_of : {A : Type 0} → (A → ℕ) → Res A → Got
-got_of f (ok x p) = Value (f x) p
-got_of f (refuse k) = Refused k
+got_of f (ok x p) = Ok (f x, p)
+got_of f (refuse k) = Err k
 
 -- n bytes; why where they run past the end
 unfoldable pub take_at : ℕ → ℕ → List ℕ → ℕ → Got
@@ -32,13 +34,13 @@ abbrev pub part : List ℕ → ℕ → ℕ → List ℕ
 part s b e = take (e - b) (drop b s)
 
 abbrev pub got_on : Got → (ℕ → ℕ → Got) → Got
-got_on (Value v p) f = f v p
-got_on (Refused k) f = Refused k
+got_on (Ok (v, p)) f = f v p
+got_on (Err k) f = Err k
 
 -- a number that was read past `at`: at least m bytes, within the section, and the number is below b
 pub data Past (b m : ℕ) (s : List ℕ) (at : ℕ) : Got → Type 0 where
-  past : {v p : ℕ} → at + m ≤ p → p ≤ length s → v < b → Past b m s at (Value v p)
-  refused : {k : Refusal} → Past b m s at (Refused k)
+  past : {v p : ℕ} → at + m ≤ p → p ≤ length s → v < b → Past b m s at (Ok (v, p))
+  refused : {k : Refusal} → Past b m s at (Err k)
 
 -- little-endian numbers, 0 for a byte past the end
 abbrev pub le16 : List ℕ → ℕ → ℕ
@@ -52,5 +54,5 @@ le64 b i = le32 b i + 4294967296 * le32 b (i + 4)
 
 -- the number of document 01: 0 for what was read
 abbrev pub got_number : Got → ℕ
-got_number (Value v p) = 0
-got_number (Refused k) = k.number
+got_number (Ok (v, p)) = 0
+got_number (Err k) = k.number

@@ -1,8 +1,7 @@
 -- Two answers that meet the same public promise are equal. Assumes nothing.
 use Rattle.std.specs.Prelude.{ℕ, ◌+◌, ◌-◌, ◌<◌, ◌≡◌, List, length}
 use Rattle.std.proofs.Common.{sym, ◌∙◌}
-use Rattle.numbers.specs.Numbers.{take_at, num_at, Past}
-use Rattle.numbers.specs.declared.Got.{Got}
+use Rattle.numbers.specs.Numbers.{take_at, num_at, Past, Got}
 
 -- of `wide`, and of whatever else promises a number v and that it is below b
 pub below : (v b r r' : ℕ) → (r ≡ v) × (r < b) → (r' ≡ v) × (r' < b) → r ≡ r'

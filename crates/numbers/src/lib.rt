@@ -1,17 +1,10 @@
-// Numbers and bytes at a place of a slice. Any slice and any place get an answer.
+// Numbers and bytes at a place of a slice. Any slice and any place get an answer: what was read and the place after it, or a refusal.
 #![tactic(auto)]
 
 ghost use Rattle.std.specs.Prelude.{◌≡◌, ◌+◌, ◌-◌, ◌*◌, ◌≤◌, ◌<◌, length};
 ghost use Rattle.numbers.specs.Numbers.{take_at, num_at, le16, Past};
 
 use refusal::Refusal;
-
-// What reading at a place gives: a number and the place after it, or a refusal.
-#[derive(Clone, Copy)]
-pub enum Got {
-    Value { value: usize, next: usize },
-    Refused(Refusal),
-}
 
 // How many bytes are left at `at`; none past the end.
 pub fn left(s: &[u8], at: usize) -> usize
@@ -21,34 +14,26 @@ pub fn left(s: &[u8], at: usize) -> usize
 }
 
 // The place after n bytes from `at` on; `why` at `at` where they run past the end.
-pub fn take(s: &[u8], at: usize, n: usize, why: u32) -> Got
+pub fn take(s: &[u8], at: usize, n: usize, why: u32) -> Result<(usize, usize), Refusal>
     ensures { (result ≡ take_at why n s.now at) × Past (n + 1) n s.now at result }
 {
-    if at <= s.len() {
-        if n <= s.len() - at {
-            return Got::Value {
-                value: n,
-                next: at + n,
-            };
-        }
+    if at <= s.len() && n <= s.len() - at {
+        return Ok((n, at + n));
     }
-    Got::Refused(Refusal {
+    Err(Refusal {
         number: why,
         place: at,
     })
 }
 
 // The u16 at `at`; `why` at `at` where it runs past the end.
-pub fn u16_at(s: &[u8], at: usize, why: u32) -> Got
+pub fn u16_at(s: &[u8], at: usize, why: u32) -> Result<(usize, usize), Refusal>
     ensures { (result ≡ num_at why 2 s.now at) × Past 65536 2 s.now at result }
 {
     if 2 <= left(s, at) {
-        Got::Value {
-            value: half(s, at),
-            next: at + 2,
-        }
+        Ok((half(s, at), at + 2))
     } else {
-        Got::Refused(Refusal {
+        Err(Refusal {
             number: why,
             place: at,
         })
@@ -56,16 +41,13 @@ pub fn u16_at(s: &[u8], at: usize, why: u32) -> Got
 }
 
 // The u32 at `at`; `why` at `at` where it runs past the end.
-pub fn u32_at(s: &[u8], at: usize, why: u32) -> Got
+pub fn u32_at(s: &[u8], at: usize, why: u32) -> Result<(usize, usize), Refusal>
     ensures { (result ≡ num_at why 4 s.now at) × Past 4294967296 4 s.now at result }
 {
     if 4 <= left(s, at) {
-        Got::Value {
-            value: half(s, at) + 65536 * half(s, at + 2),
-            next: at + 4,
-        }
+        Ok((half(s, at) + 65536 * half(s, at + 2), at + 4))
     } else {
-        Got::Refused(Refusal {
+        Err(Refusal {
             number: why,
             place: at,
         })

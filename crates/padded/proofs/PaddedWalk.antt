@@ -1,20 +1,19 @@
 -- Bytes with the ones before, in parts and all at once; texts of a width one after the other; a NUL among bytes. Assumes nothing.
-use Prim.Native.Nat.{ℕ, zero, suc, ◌+◌, ◌-◌, ◌/◌, ◌≤◌, ◌<◌}
-use native.Mathlib.Nat.{zero-add, suc-add, add-zero, sub-zero, div-eq_of_lt, div-eq-sub-div}
+use Prim.Native.Nat.{ℕ, zero, suc, ◌+◌, ◌-◌, ◌≤◌, ◌<◌}
+use native.Mathlib.Nat.{zero-add, suc-add, add-zero}
 use native.Mathlib.Numerals.{add-one}
 use native.Mathlib.Omega.{arith}
 use mathlib.Core.Path.{◌≡◌, refl, sym, ap, ◌∙◌}
 use mathlib.Core.Bool.{Bool, true, false, ◌&&◌, ◌||◌, or_assoc, or-false}
 use mathlib.Core.List.{List, [], ◌∷◌}
 use lib.Dec.{ltb, eqb, eqb-suc-zero, eqb-zero-suc}
-use lib.ListN.{length, get_or, take, drop, length-drop, drop_of_length-le}
-use lib.Seq.{drop-cons, drop-drop, get_or-drop, length-take-le}
+use lib.ListN.{length, get_or, drop, drop_of_length-le}
+use lib.Seq.{drop-cons, drop-drop, get_or-drop}
 use borrow.Author.Tests.{lt-ltb, le-ltb}
 use Rattle.codec.specs.Codec.{among}
 use Rattle.text.specs.Ascii.{ascii}
 use Rattle.text.specs.AndLaws.{and_left, and_true, and_false, and_join}
-use Rattle.padded.specs.Padded.{nul_padded, each_padded}
-use Rattle.padded.specs.EachPaddedLaws.{each_none, each_more}
+use Rattle.padded.specs.Padded.{nul_padded}
 use Rattle.padded.specs.Pairs.{good_pair, good_pairs, good_text}
 
 -- ---- in parts
@@ -64,23 +63,6 @@ pub pairs_whole : (s : List ℕ) → 0 < length s → good_text (length s - 1) s
 pairs_whole [] h = absurd (omega arith)
 pairs_whole (b ∷ t) h = let e : suc (length t) - 1 ≡ length t = omega arith in rw e (sym (pairs_all b t))
 
--- what follows the n bytes says nothing of them
-pairs_take : (n : ℕ) (s : List ℕ) → good_pairs n (take (suc n) s) ≡ good_pairs n s
-pairs_take zero s = refl
-pairs_take (suc n) [] = refl
-pairs_take (suc n) (b ∷ []) = refl
-pairs_take (suc n) (b ∷ c ∷ t) = ap (λ x. good_pair b c && x) (pairs_take n (c ∷ t))
-
--- a text that is the first w bytes
-pub text-first : (s : List ℕ) (w : ℕ) → 0 < w → w ≤ length s → good_text (w - 1) s ≡ (ascii (take w s) && nul_padded (take w s))
-text-first s zero any fits = absurd (omega arith)
-text-first [] (suc n) any fits = absurd (omega arith)
-text-first (b ∷ t) (suc n) any fits =
-    let long : length (take (suc n) (b ∷ t)) ≡ suc n = length-take-le (suc n) (b ∷ t) fits in
-    let one : suc n - 1 ≡ n = omega arith in
-    let whole = pairs_whole (take (suc n) (b ∷ t)) (omega arith) in
-    rw one (ap (λ x. ltb b 128 && x) (sym (pairs_take n (b ∷ t))) ∙ rw (long, one) at whole)
-
 -- ---- a text that starts at a
 module _ (s : List ℕ) (a n : ℕ) where
   -- its first byte is above 127
@@ -126,35 +108,6 @@ module _ {s : List ℕ} {a i : ℕ} (v : Walked s a i) where
       let split = pairs_add (e - a) (i - e) (drop a s) in
       let before = and_left (good_pairs (e - a) (drop a s)) (good_pairs (i - e) (drop (e - a) (drop a s))) (sym split ∙ ap (λ j. good_pairs j (drop a s)) count ∙ v.good) in
       walked-rest (record { on = low; good = before }) n m last
-
--- ---- texts of w bytes, one after the other: those before p are good
-pub record Texts (w : ℕ) (s : List ℕ) (p : ℕ) : Type 0 where
-  pub bound : p ≤ length s
-  pub same : each_padded w (length s / w) s ≡ each_padded w ((length s - p) / w) (drop p s)
-
-pub texts-none : (w : ℕ) (s : List ℕ) → Texts w s 0
-texts-none w s = record { bound = omega arith; same = rw (sub-zero (length s)) }
-
-module _ {w : ℕ} {s : List ℕ} {p : ℕ} (v : Texts w s p) where
-  pub texts-end : length s - p < w → true ≡ each_padded w (length s / w) s
-  texts-end h = sym (v.same ∙ rw (div-eq_of_lt h) (each_none w (drop p s)))
-
-  module _ (any : 0 < w) (fits : w ≤ length s - p) where
-    one : each_padded w (length s / w) s ≡ (good_text (w - 1) (drop p s) && each_padded w ((length s - (p + w)) / w) (drop (p + w) s))
-    one =
-        let left : length s - p - w ≡ length s - (p + w) = omega arith in
-        let count : (length s - p) / w ≡ suc ((length s - (p + w)) / w) = div-eq-sub-div any fits ∙ rw left (add-one ((length s - (p + w)) / w)) in
-        let text = text-first (drop p s) w any (rw (length-drop p s) fits) in
-        v.same
-        ∙ ap (λ n. each_padded w n (drop p s)) count
-        ∙ each_more w ((length s - (p + w)) / w) (drop p s)
-        ∙ rw (sym text, drop-drop w p s)
-
-    pub texts_miss : false ≡ good_text (w - 1) (drop p s) → false ≡ each_padded w (length s / w) s
-    texts_miss e = sym (one ∙ rw (sym e))
-
-    pub texts-next : true ≡ good_text (w - 1) (drop p s) → Texts w s (p + w)
-    texts-next e = record { bound = omega (arith, v.bound); same = one ∙ rw (sym e) }
 
 -- ---- a NUL among bytes, one after the other
 same-zero : (b : ℕ) → eqb b 0 ≡ eqb 0 b

@@ -1,5 +1,5 @@
 -- What a prelude prints, and that it is read back. Assumes nothing.
-use Rattle.std.specs.Prelude.{ℕ, ◌%◌, ◌≤◌, ◌≡◌, refl, true, List, [], ◌∷◌, ◌++◌, leb}
+use Rattle.std.specs.Prelude.{ℕ, ◌%◌, ◌≤◌, ◌≡◌, refl, true, List, [], ◌∷◌, ◌++◌, leb, Ok}
 use Rattle.std.proofs.Common.{arith, ◌∙◌, leb-true, le-leb}
 use Rattle.codec.specs.CaseLaws.{both_true}
 use Rattle.codec.specs.Codec.{little, num, fixed, named, checked, ◌then◌}
@@ -13,7 +13,7 @@ unfolding prelude magic named ◌then◌ checked fixed num
 prelude-print p = refl
 
 -- it is read, whatever follows it
-pub prelude-back : (p : Prelude) (post : List ℕ) → is_version p.version ≡ true → 100 ≤ p.len → p.len ≤ 4294967295 → prelude_of (prelude.codec.print p ++ post) ≡ Whole p.version p.len
+pub prelude-back : (p : Prelude) (post : List ℕ) → is_version p.version ≡ true → 100 ≤ p.len → p.len ≤ 4294967295 → prelude_of (prelude.codec.print p ++ post) ≡ Ok (Whole p.version p.len)
 prelude-back p post e h l =
     let (_, few) = both_true (leb 1 p.version) (leb p.version 4) e in
     let v : p.version % 256 ≡ p.version = omega (arith, leb-true p.version 4 few) in

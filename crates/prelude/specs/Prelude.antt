@@ -1,10 +1,11 @@
 -- The prelude, as document 01's "Bytes on the wire" has it, and the verdict on it.
 -- Assumes nothing.
-use Rattle.std.specs.Prelude.{ℕ, ◌-◌, refl, Bool, false, ◌&&◌, cond, List, [], ◌∷◌, length, leb, ltb}
+use Rattle.std.specs.Prelude.{ℕ, ◌-◌, refl, Bool, false, ◌&&◌, cond, List, [], ◌∷◌, length, leb, ltb, Result, Ok, Err}
+use Rattle.refusal.specs.declared.Refusal.{Refusal}
 use Rattle.codec.specs.Codec.{Res, ok, refuse, value}
 use Rattle.codec.proofs.Format.{Format, fixed, num_test, ◌then◌, named}
 use Rattle.prelude.specs.declared.Stage.{Stage}
-use Rattle.prelude.specs.declared.Stage.TheVariants.{Needs, Refused, Whole}
+use Rattle.prelude.specs.declared.Stage.TheVariants.{Needs, Whole}
 
 -- what eight bytes say: the version, and the length of the block after them
 pub record Prelude : Type 0 where
@@ -28,20 +29,20 @@ prelude = named
     (magic then num_test is_version 11 11 1 then num_test (leb 100) 12 12 4)
 
 -- what was read of it, as a stage
-abbrev pub said : Res Prelude → Stage
-said (ok p j) = Whole p.version p.len
-said (refuse k) = Refused k
+abbrev pub said : Res Prelude → Result Stage Refusal
+said (ok p j) = Ok (Whole p.version p.len)
+said (refuse k) = Err k
 
 -- what refuses a prelude
 abbrev pub prelude_numbers : List ℕ
 prelude_numbers = 10 ∷ 11 ∷ 12 ∷ []
 
 -- THE VERDICT on a prelude: what is missing of its eight bytes; with eight held 10, 11, 12, or the version and the length
-unfoldable pub prelude_of : List ℕ → Stage
-prelude_of s = cond (ltb (length s) 8) (Needs (8 - length s)) (said (prelude.codec.parse 0 s 0))
+unfoldable pub prelude_of : List ℕ → Result Stage Refusal
+prelude_of s = cond (ltb (length s) 8) (Ok (Needs (8 - length s))) (said (prelude.codec.parse 0 s 0))
 
 -- a stage's refusal number; 0 where it is none
-abbrev pub stage_number : Stage → ℕ
-stage_number (Needs n) = 0
-stage_number (Refused e) = e.number
-stage_number (Whole v len) = 0
+abbrev pub stage_number : Result Stage Refusal → ℕ
+stage_number (Ok (Needs n)) = 0
+stage_number (Ok (Whole v len)) = 0
+stage_number (Err e) = e.number

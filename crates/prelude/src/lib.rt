@@ -1,9 +1,9 @@
 // The prelude: the eight bytes that begin a stream, and the verdict on them.
 #![tactic(auto)]
 
-ghost use Rattle.std.specs.Prelude.{◌≡◌};
+ghost use Rattle.std.specs.Prelude.{◌≡◌, Result, Err};
 ghost use Rattle.codec.specs.Codec.{refusal};
-ghost use Rattle.prelude.specs.Prelude.{prelude_of};
+ghost use Rattle.prelude.specs.Prelude.{is_version, prelude_of};
 ghost use Rattle.prelude.specs.declared.Stage.{Stage};
 
 use refusal::Refusal;
@@ -14,48 +14,38 @@ const METADATA_PRELUDE_LEN: usize = 8;
 // The least block that a prelude may announce.
 const METADATA_FIXED_LEN: usize = 100;
 
-// How far bytes have come: so many more are needed, or they are refused, or there is a block of this version and length.
+// How far bytes have come: so many more are needed, or there is a block of this version and length.
 #[derive(Clone, Copy)]
 pub enum Stage {
     Needs(usize),
-    Refused(Refusal),
     Whole { version: u8, len: usize },
 }
 
 // The verdict on a prelude: the bytes missing, or 10 at place 0, 11 at 3, 12 at 4, or its version and block length. Bytes past the eighth are not looked at.
-pub fn prelude(s: &[u8]) -> Stage
+pub fn prelude(s: &[u8]) -> Result<Stage, Refusal>
     ensures { result ≡ prelude_of s.now }
 {
     let n = s.len();
     if n < METADATA_PRELUDE_LEN {
-        return Stage::Needs(METADATA_PRELUDE_LEN - n);
+        return Ok(Stage::Needs(METADATA_PRELUDE_LEN - n));
     }
-    if s[0] != b'D' {
-        return refused(refusal::MAGIC, 0);
-    }
-    if s[1] != b'B' {
-        return refused(refusal::MAGIC, 0);
-    }
-    if s[2] != b'N' {
-        return refused(refusal::MAGIC, 0);
+    if !s.starts_with(b"DBN") {
+        return refusal::refuse(refusal::MAGIC, 0);
     }
     let version = s[3];
-    if version < 1 {
-        return refused(refusal::VERSION, 3);
-    }
-    if 4 < version {
-        return refused(refusal::VERSION, 3);
+    if !is_version(version) {
+        return refusal::refuse(refusal::VERSION, 3);
     }
     let len = filled_numbers::u32_of(s, 4);
     if len < METADATA_FIXED_LEN {
-        return refused(refusal::BLOCK_LENGTH, 4);
+        return refusal::refuse(refusal::BLOCK_LENGTH, 4);
     }
-    Stage::Whole { version, len }
+    Ok(Stage::Whole { version, len })
 }
 
-// The refusal by a number at a place of the prelude.
-fn refused(number: u32, place: usize) -> Stage
-    ensures { result ≡ Stage.Refused (refusal number place) }
+// Whether there is such a version: 1 to 4.
+pub fn is_version(version: u8) -> bool
+    ensures { result ≡ is_version version }
 {
-    Stage::Refused(Refusal { number, place })
+    (1..=4).contains(&version)
 }

@@ -1,7 +1,7 @@
 // A refusal, and the refusal numbers of documents 01 and 02, each with a name.
 #![tactic(auto)]
 
-ghost use Rattle.std.specs.Prelude.{◌≡◌};
+ghost use Rattle.std.specs.Prelude.{◌≡◌, Err};
 ghost use Rattle.refusal.specs.Places.{has_place};
 
 // A number of the table, and the place of what it is about, counted in the bytes that were given. 1 to 3, 13, 60 to 83 and 90 to
@@ -12,27 +12,19 @@ pub struct Refusal {
     pub place: usize,
 }
 
+// A refusal by a number at a place, as the answer of whatever could have given something else.
+pub fn refuse<T>(number: u32, place: usize) -> Result<T, Refusal>
+    ensures { result ≡ Err (record { number = number; place = place }) }
+{
+    Err(Refusal { number, place })
+}
+
 // Whether a refusal by this number is about a place: every refusal from reading is, 10 to 12 and 20 to 55, and so is what is untidy in a
 // layout, 120 to 123.
 pub fn has_place(number: u32) -> bool
     ensures { result ≡ has_place number }
 {
-    if number < 10 {
-        return false;
-    }
-    if number <= 12 {
-        return true;
-    }
-    if number < 20 {
-        return false;
-    }
-    if number <= 55 {
-        return true;
-    }
-    if number < 120 {
-        return false;
-    }
-    number <= 123
+    matches!(number, 10..=12 | 20..=55 | 120..=123)
 }
 
 // The state, the store and the tables.

@@ -1,6 +1,7 @@
 -- Parts stored one after the other, and what the lines and the report are made of.
 -- Assumes nothing.
-use Prim.Native.Nat.{ℕ, zero, suc, ◌-◌, ◌≤◌, ◌<◌}
+use Rattle.std.proofs.Common.{◌+◌}
+use Prim.Native.Nat.{ℕ, suc, ◌-◌, ◌≤◌, ◌<◌}
 use native.Mathlib.Omega.{arith}
 use mathlib.Core.Path.{◌≡◌, refl, subst, ap₂}
 use mathlib.Core.List.{List, [], ◌∷◌, ◌++◌, append-nil}
@@ -82,28 +83,22 @@ some_of n l d = rw (ne_eqb n 0 d)
 pub room-is : {at : ℕ} {xs ys o : List ℕ} → RoomFor at xs o → xs ≡ ys → RoomFor at ys o
 room-is r e = rw e at r
 
--- the next of the k numbers that are left below m
-numbers-next : (f : ℕ → ℕ) (m k : ℕ) → 0 < k → k ≤ m → refused_lines f (m - k) k ≡ unless_none (f (m - k)) (refused_line (m - k) (f (m - k))) ++ refused_lines f (m - (k - 1)) (k - 1)
+-- the next of the numbers from c on, of which there are m
+numbers-next : (f : ℕ → ℕ) (c m k : ℕ) → m - c ≡ suc k → refused_lines f c (m - c) ≡ unless_none (f c) (refused_line c (f c)) ++ refused_lines f (c + 1) (m - (c + 1))
 unfolding refused_lines
-numbers-next f m zero p h = absurd (omega arith)
-numbers-next f m (suc k) p h =
-    let c = m - suc k in
-    let e : suc c ≡ m - (suc k - 1) = omega arith in
-    let q : k ≡ suc k - 1 = omega arith in
-    ap₂ (λ (i j : ℕ). unless_none (f c) (refused_line c (f c)) ++ refused_lines f i j) e q
+numbers-next f c m k h =
+    let e : suc c ≡ c + 1 = omega arith in
+    let q : k ≡ m - (c + 1) = omega arith in
+    rw h (ap₂ (λ (i j : ℕ). unless_none (f c) (refused_line c (f c)) ++ refused_lines f i j) e q)
 
-numbers-none : (f : ℕ → ℕ) (c k : ℕ) → k ≤ 0 → refused_lines f c k ≡ []
-unfolding refused_lines
-numbers-none f c zero h = refl
-numbers-none f c (suc k) h = absurd (omega arith)
+-- the lines of the numbers from c on are still to be written
+module _ (f : ℕ → ℕ) (c m : ℕ) {at : ℕ} {bs o₀ : List ℕ} {a : ℕ} {o : List ℕ} (l : Left at bs o₀ a (refused_lines f c (m - c)) o) where
+  pub number-room : c < m → RoomFor a (unless_none (f c) (refused_line c (f c))) o
+  number-room p = left-room l (refused_lines f (c + 1) (m - (c + 1))) (numbers-next f c m (m - c - 1) (omega arith))
 
--- the lines of the k numbers that are left below m are still to be written
-module _ (f : ℕ → ℕ) (m k : ℕ) {at : ℕ} {bs o₀ : List ℕ} {a : ℕ} {o : List ℕ} (l : Left at bs o₀ a (refused_lines f (m - k) k) o) where
-  pub number-room : 0 < k → k ≤ m → RoomFor a (unless_none (f (m - k)) (refused_line (m - k) (f (m - k)))) o
-  number-room p h = left-room l (refused_lines f (m - (k - 1)) (k - 1)) (numbers-next f m k p h)
+  pub number-wrote : {o' : List ℕ} {a' : ℕ} → c < m → Wrote a (unless_none (f c) (refused_line c (f c))) o o' a' → Left at bs o₀ a' (refused_lines f (c + 1) (m - (c + 1))) o'
+  number-wrote p w = left_step l (numbers-next f c m (m - c - 1) (omega arith)) w
 
-  pub number-wrote : {o' : List ℕ} {a' : ℕ} → 0 < k → k ≤ m → Wrote a (unless_none (f (m - k)) (refused_line (m - k) (f (m - k)))) o o' a' → Left at bs o₀ a' (refused_lines f (m - (k - 1)) (k - 1)) o'
-  number-wrote p h w = left_step l (numbers-next f m k p h) w
-
-  pub numbers-done : k ≤ 0 → Wrote at bs o₀ o a
-  numbers-done h = left-done l (numbers-none f (m - k) k h)
+  pub numbers-done : m ≤ c → Wrote at bs o₀ o a
+  unfolding refused_lines
+  numbers-done h = let z : m - c ≡ 0 = omega arith in left-done l (rw z)

@@ -25,11 +25,8 @@ fn put_refused(out: &mut [u8], at: usize, counts: &[u64; 260]) -> usize
     ensures { Wrote at (refused_lines (λ n. get_or counts.now n 0) 0 256) out.old out.new result }
 {
     let mut a = at;
-    let mut left: usize = 256;
-    while 0 < left {
-        let number = 256 - left;
+    for number in 0..256 {
         a = put_number(out, a, number, counts[number]);
-        left -= 1;
     }
     a
 }

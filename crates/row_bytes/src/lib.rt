@@ -10,8 +10,6 @@ ghost use Rattle.columns_check.specs.PrintLaws.{printed_row};
 ghost use Rattle.row_bytes.specs.Row.{row_stands, more_of, row_bytes};
 ghost use Rattle.row_bytes.specs.RowLaws.{Standing};
 
-use dates::Calendar;
-
 // The bytes of row r, from `at` on, for symbols of this width; the place after them. Where they run past the end of the output, or the row
 // cannot stand in a symbology, nothing is stored and the answer is the place given.
 pub fn put_row(
@@ -127,7 +125,7 @@ fn date(day: u32) -> usize
     ensures { result ≡ date_of_day day }
 {
     match dates::date_of_day(day) {
-        Calendar::Has(d) => d as usize,
-        Calendar::Lacks => 0,
+        Some(d) => d as usize,
+        None => 0,
     }
 }

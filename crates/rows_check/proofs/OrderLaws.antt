@@ -9,10 +9,12 @@ use mathlib.Core.List.{List}
 use mathlib.Core.Logic.{◌⊎◌, inl, inr, ⊎_elim}
 use lib.Dec.{eqb}
 use borrow.Author.Tests.{eq-eqb, ne_eqb, eqb-true}
+use Rattle.std.specs.Prelude.{Option, Some, None}
 use Rattle.codec.specs.CaseLaws.{by_bool, by_eqb}
+use Rattle.rows_check.specs.declared.order.Groups.{Groups}
 use Rattle.rows_check.specs.Tree.{cell, row_count, next_section, skip, count_kind, kinds}
 use Rattle.rows_check.specs.Check.{name_kind, section_in_place, walk, in_order}
-use Rattle.rows_check.specs.Answers.{Ends, Reaches, Counts}
+use Rattle.rows_check.specs.Answers.{Ends, Reaches, Walked, Counts}
 use Rattle.rows_check.specs.CheckLaws.{Places, name-kind-is, next_more, in_place, walk_places, walk_from}
 use Rattle.rows_check.proofs.WalkLaws.{walk_yes, walk_no, walk_none, kinds_in_section, kinds_in_places, skip-more}
 
@@ -107,15 +109,12 @@ module _ (kind : ℕ) (rows text : List ℕ) where
     }
 
     -- at a section that is not in place
-    pub going_fails : p < row_count rows → cell rows p 0 ≡ kind → section_in_place kind rows text p ≡ false → Reaches kind rows text q n (row_count rows + 1)
-    going_fails h c e = record {
-      ends = λ l. absurd (omega arith);
-      only = λ m s f.
-          let here = g.left m s f in
-          let o : true ≡ false = sym (ends-first p (m - n) s here (ends_more p (m - n) s here h c)) ∙ e in
-          let z : ◌≡◌ {A = ℕ} 0 1 = cc in
-          absurd (omega arith);
-    }
+    pub going_fails : p < row_count rows → cell rows p 0 ≡ kind → section_in_place kind rows text p ≡ false → (m s : ℕ) → Ends kind rows text q m s → ⊥
+    going_fails h c e m s f =
+        let here = g.left m s f in
+        let o : true ≡ false = sym (ends-first p (m - n) s here (ends_more p (m - n) s here h c)) ∙ e in
+        let z : ◌≡◌ {A = ℕ} 0 1 = cc in
+        omega arith
 
 -- ---- counts
 
@@ -220,43 +219,56 @@ module _ (rows text : List ℕ) (na a nb b nd d : ℕ) where
         let first = x.ends (walk_from rows text 13 nb a (omega (arith, second.walked, second.inside))) in
         (first, (second, third))
 
-    -- sections of the three kinds up to the last row are those that were walked over
-    all-walked : (l m n p q r : ℕ) → walk 10 rows text 0 l ≡ p → walk 13 rows text p m ≡ q → walk 14 rows text q n ≡ r → r ≡ row_count rows → r ≡ d
-    all-walked l m n p q r u v w all =
-        let hr : r ≤ row_count rows = omega arith in
-        let hq : q ≤ row_count rows = walk_from rows text 14 n q (omega (arith, w)) in
-        let hp : p ≤ row_count rows = walk_from rows text 13 m p (omega (arith, v)) in
-        let last : (kind : ℕ) → r < row_count rows → cell rows r 0 ≡ kind → ⊥ = λ kind g e. omega arith in
-        let no_record : p < row_count rows → cell rows p 0 ≡ 10 → ⊥ = none-begins 10 13 rows text (λ e. omega arith) p m q v hq (none-begins 10 14 rows text (λ e. omega arith) q n r w hr (last 10)) in
-        let no-struct : q < row_count rows → cell rows q 0 ≡ 13 → ⊥ = none-begins 13 14 rows text (λ e. omega arith) q n r w hr (last 13) in
-        let e1 : p ≡ a = x.only l p (record { walked = u; inside = hp; stops = no_record }) in
-        let e2 : q ≡ b = y.only m q (record { walked = rw e1 at v; inside = hq; stops = no-struct }) in
-        z.only n r (record { walked = rw e2 at w; inside = hr; stops = last 14 })
+    pub counted : d ≡ row_count rows → (in_order rows text ≡ true) × ((na ≡ kinds rows 10) × ((nb ≡ kinds rows 13) × (nd ≡ kinds rows 14)))
+    counted all =
+        let (first, (second, third)) = reached all in
+        (in_order_yes first second third all, (records-are first second third all, (structs-are first second third all, labels-are first second third all)))
 
-    in_order_ends : in_order rows text ≡ true → d ≡ row_count rows
-    unfolding in_order
-    in_order_ends t = let all = eqb-true _ _ t in sym (all-walked _ _ _ _ _ _ refl refl refl all) ∙ all
+-- ---- rows that are not in order
 
-    pub counts-told : Counts (in_order rows text) rows (eqb d (row_count rows)) na nb nd
-    counts-told = record {
-      told =
-          by_bool (in_order rows text)
-          (λ t. eq-eqb d (row_count rows) (in_order_ends t) ∙ sym t)
-          (λ f. by_bool (eqb d (row_count rows))
-          (λ t. let all = eqb-true _ _ t in let (first, (second, third)) = reached all in t ∙ sym (in_order_yes first second third all))
-          (λ e. e ∙ sym f));
-      counts = λ t.
-          let all = eqb-true _ _ t in
-          let (first, (second, third)) = reached all in
-          (records-are first second third all, (structs-are first second third all, labels-are first second third all));
-    }
+-- three walks from the first row to the last
+record Three (rows text : List ℕ) (l m n p q r : ℕ) : Type 0 where
+  first : Ends 10 rows text 0 l p
+  second : Ends 13 rows text p m q
+  third : Ends 14 rows text q n r
 
--- rows of which it does not hold
-pub counts-none : {x b : Bool} {rows : List ℕ} {r s l : ℕ} → b ≡ false → x ≡ false → Counts x rows b r s l
-counts-none f g = record {
-  told = f ∙ sym g;
-  counts = λ t. let z : ◌≡◌ {A = ℕ} 0 1 = cc in absurd (omega arith);
-}
+module _ (rows text : List ℕ) where
+  -- sections of the three kinds up to the last row are all there are
+  three : (l m n p q r : ℕ) → walk 10 rows text 0 l ≡ p → walk 13 rows text p m ≡ q → walk 14 rows text q n ≡ r → r ≡ row_count rows → Three rows text l m n p q r
+  three l m n p q r u v w all =
+      let hr : r ≤ row_count rows = omega arith in
+      let hq : q ≤ row_count rows = walk_from rows text 14 n q (omega (arith, w)) in
+      let hp : p ≤ row_count rows = walk_from rows text 13 m p (omega (arith, v)) in
+      let last : (kind : ℕ) → r < row_count rows → cell rows r 0 ≡ kind → ⊥ = λ kind g e. omega arith in
+      let no_record : p < row_count rows → cell rows p 0 ≡ 10 → ⊥ = none-begins 10 13 rows text (λ e. omega arith) p m q v hq (none-begins 10 14 rows text (λ e. omega arith) q n r w hr (last 10)) in
+      let no-struct : q < row_count rows → cell rows q 0 ≡ 13 → ⊥ = none-begins 13 14 rows text (λ e. omega arith) q n r w hr (last 13) in
+      record { first = record { walked = u; inside = hp; stops = no_record }; second = record { walked = v; inside = hq; stops = no-struct }; third = record { walked = w; inside = hr; stops = last 14 } }
 
-pub counts-is : {x y b : Bool} {rows : List ℕ} {r s l : ℕ} → Counts x rows b r s l → x ≡ y → Counts y rows b r s l
-counts-is c e = record { told = c.told ∙ e; counts = c.counts }
+  -- no rows are in order that have no three such walks
+  unordered : ((l m n p q r : ℕ) → Three rows text l m n p q r → r ≡ row_count rows → ⊥) → in_order rows text ≡ false
+  unfolding in_order
+  unordered f = by_bool (in_order rows text) (λ t. let all = eqb-true _ _ t in absurd (f _ _ _ _ _ _ (three _ _ _ _ _ _ refl refl refl all) all)) (λ e. e)
+
+  pub no_first : Walked 10 rows text 0 None → in_order rows text ≡ false
+  no_first f = unordered (λ l m n p q r t all. f l p t.first)
+
+  module _ {na a : ℕ} (x : Reaches 10 rows text 0 na a) where
+    pub no-second : Walked 13 rows text a None → in_order rows text ≡ false
+    no-second f = unordered (λ l m n p q r t all. let e : p ≡ a = x.only l p t.first in f m q (rw e at t.second))
+
+    module _ {nb b : ℕ} (y : Reaches 13 rows text a nb b) where
+      third-from : {l m n p q r : ℕ} → Three rows text l m n p q r → Ends 14 rows text b n r
+      third-from {l} {m} {n} {p} {q} {r} t =
+          let e : p ≡ a = x.only l p t.first in
+          let f : q ≡ b = y.only m q (rw e at t.second) in
+          rw f at t.third
+
+      pub no-third : Walked 14 rows text b None → in_order rows text ≡ false
+      no-third f = unordered (λ l m n p q r t all. f n r (third-from t))
+
+      pub no-end : {nd d : ℕ} → Reaches 14 rows text b nd d → (d ≡ row_count rows → ⊥) → in_order rows text ≡ false
+      no-end {nd} {d} z g = unordered (λ l m n p q r t all. let e : r ≡ d = z.only n r (third-from t) in g (sym e ∙ all))
+
+pub counts-is : {x y : Bool} (rows : List ℕ) (o : Option Groups) → x ≡ y → Counts x rows o → Counts y rows o
+counts-is rows (Some g) e c = (sym e ∙ c.0, c.1)
+counts-is rows None e c = sym e ∙ c

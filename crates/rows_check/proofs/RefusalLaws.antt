@@ -1,6 +1,6 @@
 -- Which numbers the check of rows gives.
 -- Assumes nothing.
-use Rattle.std.specs.Prelude.{ℕ, ◌≡◌, Bool, cond, List}
+use Rattle.std.specs.Prelude.{ℕ, ◌≡◌, Bool, cond, List, Err}
 use Rattle.std.proofs.Math.Path.{refl}
 use Rattle.std.proofs.Common.{sym, subst}
 use Rattle.std.proofs.Math.Bool.{true, false}
@@ -10,7 +10,6 @@ use Rattle.rows_check.specs.Tree.{row_count}
 use Rattle.rows_check.specs.Check.{well_formed, counts_fit, passes, sizes_fit, labels_rise, fault_numbers, fit_fault, fault}
 use Rattle.rows_check.specs.Answers.{sized_of}
 use Rattle.rows_check.specs.AnswerLaws.{sized-fault}
-use Rattle.rows_check.specs.declared.Sized.TheVariants.{Refused}
 
 module _ (whole : Bool) (rows text : List ℕ) where
   pub check_fault : Fault (In (fault_numbers whole)) (fault whole rows text)
@@ -30,7 +29,7 @@ module _ (whole : Bool) (rows text : List ℕ) where
       go true true true true true true true n = absurd (n refl)
 
   -- what the check's answer refuses with
-  pub check_refuses : {k : Refusal} → Refused k ≡ sized_of whole rows text → In (fault_numbers whole) k.number
+  pub check_refuses : {k : Refusal} → Err k ≡ sized_of whole rows text → In (fault_numbers whole) k.number
   check_refuses {k} e =
       let (n, f) = sized-fault whole rows text k e in
       subst (λ (r : Refusal). In (fault_numbers whole) r.number) (sym f) (check_fault n)

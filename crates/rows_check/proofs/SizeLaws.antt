@@ -13,8 +13,9 @@ use Rattle.rows_check.specs.Tree.{cell, row_count, after, count_of, names_from, 
 use Rattle.rows_check.specs.Check.{both, every, passes, well_formed, counts_fit, printed_section, fits_all, sections_fit, size, rises_at, fit_fault, fault}
 use Rattle.rows_check.specs.Sections.{SectionRows, many, printed_name, printed_body, printed_group}
 use Rattle.rows_check.specs.SectionLaws.{many-none, many-next, section-is, layout_is, record_length, struct_length, label_def_length}
-use Rattle.rows_check.specs.Answers.{nameless_size, clip, size_of, made, sized_of}
-use Rattle.rows_check.specs.declared.Sized.TheVariants.{Length, Refused}
+use Rattle.rows_check.specs.Answers.{Counted, nameless_size, clip, size_of, Sized, made, sized_of}
+use Rattle.std.specs.Prelude.{Ok, Err}
+use Rattle.rows_check.specs.declared.order.Groups.{Groups}
 
 -- ---- sizes
 
@@ -28,6 +29,10 @@ pub sizes-none : (next : ℕ → ℕ) (f : ℕ → List ℕ) (q k s : ℕ) → k
 sizes-none next f q k s h l =
     let n : length (many next f q k) ≡ 0 = ap length (many-none next f q k h) in
     omega arith
+
+-- of the names from row q up to row e
+pub names-next : (f : ℕ → List ℕ) (q e s x : ℕ) → q < e → x ≡ length (f q) → clip (clip (s + x) + length (many after f (q + 1) (e - (q + 1)))) ≡ clip (s + length (many after f q (e - q)))
+names-next f q e s x h l = let z : e - q - 1 ≡ e - (q + 1) = omega arith in rw z at (sizes-next after f q (e - q) s x (omega arith) l)
 
 -- the body of a section: what is not its names, and its names
 pub body-length : (kind : ℕ) (rows text : List ℕ) (q : ℕ) → SectionRows kind rows text q
@@ -129,47 +134,51 @@ fit-no false n h = refl
 
 -- ---- the ways out: what was tested, and what the answer is then
 
+-- so many bytes, and those groups
+abbrev pub sized : ℕ → Groups → Sized
+sized b g = Ok (record { bytes = b; records = g.records; structs = g.structs; labels = g.labels })
+
 module _ (rows text : List ℕ) where
-  refused : (whole : Bool) (n : ℕ) → 0 < n → fault whole rows text ≡ n → Refused (refusal n 0) ≡ sized_of whole rows text
+  refused : (whole : Bool) (n : ℕ) → 0 < n → fault whole rows text ≡ n → Err (refusal n 0) ≡ sized_of whole rows text
   unfolding sized_of
   refused whole n h e = rw (e, ne_eqb 0 n (λ z. omega arith))
 
-  pub exit_90 : (whole : Bool) → well_formed rows text ≡ false → Refused (refusal 90 0) ≡ sized_of whole rows text
+  pub exit_90 : (whole : Bool) → well_formed rows text ≡ false → Err (refusal 90 0) ≡ sized_of whole rows text
   unfolding fault
   exit_90 whole a = refused whole 90 (omega arith) (rw a)
 
   module _ (a : well_formed rows text ≡ true) where
     -- 90 alone was asked for
-    pub formed-only : {r s l : ℕ} → r ≡ kinds rows 10 → s ≡ kinds rows 13 → l ≡ kinds rows 14 → Length 0 r s l ≡ sized_of false rows text
+    pub formed-only : {g : Groups} → Counted rows g → sized 0 g ≡ sized_of false rows text
     unfolding fault sized_of made
-    formed-only er es el = rw (er, es, el, a)
+    formed-only k = rw (k.records, k.structs, k.labels, a)
 
-    pub exit_91 : counts_fit rows text ≡ false → Refused (refusal 91 0) ≡ sized_of true rows text
+    pub exit_91 : counts_fit rows text ≡ false → Err (refusal 91 0) ≡ sized_of true rows text
     unfolding fault fit_fault
     exit_91 b = refused true 91 (omega arith) (rw (a, b))
 
     module _ (b : counts_fit rows text ≡ true) where
-      pub exit_92 : passes 92 rows text 0 (row_count rows) ≡ false → Refused (refusal 92 0) ≡ sized_of true rows text
+      pub exit_92 : passes 92 rows text 0 (row_count rows) ≡ false → Err (refusal 92 0) ≡ sized_of true rows text
       unfolding fault fit_fault
       exit_92 d = refused true 92 (omega arith) (rw (a, b, d))
 
       module _ (d : passes 92 rows text 0 (row_count rows) ≡ true) where
-        pub exit_93 : passes 93 rows text 0 (row_count rows) ≡ false → Refused (refusal 93 0) ≡ sized_of true rows text
+        pub exit_93 : passes 93 rows text 0 (row_count rows) ≡ false → Err (refusal 93 0) ≡ sized_of true rows text
         unfolding fault fit_fault
         exit_93 e = refused true 93 (omega arith) (rw (a, b, d, e))
 
         module _ (e : passes 93 rows text 0 (row_count rows) ≡ true) (n : ℕ) (f : n ≡ size_of (sections_fit rows text) (size rows text)) where
-          pub exit_94 : 4294967296 ≤ n → Refused (refusal 94 0) ≡ sized_of true rows text
+          pub exit_94 : 4294967296 ≤ n → Err (refusal 94 0) ≡ sized_of true rows text
           unfolding fault fit_fault
           exit_94 h = refused true 94 (omega arith) (rw (a, b, d, e, fit-no _ _ (rw f at h)))
 
           module _ (h : n < 4294967296) where
-            pub exit_95 : every (rises_at rows) 0 (row_count rows - 1) ≡ false → Refused (refusal 95 0) ≡ sized_of true rows text
+            pub exit_95 : every (rises_at rows) 0 (row_count rows - 1) ≡ false → Err (refusal 95 0) ≡ sized_of true rows text
             unfolding fault fit_fault
             exit_95 g = refused true 95 (omega arith) (rw (a, b, d, e, (fit_yes _ _ (rw f at h)).0, g))
 
-            pub done : every (rises_at rows) 0 (row_count rows - 1) ≡ true → (r s l : ℕ) → r ≡ kinds rows 10 → s ≡ kinds rows 13 → l ≡ kinds rows 14 → Length n r s l ≡ sized_of true rows text
+            pub done : every (rises_at rows) 0 (row_count rows - 1) ≡ true → {g : Groups} → Counted rows g → sized n g ≡ sized_of true rows text
             unfolding fault fit_fault sized_of made
-            done g r s l er es el =
+            done g k =
                 let z : n ≡ size rows text = f ∙ (fit_yes _ _ (rw f at h)).1 in
-                rw (er, es, el, z, a, b, d, e, (fit_yes _ _ (rw f at h)).0, g)
+                rw (k.records, k.structs, k.labels, z, a, b, d, e, (fit_yes _ _ (rw f at h)).0, g)

@@ -1,18 +1,18 @@
 -- What the answers of the check's parts tell. Assumes nothing.
-use Rattle.std.specs.Prelude.{ℕ, zero, suc, ◌+◌, Bool, List}
+use Rattle.std.specs.Prelude.{ℕ, zero, suc, ◌+◌, Bool, List, Ok, Err}
 use Rattle.std.proofs.Math.Path.{◌≡◌, refl}
-use Rattle.std.proofs.Common.{sym, ◌∙◌, arith}
+use Rattle.std.proofs.Common.{sym, ap, arith}
 use Rattle.std.proofs.Math.Bool.{true, false, cond}
 use Rattle.rows_check.specs.Tree.{row_count, kinds}
 use Rattle.rows_check.specs.Check.{both, every, row_test, well_formed, size, fit_fault, fault}
-use Rattle.rows_check.specs.Answers.{row_good, AllGood, made, unless, sized_of, sized_number}
+use Rattle.rows_check.specs.Answers.{row_good, AllGood, Sized, made, unless, sized_of, sized_number}
 use Rattle.rows_check.specs.CheckLaws.{both_left, both_right}
 use Rattle.std.proofs.Math.Dec.{eqb}
 use borrow.Author.Tests.{eqb-true, eqb-false}
 use Rattle.refusal.specs.declared.Refusal.{Refusal}
 use Rattle.codec.specs.Codec.{refusal}
 use Rattle.codec.specs.CaseLaws.{by_bool}
-use Rattle.rows_check.specs.declared.Sized.TheVariants.{Length, Refused}
+use Rattle.rows_check.specs.declared.Size.{Size}
 
 -- ---- rows that pass 90 to 93 in one walk
 
@@ -49,31 +49,41 @@ module _ (rows text : List ℕ) (b : Bool) (e : b ≡ every (row_good rows text)
 
 -- ---- the whole answer
 
-pub record Fitted (whole : Bool) (rows text : List ℕ) (b r s l : ℕ) : Type 0 where
-  pub bytes : b ≡ cond whole (size rows text) 0
-  pub records : r ≡ kinds rows 10
-  pub structs : s ≡ kinds rows 13
-  pub labels : l ≡ kinds rows 14
+pub record Fitted (whole : Bool) (rows text : List ℕ) (z : Size) : Type 0 where
+  pub bytes : z.bytes ≡ cond whole (size rows text) 0
+  pub records : z.records ≡ kinds rows 10
+  pub structs : z.structs ≡ kinds rows 13
+  pub labels : z.labels ≡ kinds rows 14
 
-pub made-is : {whole : Bool} {rows text : List ℕ} {b r s l : ℕ} → Fitted whole rows text b r s l → Length b r s l ≡ made whole rows text
+abbrev sized : ℕ → ℕ → ℕ → ℕ → Sized
+sized b r s l = Ok (record { bytes = b; records = r; structs = s; labels = l })
+
+pub made-is : {whole : Bool} {rows text : List ℕ} {z : Size} → Fitted whole rows text z → ◌≡◌ {A = Sized} (Ok z) (made whole rows text)
 unfolding made
-made-is v = rw (v.bytes, v.records, v.structs, v.labels)
+made-is {whole} {rows} {text} {z} v =
+    let e : sized z.bytes z.records z.structs z.labels ≡ made whole rows text = rw (v.bytes, v.records, v.structs, v.labels) in
+    e
+
+fitted : {whole : Bool} {rows text : List ℕ} {z : Size} → ◌≡◌ {A = Sized} (Ok z) (made whole rows text) → Fitted whole rows text z
+unfolding made
+fitted {whole} {rows} {text} {z} e =
+    let f : z ≡ record { bytes = cond whole (size rows text) 0; records = kinds rows 10; structs = kinds rows 13; labels = kinds rows 14 } = cc in
+    record { bytes = ap (λ (y : Size). y.bytes) f; records = ap (λ (y : Size). y.records) f; structs = ap (λ (y : Size). y.structs) f; labels = ap (λ (y : Size). y.labels) f }
 
 module _ (k : ℕ) (whole : Bool) (rows text : List ℕ) where
   -- what the rows make is told where no number refuses them
-  pub made_told : (b r s l : ℕ) → Length b r s l ≡ unless k (made whole rows text) → (k ≡ 0) × Fitted whole rows text b r s l
-  unfolding made
-  made_told b r s l e = go (eqb 0 k) refl e
+  pub made_told : (z : Size) → Ok z ≡ unless k (made whole rows text) → (k ≡ 0) × Fitted whole rows text z
+  made_told z e = go (eqb 0 k) refl e
     where
-      go : (a : Bool) → eqb 0 k ≡ a → Length b r s l ≡ cond a (made whole rows text) (Refused (refusal k 0)) → (k ≡ 0) × Fitted whole rows text b r s l
-      go true z e = (sym (eqb-true 0 k z), record { bytes = cc; records = cc; structs = cc; labels = cc })
-      go false z e = let o : ◌≡◌ {A = ℕ} 0 1 = cc in absurd (omega arith)
+      go : (a : Bool) → eqb 0 k ≡ a → Ok z ≡ cond a (made whole rows text) (Err (refusal k 0)) → (k ≡ 0) × Fitted whole rows text z
+      go true q e = (sym (eqb-true 0 k q), fitted e)
+      go false q e = let o : ◌≡◌ {A = ℕ} 0 1 = cc in absurd (omega arith)
 
-  pub refused-told : (n : Refusal) → Refused n ≡ unless k (made whole rows text) → (k ≡ 0 → ⊥) × (n ≡ refusal k 0)
+  pub refused-told : (n : Refusal) → Err n ≡ unless k (made whole rows text) → (k ≡ 0 → ⊥) × (n ≡ refusal k 0)
   unfolding made
   refused-told n e = go (eqb 0 k) refl e
     where
-      go : (a : Bool) → eqb 0 k ≡ a → Refused n ≡ cond a (made whole rows text) (Refused (refusal k 0)) → (k ≡ 0 → ⊥) × (n ≡ refusal k 0)
+      go : (a : Bool) → eqb 0 k ≡ a → Err n ≡ cond a (made whole rows text) (Err (refusal k 0)) → (k ≡ 0 → ⊥) × (n ≡ refusal k 0)
       go true z e = let o : ◌≡◌ {A = ℕ} 0 1 = cc in absurd (omega arith)
       go false z e =
           let f : n ≡ refusal k 0 = cc in
@@ -85,11 +95,11 @@ module _ (k : ℕ) (whole : Bool) (rows text : List ℕ) where
   made-number = by_bool (eqb 0 k) (λ q. rw q (eqb-true 0 k q)) (λ q. rw q)
 
 module _ (whole : Bool) (rows text : List ℕ) where
-  pub sized-length : (b r s l : ℕ) → Length b r s l ≡ sized_of whole rows text → (fault whole rows text ≡ 0) × Fitted whole rows text b r s l
+  pub sized-length : (z : Size) → Ok z ≡ sized_of whole rows text → (fault whole rows text ≡ 0) × Fitted whole rows text z
   unfolding sized_of
-  sized-length b r s l e = made_told (fault whole rows text) whole rows text b r s l e
+  sized-length z e = made_told (fault whole rows text) whole rows text z e
 
-  pub sized-fault : (n : Refusal) → Refused n ≡ sized_of whole rows text → (fault whole rows text ≡ 0 → ⊥) × (n ≡ refusal (fault whole rows text) 0)
+  pub sized-fault : (n : Refusal) → Err n ≡ sized_of whole rows text → (fault whole rows text ≡ 0 → ⊥) × (n ≡ refusal (fault whole rows text) 0)
   unfolding sized_of
   sized-fault n e = refused-told (fault whole rows text) whole rows text n e
 

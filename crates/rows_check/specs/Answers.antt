@@ -1,11 +1,13 @@
 -- What the parts of the check answer. Assumes nothing.
-use Rattle.std.specs.Prelude.{ℕ, ◌+◌, ◌*◌, ◌≤◌, ◌<◌, min, ◌≡◌, Bool, true, cond, List, eqb}
+use Rattle.std.specs.Prelude.{ℕ, ◌+◌, ◌*◌, ◌≤◌, ◌<◌, min, ◌≡◌, Bool, true, false, cond, List, eqb, Result, Ok, Err, Option, Some, None}
 use Rattle.rows_check.specs.Tree.{cell, row_count, by_kind, kinds}
 use Rattle.rows_check.specs.Check.{both, row_fits, count_fits, name_short, name_clean, passes, walk, size, fault}
 use Rattle.codec.specs.Codec.{refusal}
 use Rattle.layout.specs.LayoutOf.{D}
-use Rattle.rows_check.specs.declared.Sized.{Sized}
-use Rattle.rows_check.specs.declared.Sized.TheVariants.{Length, Refused}
+use Rattle.refusal.specs.declared.Refusal.{Refusal}
+use Rattle.rows_check.specs.declared.Size.{Size}
+use Rattle.rows_check.specs.declared.order.Groups.{Groups}
+use Rattle.rows_check.specs.declared.order.Reached.{Reached}
 
 -- the row passes 90 to 93
 unfoldable pub row_good : List ℕ → List ℕ → ℕ → Bool
@@ -26,10 +28,21 @@ pub record Reaches (kind : ℕ) (rows text : List ℕ) (q n r : ℕ) : Type 0 wh
   pub ends : r ≤ row_count rows → Ends kind rows text q n r
   pub only : (m s : ℕ) → Ends kind rows text q m s → s ≡ r
 
--- b tells whether x holds, and where it does the numbers are those of the rows that begin a record, a struct and a label def
-pub record Counts (x : Bool) (rows : List ℕ) (b : Bool) (r s l : ℕ) : Type 0 where
-  pub told : b ≡ x
-  pub counts : b ≡ true → (r ≡ kinds rows 10) × ((s ≡ kinds rows 13) × (l ≡ kinds rows 14))
+-- the row after all sections of that kind from row q on, and how many they are; nothing where no number of sections ends
+abbrev pub Walked : ℕ → List ℕ → List ℕ → ℕ → Option Reached → Type 0
+Walked kind rows text q (Some w) = Reaches kind rows text q w.count w.row
+Walked kind rows text q None = (m s : ℕ) → Ends kind rows text q m s → ⊥
+
+-- the numbers are those of the rows that begin a record, a struct and a label def
+pub record Counted (rows : List ℕ) (g : Groups) : Type 0 where
+  pub records : g.records ≡ kinds rows 10
+  pub structs : g.structs ≡ kinds rows 13
+  pub labels : g.labels ≡ kinds rows 14
+
+-- whether x holds, and where it does how many rows begin a record, a struct and a label def
+abbrev pub Counts : Bool → List ℕ → Option Groups → Type 0
+Counts x rows (Some g) = (x ≡ true) × Counted rows g
+Counts x rows None = x ≡ false
 
 -- the length of a section's body with n fields or labels, names apart
 unfoldable pub nameless_size : ℕ → ℕ → ℕ
@@ -43,13 +56,17 @@ clip n = min 4294967296 n
 unfoldable pub size_of : Bool → ℕ → ℕ
 size_of b n = cond b (min 4294967296 n) 4294967296
 
+-- the length of a layout and the counts of its records, structs and label defs, or the refusal
+abbrev pub Sized : Type 0
+Sized = Result Size Refusal
+
 -- the length of a `whole` layout, else 0, and the counts of its records, structs and label defs
 unfoldable pub made : Bool → List ℕ → List ℕ → Sized
-made whole rows text = Length (cond whole (size rows text) 0) (kinds rows 10) (kinds rows 13) (kinds rows 14)
+made whole rows text = Ok (record { bytes = cond whole (size rows text) 0; records = kinds rows 10; structs = kinds rows 13; labels = kinds rows 14 })
 
 -- x, or the number that refuses it, which is about no byte
 abbrev pub unless : ℕ → Sized → Sized
-unless k x = cond (eqb 0 k) x (Refused (refusal k 0))
+unless k x = cond (eqb 0 k) x (Err (refusal k 0))
 
 -- what the rows make, or the number that refuses them
 unfoldable pub sized_of : Bool → List ℕ → List ℕ → Sized
@@ -57,5 +74,5 @@ sized_of whole rows text = unless (fault whole rows text) (made whole rows text)
 
 -- the number of document 01: 0 for rows that pass
 abbrev pub sized_number : Sized → ℕ
-sized_number (Length b r s l) = 0
-sized_number (Refused e) = e.number
+sized_number (Ok z) = 0
+sized_number (Err e) = e.number

@@ -37,6 +37,17 @@ module _ (f : ℕ → Bool) (q k : ℕ) where
   unfolding both
   every-no h e = every-next h ∙ rw e
 
+-- the places from q up to e
+module _ (f : ℕ → Bool) (q e : ℕ) where
+  pub upto-end : e ≤ q → every f q (e - q) ≡ true
+  upto-end h = every-none f q (e - q) (omega arith)
+
+  pub upto_yes : q < e → f q ≡ true → every f q (e - q) ≡ every f (q + 1) (e - (q + 1))
+  upto_yes h t = let z : e - q - 1 ≡ e - (q + 1) = omega arith in every_yes f q (e - q) (omega arith) t ∙ ap (every f (q + 1)) z
+
+  pub upto-no : q < e → f q ≡ false → every f q (e - q) ≡ false
+  upto-no h t = every-no f q (e - q) (omega arith) t
+
 -- what passes at every place passes at one of them
 pub every-at : (f : ℕ → Bool) (q k : ℕ) → every f q k ≡ true → (j : ℕ) → q ≤ j → j < q + k → f j ≡ true
 every-at f q zero e j a b = absurd (omega arith)

@@ -3,12 +3,12 @@
 use Prim.Native.Nat.{ℕ, zero, suc, ◌+◌, ◌-◌, ◌*◌, ◌≤◌, ◌<◌, ◌%◌}
 use native.Mathlib.Omega.{arith}
 use Rattle.std.specs.Prelude.{◌≡◌, take, drop, Bool, eqb}
-use Rattle.std.proofs.Common.{sym, ◌∙◌, subst, ⊎_elim, length-take, length-drop, ne_eqb}
+use Rattle.std.proofs.Common.{sym, ◌∙◌, subst, ⊎_elim, length-take, length-drop}
 use Rattle.std.proofs.Math.Path.{ap, refl, ap₂}
 use mathlib.Core.List.{List, [], ◌∷◌, ◌++◌}
 use Rattle.std.proofs.Math.ListN.{length, length-append, length-replicate}
 use Rattle.rows_check.specs.Tree.{cell, count_of, names_from, next_section, skip, kinds, structs_from, labels_from, by_kind, has_fields, from, after, name_of, entry_of, label_of, fields_of, record_of, struct_of, label_def_of, tree_of}
-use Rattle.rows_check.specs.Sections.{Spans, SectionRows, Sections, many, printed_name, printed_entry, printed_label, printed_fields, printed_head, printed_labels, printed_numbers, printed_contents, printed_body, printed_group}
+use Rattle.rows_check.specs.Sections.{SectionRows, Sections, many, printed_name, printed_entry, printed_label, printed_fields, printed_head, printed_labels, printed_numbers, printed_contents, printed_body, printed_group}
 use Rattle.rows_check.specs.CheckLaws.{row-span, InPlace, Places, Formed, next_more, name-kind-is}
 use Rattle.std.proofs.Math.Nat.{mul-suc}
 use Rattle.std.proofs.Math.Bool.{true, false, cond}

@@ -39,14 +39,10 @@ fn all_within(table: &[u32; 54], rows: &[u32], text: &[u8]) -> bool
     requires { table.now ≡ limits }
     ensures { result ≡ every (row_good rows.now text.now) 0 (row_count rows.now) }
 {
-    let mut p = 0;
-    let mut todo = rows.len() / 9;
-    while 0 < todo {
+    for p in 0..rows.len() / 9 {
         if !row_good(table, rows, text, p) {
             return false;
         }
-        p += 1;
-        todo -= 1;
     }
     true
 }
@@ -74,14 +70,10 @@ pub(crate) fn rows_pass(which: usize, rows: &[u32], text: &[u8], q: usize, n: us
     requires { 9 * (q + n) ≤ length rows.now }
     ensures { result ≡ passes which rows.now text.now q n }
 {
-    let mut p = q;
-    let mut todo = n;
-    while 0 < todo {
+    for p in q..q + n {
         if !row_test(which, rows, text, p) {
             return false;
         }
-        p += 1;
-        todo -= 1;
     }
     true
 }

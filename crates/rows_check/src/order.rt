@@ -1,15 +1,14 @@
 // Whether the kinds of rows stand in their places, and whether label codes rise.
 ghost use Rattle.std.specs.Prelude.{◌≡◌, ◌+◌, ◌-◌, ◌*◌, ◌/◌, ◌≤◌, ◌<◌, length, true, false};
-ghost use Rattle.rows_check.specs.Tree.{row_count, kinds};
-ghost use Rattle.rows_check.specs.Answers.{AllGood, Reaches, Counts};
+ghost use Rattle.rows_check.specs.Tree.{row_count};
+ghost use Rattle.rows_check.specs.Answers.{AllGood, Counted, Counts, Walked};
 ghost use Rattle.rows_check.specs.Check.{every, section_in_place, in_order, well_formed, groups_fit, counts_fit, rises_at};
 
 use super::{cells, fits, kinds};
 
-// Whether the rows stand in their places, and then how many begin a record, a struct and a label def.
-#[derive(Drop)]
-pub(crate) struct Order {
-    pub good: bool,
+// How many rows begin a record, a struct and a label def.
+#[derive(Clone, Copy)]
+pub(crate) struct Groups {
     pub records: usize,
     pub structs: usize,
     pub labels: usize,
@@ -22,68 +21,56 @@ struct Reached {
     count: usize,
 }
 
-// 90: rows of nine whose numbers fit, each kind in its place.
-pub(crate) fn well_formed(good: bool, rows: &[u32], text: &[u8]) -> Order
+// 90: rows of nine whose numbers fit, each kind in its place; and then how many begin a section.
+pub(crate) fn well_formed(good: bool, rows: &[u32], text: &[u8]) -> Option<Groups>
     requires { AllGood good 90 rows.now text.now }
-    ensures { Counts (well_formed rows.now text.now) rows.now result.good result.records result.structs result.labels }
+    ensures { Counts (well_formed rows.now text.now) rows.now result }
 {
     if rows.len() % 9 != 0 {
-        return malformed();
+        return None;
     }
     if !fits::all_pass(good, 90, rows, text) {
-        return malformed();
+        return None;
     }
     in_order(rows, text)
 }
 
-// What is answered of rows that do not stand in their places.
-fn malformed() -> Order
-    ensures { result.good ≡ false }
-{
-    Order {
-        good: false,
-        records: 0,
-        structs: 0,
-        labels: 0,
-    }
-}
-
 // Record sections, then struct sections, then label defs, and no row besides.
-fn in_order(rows: &[u32], text: &[u8]) -> Order
-    ensures { Counts (in_order rows.now text.now) rows.now result.good result.records result.structs result.labels }
+fn in_order(rows: &[u32], text: &[u8]) -> Option<Groups>
+    ensures { Counts (in_order rows.now text.now) rows.now result }
 {
-    let a = walk_sections(kinds::RECORD, rows, text, 0);
-    let b = walk_sections(kinds::STRUCT, rows, text, a.row);
-    let d = walk_sections(kinds::LABEL_DEF, rows, text, b.row);
-    Order {
-        good: d.row == rows.len() / 9,
+    let a = walk_sections(kinds::RECORD, rows, text, 0)?;
+    let b = walk_sections(kinds::STRUCT, rows, text, a.row)?;
+    let d = walk_sections(kinds::LABEL_DEF, rows, text, b.row)?;
+    if d.row != rows.len() / 9 {
+        return None;
+    }
+    Some(Groups {
         records: a.count,
         structs: b.count,
         labels: d.count,
-    }
+    })
 }
 
-// The row after all sections of a kind from row q on, and how many they are; one past the last row where one is not in place.
-fn walk_sections(kind: usize, rows: &[u32], text: &[u8], q: usize) -> Reached
-    ensures { Reaches kind rows.now text.now q result.count result.row }
+// The row after all sections of a kind from row q on, and how many they are; nothing where one is not in place.
+// No `for`: where the next section begins is known only from this one's counts.
+fn walk_sections(kind: usize, rows: &[u32], text: &[u8], q: usize) -> Option<Reached>
+    ensures { Walked kind rows.now text.now q result }
 {
     let nr = rows.len() / 9;
     let mut p = q;
     let mut n: usize = 0;
     while p < nr {
         if cells::cell_of(rows, p, 0) != kind {
-            return Reached { row: p, count: n };
+            return Some(Reached { row: p, count: n });
         }
         if !section_in_place(kind, rows, text, p) {
-            return Reached {
-                row: nr + 1,
-                count: n,
-            };
+            return None;
         }
         p = cells::next_section(kind, rows, p);
         n += 1;
     }
-    Reached { row: p, count: n }
+    Some(Reached { row: p, count: n })
 }
 
 // A section of that kind stands at row q.
@@ -111,34 +98,21 @@ fn section_in_place(kind: usize, rows: &[u32], text: &[u8], q: usize) -> bool
 }
 
 // 91: the counts of fields and labels, and those of records, structs and label defs, which are given.
-pub(crate) fn counts_fit(
-    good: bool,
-    rows: &[u32],
-    text: &[u8],
-    r: usize,
-    s: usize,
-    l: usize,
-) -> bool
-    requires counts { (r ≡ kinds rows.now 10) × ((s ≡ kinds rows.now 13) × (l ≡ kinds rows.now 14)) }
+pub(crate) fn counts_fit(good: bool, rows: &[u32], text: &[u8], groups: Groups) -> bool
+    requires counts { Counted rows.now groups }
     requires all_good { AllGood good 91 rows.now text.now }
     ensures { result ≡ counts_fit rows.now text.now }
 {
     if !fits::all_pass(good, 91, rows, text) {
         return false;
     }
-    groups_fit(r, s, l)
+    groups_fit(groups)
 }
 
-fn groups_fit(r: usize, s: usize, l: usize) -> bool
-    ensures { result ≡ groups_fit r s l }
+fn groups_fit(groups: Groups) -> bool
+    ensures { result ≡ groups_fit groups.records groups.structs groups.labels }
 {
-    if 65535 < r {
-        return false;
-    }
-    if 65535 < s {
-        return false;
-    }
-    l <= 65535
+    groups.records <= 65535 && groups.structs <= 65535 && groups.labels <= 65535
 }
 
 // 95: of two labels one after the other the second has the larger code. Before row `from` this is known.
@@ -147,14 +121,10 @@ pub(crate) fn labels_rise(rows: &[u32], from: usize) -> bool
     requires risen { every (rises_at rows.now) 0 from ≡ true }
     ensures { result ≡ every (rises_at rows.now) 0 (row_count rows.now - 1) }
 {
-    let mut p: usize = from;
-    let mut todo = one_less(rows.len() / 9 - from);
-    while 0 < todo {
+    for p in from..(rows.len() / 9).saturating_sub(1) {
         if !rises_at(rows, p) {
             return false;
         }
-        p += 1;
-        todo -= 1;
     }
     true
 }
@@ -172,13 +142,4 @@ fn rises_at(rows: &[u32], q: usize) -> bool
         return true;
     }
     cells::cell_of(rows, q, 3) < cells::cell_of(rows, q + 1, 3)
-}
-
-fn one_less(n: usize) -> usize
-    ensures { result ≡ n - 1 }
-{
-    if n == 0 {
-        return 0;
-    }
-    n - 1
 }

@@ -3,52 +3,51 @@ ghost use Rattle.std.specs.Prelude.{◌≡◌, ◌+◌, ◌*◌, ◌≤◌, ◌<
 ghost use Rattle.rows_check.specs.Tree.{after, next_section, skip, kinds, structs_from, labels_from};
 ghost use Rattle.rows_check.specs.Check.{printed_section, fits_all, sections_fit, size};
 ghost use Rattle.rows_check.specs.Sections.{many, printed_name, printed_body, Spans, SectionRows, Sections};
-ghost use Rattle.rows_check.specs.Answers.{nameless_size, clip, size_of};
+ghost use Rattle.rows_check.specs.Answers.{nameless_size, clip, size_of, Counted};
 
+use super::order::Groups;
 use super::{cells, kinds};
 
 // The size at which counting stops.
 pub(crate) const CAP: usize = 4294967296;
 
-// A size, and the row after what was counted.
-#[derive(Drop)]
-pub(crate) struct Counted {
+// A size, and the row after what was summed.
+#[derive(Clone, Copy)]
+pub(crate) struct Summed {
     pub size: usize,
     pub row: usize,
 }
 
 // The length of the layout, or 2^32 where it or a section is too long; and the row of the first label def.
-pub(crate) fn total_size(rows: &[u32], text: &[u8], r: usize, s: usize, l: usize) -> Counted
-    requires counts { (r ≡ kinds rows.now 10) × ((s ≡ kinds rows.now 13) × (l ≡ kinds rows.now 14)) }
+pub(crate) fn total_size(rows: &[u32], text: &[u8], groups: Groups) -> Summed
+    requires counts { Counted rows.now groups }
     requires sections { Sections 10 rows.now text.now 0 (kinds rows.now 10) }
     requires struct_sections { Sections 13 rows.now text.now (structs_from rows.now) (kinds rows.now 13) }
     requires label_sections { Sections 14 rows.now text.now (labels_from rows.now) (kinds rows.now 14) }
     ensures { (result.size ≡ size_of (sections_fit rows.now text.now) (size rows.now text.now)) × (result.row ≡ labels_from rows.now) }
 {
-    let a = sections_size(kinds::RECORD, rows, text, 0, r, 8);
-    let b = sections_size(kinds::STRUCT, rows, text, a.row, s, a.size);
-    let d = sections_size(kinds::LABEL_DEF, rows, text, b.row, l, b.size);
-    Counted {
+    let a = sections_size(kinds::RECORD, rows, text, 0, groups.records, 8);
+    let b = sections_size(kinds::STRUCT, rows, text, a.row, groups.structs, a.size);
+    let d = sections_size(kinds::LABEL_DEF, rows, text, b.row, groups.labels, b.size);
+    Summed {
         size: d.size,
         row: b.row,
     }
 }
 
 // The sum with k sections from row q on.
-fn sections_size(kind: usize, rows: &[u32], text: &[u8], q: usize, k: usize, sum: usize) -> Counted
+fn sections_size(kind: usize, rows: &[u32], text: &[u8], q: usize, k: usize, sum: usize) -> Summed
     requires sum_bound { sum ≤ 4294967296 }
     requires sections { Sections kind rows.now text.now q k }
     ensures { (result.size ≡ size_of (fits_all kind rows.now text.now q k) (sum + length (many (next_section kind rows.now) (printed_section kind rows.now text.now) q k))) × (result.row ≡ skip kind rows.now q k) }
 {
     let mut s = sum;
     let mut p = q;
-    let mut todo = k;
-    while 0 < todo {
+    for _ in 0..k {
         s = add_section(s, body_size(kind, rows, text, p));
         p = cells::next_section(kind, rows, p);
-        todo -= 1;
     }
-    Counted { size: s, row: p }
+    Summed { size: s, row: p }
 }
 
 // The sum with a section of that body, or the largest where the section is too long.
@@ -67,8 +66,7 @@ fn add_to(sum: usize, x: usize) -> usize
     requires { (sum ≤ 4294967296) × (x ≤ 1099511627776) }
     ensures { result ≡ clip (sum + x) }
 {
-    let s = sum + x;
-    if s < CAP { s } else { CAP }
+    CAP.min(sum + x)
 }
 
 // The length of a section's body.
@@ -105,12 +103,8 @@ fn names_size(rows: &[u32], text: &[u8], q: usize, n: usize, sum: usize) -> usiz
     ensures { result ≡ clip (sum + length (many after (printed_name rows.now text.now) q n)) }
 {
     let mut s = sum;
-    let mut p = q;
-    let mut todo = n;
-    while 0 < todo {
+    for p in q..q + n {
         s = add_to(s, cells::cell_of(rows, p, 2) + 2);
-        p += 1;
-        todo -= 1;
     }
     s
 }

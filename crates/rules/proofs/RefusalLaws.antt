@@ -1,6 +1,6 @@
 -- Which numbers the rules give, of a layout and of rows.
 -- Assumes nothing.
-use Rattle.std.specs.Prelude.{ℕ, ◌≤◌, Bool, ◌⊎◌, List, map, length}
+use Rattle.std.specs.Prelude.{ℕ, ◌≤◌, Bool, ◌⊎◌, List, map, length, Err}
 use Rattle.std.proofs.Common.{zero-le, arith, inl, inr}
 use Rattle.std.proofs.Math.Path.{◌≡◌, refl, sym, subst}
 use Rattle.std.proofs.Math.Bool.{true, false}
@@ -16,12 +16,11 @@ use Rattle.layout.specs.LayoutOf.{layout_of}
 use Rattle.layout.specs.Answers.{layout_numbers, verdict}
 use Rattle.layout.specs.AnswerLaws.{verdict-no}
 use Rattle.layout.specs.RefusalLaws.{layout_gives, layout-within}
-use Rattle.layout.specs.declared.Verdict.TheVariants.{Refused}
 use Rattle.rows_check.specs.Tree.{tree_of}
 use Rattle.rows_check.specs.Check.{fault_numbers, fault}
 use Rattle.rows_check.proofs.RefusalLaws.{check_fault}
 use Rattle.rows_check.specs.AnswerLaws.{refused-told}
-use Rattle.rows_check.specs.declared.Sized.TheVariants as Sized'
+use Rattle.std.specs.Prelude.{Err}
 use Rattle.item_rules.specs.Rules.{rule_numbers, struct_seq, record_seq}
 use Rattle.item_rules.specs.RefusalLaws.{first-fault, seqs-fault}
 use Rattle.rules.specs.Rules.{rules_of, ruled_numbers, ruled_of}
@@ -72,7 +71,7 @@ module _ (sheet : List ℕ) (width : ℕ) where
       go (inr (t, j, q, r, i)) = rw r zero-le
 
   -- what a verdict on a layout refuses with
-  pub ruled-refuses : (s : List ℕ) {k : Refusal} → Refused k ≡ verdict (ruled_of sheet width s) → In ruled_numbers k.number
+  pub ruled-refuses : (s : List ℕ) {k : Refusal} → Err k ≡ verdict (ruled_of sheet width s) → In ruled_numbers k.number
   ruled-refuses s e = gives_is (In ruled_numbers) (ruled_gives s) (verdict-no (ruled_of sheet width s) e)
 
   -- the number of rows that are refused
@@ -92,7 +91,7 @@ module _ (sheet : List ℕ) (width : ℕ) where
       of_rules false = in_more rule_numbers (row_rule_numbers false) refl
 
   -- what the verdict on rows refuses with
-  pub ruled-rows-refuses : (whole : Bool) (rows text : List ℕ) {k : Refusal} → Sized'.Refused k ≡ ruled_rows sheet width whole rows text → In (row_rule_numbers whole) k.number
+  pub ruled-rows-refuses : (whole : Bool) (rows text : List ℕ) {k : Refusal} → Err k ≡ ruled_rows sheet width whole rows text → In (row_rule_numbers whole) k.number
   unfolding ruled_rows
   ruled-rows-refuses whole rows text {k} e =
       let (n, f) = refused-told (rows_fault sheet width whole rows text) whole rows text k e in

@@ -1,5 +1,5 @@
 -- The rules over rows see no version; the ways out of a verdict on rows. Assumes nothing.
-use Rattle.std.specs.Prelude.{ℕ, ◌≡◌, Bool, List, map}
+use Rattle.std.specs.Prelude.{ℕ, ◌≡◌, Bool, List, map, Ok, Err}
 use Rattle.std.proofs.Math.Path.{sym, ap}
 use Rattle.std.proofs.Common.{◌∙◌}
 use borrow.Author.Tests.{ne_eqb}
@@ -12,7 +12,7 @@ use Rattle.rows_check.specs.Check.{fault}
 use Rattle.rows_check.specs.CheckLaws.{Formed}
 use Rattle.rows_check.specs.Answers.{sized_of, sized_number}
 use Rattle.rows_check.specs.AnswerLaws.{Fitted, sized-length, made-is, made_told, refused-told, made-number}
-use Rattle.rows_check.specs.declared.Sized.TheVariants.{Length, Refused}
+use Rattle.rows_check.specs.declared.Size.{Size}
 use Rattle.item_rules.specs.Rules.{seqs_fault, struct_seq, record_seq}
 use Rattle.item_rules.specs.Standing.{table_fault}
 use Rattle.item_rules.specs.RowLaws.{table_is}
@@ -35,32 +35,32 @@ rows_are sheet width l t text w {labels} n e =
     ∙ ap (seqs_fault sheet width (map struct_seq (tree_of 0 t text).structs) (map record_seq (tree_of 0 t text).records)) (n ∙ sym (tree-labels 0 t text))
 
 module _ (sheet : List ℕ) (width : ℕ) (whole : Bool) (rows text : List ℕ) where
-  refused : {k : ℕ} → (k ≡ 0 → ⊥) → rows_fault sheet width whole rows text ≡ k → Refused (refusal k 0) ≡ ruled_rows sheet width whole rows text
+  refused : {k : ℕ} → (k ≡ 0 → ⊥) → rows_fault sheet width whole rows text ≡ k → Err (refusal k 0) ≡ ruled_rows sheet width whole rows text
   unfolding ruled_rows
   refused {k} n e = rw (e, ne_eqb 0 k (λ z. n (sym z)))
 
   -- 90 to 95 come first
-  pub ruled_malformed : {k : Refusal} → (fault whole rows text ≡ 0 → ⊥) × (k ≡ refusal (fault whole rows text) 0) → Refused k ≡ ruled_rows sheet width whole rows text
+  pub ruled_malformed : {k : Refusal} → (fault whole rows text ≡ 0 → ⊥) × (k ≡ refusal (fault whole rows text) 0) → Err k ≡ ruled_rows sheet width whole rows text
   unfolding rows_fault
-  ruled_malformed {k} (n, e) = ap Refused e ∙ refused n (rw (ne_eqb (fault whole rows text) 0 n))
+  ruled_malformed {k} (n, e) = ap Err e ∙ refused n (rw (ne_eqb (fault whole rows text) 0 n))
 
-  pub ruled_broken : {k : ℕ} → fault whole rows text ≡ 0 → k ≡ rows_rules sheet width rows text → (k ≡ 0 → ⊥) → Refused (refusal k 0) ≡ ruled_rows sheet width whole rows text
+  pub ruled_broken : {k : ℕ} → fault whole rows text ≡ 0 → k ≡ rows_rules sheet width rows text → (k ≡ 0 → ⊥) → Err (refusal k 0) ≡ ruled_rows sheet width whole rows text
   unfolding rows_fault
   ruled_broken f e n = refused n (rw f (sym e))
 
-  pub ruled-made : {b r s l k : ℕ} → Length b r s l ≡ sized_of whole rows text → k ≡ rows_rules sheet width rows text → k ≡ 0 → Length b r s l ≡ ruled_rows sheet width whole rows text
+  pub ruled-made : {x : Size} {k : ℕ} → Ok x ≡ sized_of whole rows text → k ≡ rows_rules sheet width rows text → k ≡ 0 → Ok x ≡ ruled_rows sheet width whole rows text
   unfolding ruled_rows rows_fault
-  ruled-made {b} {r} {s} {l} q e z =
-      let v = sized-length whole rows text b r s l q in
+  ruled-made {x} q e z =
+      let v = sized-length whole rows text x q in
       let y = sym e ∙ z in
       rw (v.0, y) (made-is v.1)
 
   -- what is told of rows that pass
-  pub ruled-length : (b r s l : ℕ) → Length b r s l ≡ ruled_rows sheet width whole rows text → (rows_fault sheet width whole rows text ≡ 0) × Fitted whole rows text b r s l
+  pub ruled-length : (x : Size) → Ok x ≡ ruled_rows sheet width whole rows text → (rows_fault sheet width whole rows text ≡ 0) × Fitted whole rows text x
   unfolding ruled_rows
-  ruled-length b r s l e = made_told (rows_fault sheet width whole rows text) whole rows text b r s l e
+  ruled-length x e = made_told (rows_fault sheet width whole rows text) whole rows text x e
 
-  pub ruled-fault : (k : Refusal) → Refused k ≡ ruled_rows sheet width whole rows text → (rows_fault sheet width whole rows text ≡ 0 → ⊥) × (k ≡ refusal (rows_fault sheet width whole rows text) 0)
+  pub ruled-fault : (k : Refusal) → Err k ≡ ruled_rows sheet width whole rows text → (rows_fault sheet width whole rows text ≡ 0 → ⊥) × (k ≡ refusal (rows_fault sheet width whole rows text) 0)
   unfolding ruled_rows
   ruled-fault k e = refused-told (rows_fault sheet width whole rows text) whole rows text k e
 

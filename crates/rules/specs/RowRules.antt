@@ -4,8 +4,7 @@ use Rattle.std.specs.Prelude.{ℕ, Bool, List, ◌++◌}
 use Rattle.layout.specs.Layout.{from_layout}
 use Rattle.rows_check.specs.Tree.{tree_of}
 use Rattle.rows_check.specs.Check.{fault_numbers, fault}
-use Rattle.rows_check.specs.Answers.{made, unless}
-use Rattle.rows_check.specs.declared.Sized.{Sized}
+use Rattle.rows_check.specs.Answers.{Sized, made, unless}
 use Rattle.item_rules.specs.Rules.{first, rule_numbers}
 use Rattle.rules.specs.Rules.{rules_of}
 

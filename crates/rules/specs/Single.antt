@@ -1,9 +1,8 @@
 -- Two answers that meet a public promise are equal. Assumes nothing.
 use Rattle.std.specs.Prelude.{ℕ, ◌≡◌, Bool, List}
 use Rattle.std.proofs.Common.{sym, ◌∙◌}
-use Rattle.layout.specs.Answers.{verdict}
-use Rattle.layout.specs.declared.Verdict.{Verdict}
-use Rattle.rows_check.specs.declared.Sized.{Sized}
+use Rattle.layout.specs.Answers.{Verdict, verdict}
+use Rattle.rows_check.specs.Answers.{Sized}
 use Rattle.rules.specs.Rules.{ruled_of}
 use Rattle.rules.specs.RowRules.{ruled_rows}
 

@@ -1,55 +1,58 @@
 // A block's own fields.
-use crate::{lines, print};
-use block::{Fields, Optional};
+use crate::codes::{Code, Schema, Stype};
+use crate::sheet::Origin;
+use crate::values;
+use crate::values::{OrNone, Time};
+use block::Fields;
 use std::io;
 use std::io::Write;
 
 // Dataset, schema, times and the rest, a line each; in version 4 also which type sheet the layout was judged with.
 pub(crate) fn show(
     out: &mut impl Write,
-    f: Fields,
+    fields: Fields,
     version: u8,
     block: &[u8],
-    is_made: bool,
+    origin: Origin,
 ) -> io::Result<()> {
-    lines::value(out, lines::VERSION, version as u64)?;
-    dataset(out, block, f.dataset_len)?;
-    request(out, f)?;
-    lines::value(out, lines::STYPE_OUT, f.stype_out as u64)?;
-    lines::value(out, lines::TS_OUT, f.ts_out as u64)?;
-    lines::value(out, lines::SYMBOL_WIDTH, f.symbol_cstr_len as u64)?;
-    layout(out, version, f.layout_version as u64, is_made)?;
-    lines::value(out, lines::SYMBOLOGY_ROWS, f.symbology_rows as u64)?;
-    lines::value(out, lines::LAYOUT_ROWS, f.layout_rows as u64)
+    writeln!(out, "version: {version}")?;
+    dataset(out, command_line::front(block, fields.dataset_len))?;
+    request(out, fields)?;
+    writeln!(
+        out,
+        "stype_out: {}",
+        Code::<Stype>::from(u64::from(fields.stype_out))
+    )?;
+    writeln!(out, "ts_out: {}", if fields.ts_out { "yes" } else { "no" })?;
+    writeln!(out, "symbol width: {}", fields.symbol_cstr_len)?;
+    layout(out, fields, version, origin)?;
+    writeln!(out, "symbology rows: {}", fields.symbology_rows)?;
+    writeln!(out, "layout rows: {}", fields.layout_rows)
 }
 
 // The dataset, which stands first in the block.
-fn dataset(out: &mut impl Write, block: &[u8], len: usize) -> io::Result<()> {
-    print::text(out, b"dataset: ")?;
-    if len <= block.len() {
-        print::name(out, &block[0..len])?;
-    }
-    Ok(())
+fn dataset(out: &mut impl Write, name: &[u8]) -> io::Result<()> {
+    out.write_all(b"dataset: ")?;
+    values::name(out, name)
 }
 
 // What was asked for.
-fn request(out: &mut impl Write, f: Fields) -> io::Result<()> {
-    let schema = f.schema;
-    let end = f.end;
-    let limit = f.limit;
-    let stype_in = f.stype_in;
-    lines::optional(out, lines::SCHEMA, schema)?;
-    lines::value(out, lines::START, f.start)?;
-    lines::optional(out, lines::END, end)?;
-    lines::optional(out, lines::LIMIT, limit)?;
-    lines::optional(out, lines::STYPE_IN, stype_in)
+fn request(out: &mut impl Write, fields: Fields) -> io::Result<()> {
+    let schema = fields.schema.map(Code::<Schema>::from);
+    let end = fields.end.map(Time);
+    let stype_in = fields.stype_in.map(Code::<Stype>::from);
+    writeln!(out, "schema: {}", OrNone(schema))?;
+    writeln!(out, "start: {}", Time(fields.start))?;
+    writeln!(out, "end: {}", OrNone(end))?;
+    writeln!(out, "limit: {}", OrNone(fields.limit))?;
+    writeln!(out, "stype_in: {}", OrNone(stype_in))
 }
 
 // The layout's version and the type sheet; below version 4 there is no layout.
-fn layout(out: &mut impl Write, version: u8, layout_version: u64, is_made: bool) -> io::Result<()> {
+fn layout(out: &mut impl Write, fields: Fields, version: u8, origin: Origin) -> io::Result<()> {
     if version < 4 {
-        return lines::optional(out, lines::LAYOUT_VERSION, Optional::Absent);
+        return writeln!(out, "layout version: none");
     }
-    lines::value(out, lines::LAYOUT_VERSION, layout_version)?;
-    lines::value(out, lines::TYPE_SHEET, is_made as u64)
+    writeln!(out, "layout version: {}", fields.layout_version)?;
+    writeln!(out, "type sheet: {origin}")
 }

@@ -2,157 +2,163 @@
 use crate::width;
 use command_line::Asked;
 use std::env::Env;
+use std::fmt;
 
-// What an argument is.
-const NAME: u64 = 0;
+// What is wrong with the arguments, and which argument that is; none where one is missing after the last.
+#[derive(Clone, Copy)]
+pub(crate) struct Wrong {
+    pub(crate) fault: Fault,
+    pub(crate) at: Option<usize>,
+}
 
-const DASH: u64 = 1;
+#[derive(Clone, Copy)]
+pub(crate) enum Fault {
+    UnknownOption,
+    SheetMissing,
+    SecondStream,
+    WidthMissing,
+    NoWidth,
+    IdleWidth,
+}
 
-const TIDY: u64 = 2;
+impl fmt::Display for Fault {
+    fn fmt<W: fmt::Write>(&self, f: &mut fmt::Formatter<W>) -> fmt::Result {
+        f.write_str(match self {
+            Fault::UnknownOption => "no such option, show --help says which there are",
+            Fault::SheetMissing => "--sheet: the file's name is missing",
+            Fault::SecondStream => "a second stream, show takes one",
+            Fault::WidthMissing => "--width: the number is missing",
+            Fault::NoWidth => "no symbol width, which is a number from 0 to 65535",
+            Fault::IdleWidth => "only --tidy takes a symbol width",
+        })
+    }
+}
 
-const WIDTH: u64 = 3;
+// Where the stream or layout comes from: an argument is the file's name.
+#[derive(Clone, Copy)]
+pub(crate) enum Stream {
+    StandardInput,
+    File(usize),
+}
 
-const OTHER: u64 = 4;
-
-// What is wrong with an argument, besides the faults of `command_line`; `tell::wrong_argument` has the words.
-const SECOND_STREAM: u64 = 3;
-
-const NO_WIDTH: u64 = 4;
-
-const BAD_WIDTH: u64 = 5;
-
-const IDLE_WIDTH: u64 = 6;
-
-// Beside what other programs take, which arguments name the symbol width and the file: 0 for none, and for standard input; `width` is the
-// width itself.
+// Beside what other programs take, whether a layout is to be tidy, the symbol width for it, and the stream. `width_at` is the argument that
+// says the width. Of several faults the last is kept.
 #[derive(Clone, Copy)]
 pub(crate) struct Options {
     pub(crate) common: Asked,
+    pub(crate) wrong: Option<Wrong>,
     pub(crate) tidy: bool,
-    pub(crate) width_at: usize,
-    pub(crate) width: u16,
-    pub(crate) file: usize,
-    has_stream: bool,
+    pub(crate) width: Option<u16>,
+    width_at: Option<usize>,
+    pub(crate) stream: Option<Stream>,
 }
 
-// Reads all arguments. Of several faults the last is kept.
+// Reads all arguments.
 pub(crate) fn read(rt: &impl Env) -> Options {
     let n = command_line::argument_count(rt);
-    let mut o = none();
-    for i in 1..n {
-        o = taken(rt, o, i, i + 1);
-    }
-    complete(o, n)
-}
-
-// What no arguments ask for.
-fn none() -> Options {
-    Options {
+    let mut options = Options {
         common: command_line::nothing(),
+        wrong: None,
         tidy: false,
-        width_at: 0,
-        width: width::USUAL,
-        file: 0,
-        has_stream: false,
+        width: None,
+        width_at: None,
+        stream: None,
+    };
+    for i in 1..n {
+        options.take(rt, i, i + 1);
+    }
+    options.complete(n);
+    options
+}
+
+// Argument i as a part of the space; empty where it is missing or longer than that.
+pub(crate) fn argument<'a>(rt: &impl Env, i: usize, space: &'a mut [u8; 4096]) -> &'a [u8] {
+    let n = command_line::argument(rt, i, space);
+    &space[..n]
+}
+
+impl Options {
+    // Takes argument i. The word after --sheet is the name of a sheet and that after --width a width, whatever it is.
+    fn take(&mut self, rt: &impl Env, i: usize, next: usize) {
+        let common = self.common;
+        if common.sheet == Some(i) {
+            return;
+        }
+        let mut space = [0u8; 4096];
+        let word = argument(rt, i, &mut space);
+        if self.width_at == Some(i) {
+            return self.take_width(i, word);
+        }
+        match Word::of(word) {
+            Word::Tidy => self.tidy = true,
+            Word::Width => self.width_at = Some(next),
+            Word::Dash => self.take_stream(i, Stream::StandardInput),
+            Word::Name => self.take_stream(i, Stream::File(i)),
+            Word::Other => self.take_common(i, command_line::taken(rt, common, i, next)),
+        }
+    }
+
+    fn take_width(&mut self, i: usize, word: &[u8]) {
+        match width::of(word) {
+            Some(width) => self.width = Some(width),
+            None => self.fail(Fault::NoWidth, Some(i)),
+        }
+    }
+
+    fn take_stream(&mut self, i: usize, stream: Stream) {
+        match self.stream {
+            None => self.stream = Some(stream),
+            Some(_) => self.fail(Fault::SecondStream, Some(i)),
+        }
+    }
+
+    // Argument i is one that other programs take, or a fault.
+    fn take_common(&mut self, i: usize, common: Asked) {
+        self.common = common;
+        if let Some(wrong) = common.wrong {
+            if wrong.at == i {
+                self.fail(Fault::UnknownOption, Some(i));
+            }
+        }
+    }
+
+    // All n words are taken, the program's own among them: nothing is missing after the last, and a width is given to --tidy alone.
+    fn complete(&mut self, n: usize) {
+        let common = self.common;
+        if common.sheet == Some(n) {
+            self.fail(Fault::SheetMissing, None);
+        } else if let Some(at) = self.width_at {
+            if at == n {
+                self.fail(Fault::WidthMissing, None);
+            } else if !self.tidy {
+                self.fail(Fault::IdleWidth, Some(at.saturating_sub(1)));
+            }
+        }
+    }
+
+    fn fail(&mut self, fault: Fault, at: Option<usize>) {
+        self.wrong = Some(Wrong { fault, at });
     }
 }
 
-// The options of all n words, the program's own among them: nothing is missing after the last, and a width is given to --tidy alone.
-fn complete(o: Options, n: usize) -> Options {
-    let common = o.common;
-    if common.sheet == n {
-        return with_common(o, command_line::complete(common, n));
-    }
-    if o.width_at == n {
-        return wrong(o, NO_WIDTH, n);
-    }
-    if o.tidy {
-        return o;
-    }
-    if o.width_at == 0 {
-        return o;
-    }
-    wrong(o, IDLE_WIDTH, o.width_at - 1)
+// What an argument is. One that is longer than a path may be is taken for a name.
+#[derive(Clone, Copy)]
+enum Word {
+    Name,
+    Dash,
+    Tidy,
+    Width,
+    Other,
 }
 
-// The options with what other programs take.
-fn with_common(o: Options, common: Asked) -> Options {
-    let mut o = o;
-    o.common = common;
-    o
-}
-
-// The options with a fault of argument i.
-fn wrong(o: Options, fault: u64, i: usize) -> Options {
-    let common = o.common;
-    with_common(o, command_line::wrong(common, fault, i))
-}
-
-// The options with argument i among them. The word after --sheet is the name of a sheet and that after --width a width, whatever it is.
-fn taken(rt: &impl Env, o: Options, i: usize, next: usize) -> Options {
-    let mut o = o;
-    let common = o.common;
-    if common.sheet == i {
-        return o;
+impl Word {
+    fn of(word: &[u8]) -> Word {
+        match word {
+            b"-" => Word::Dash,
+            b"--tidy" => Word::Tidy,
+            b"--width" => Word::Width,
+            [b'-', ..] => Word::Other,
+            _ => Word::Name,
+        }
     }
-    if o.width_at == i {
-        return with_width(o, i, width::at(rt, i));
-    }
-    match kind_at(rt, i) {
-        TIDY => o.tidy = true,
-        WIDTH => o.width_at = next,
-        OTHER => return with_common(o, command_line::taken(rt, common, i, next)),
-        kind => return with_file(o, i, kind),
-    }
-    o
-}
-
-// The options with the width that argument i says.
-fn with_width(o: Options, i: usize, x: usize) -> Options {
-    if width::NONE <= x {
-        return wrong(o, BAD_WIDTH, i);
-    }
-    let mut o = o;
-    o.width = x as u16;
-    o
-}
-
-// The options with the file that argument i names, or standard input.
-fn with_file(o: Options, i: usize, kind: u64) -> Options {
-    if o.has_stream {
-        return wrong(o, SECOND_STREAM, i);
-    }
-    let mut o = o;
-    o.has_stream = true;
-    if kind == NAME {
-        o.file = i;
-    }
-    o
-}
-
-// What argument i is. One that is longer than a path may be is taken for a name.
-fn kind_at(rt: &impl Env, i: usize) -> u64 {
-    let mut word = [0u8; 4096];
-    let n = command_line::argument(rt, i, &mut word);
-    kind_of(&word[..n])
-}
-
-// What a word is.
-fn kind_of(word: &[u8]) -> u64 {
-    if word.len() == 0 {
-        return NAME;
-    }
-    if word[0] != b'-' {
-        return NAME;
-    }
-    if word.len() == 1 {
-        return DASH;
-    }
-    if word == b"--tidy".as_slice() {
-        return TIDY;
-    }
-    if word == b"--width".as_slice() {
-        return WIDTH;
-    }
-    OTHER
 }

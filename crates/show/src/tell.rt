@@ -1,13 +1,52 @@
 // What is told besides the report: the help, and on standard error what cannot be done.
+use crate::options;
+use crate::options::{Options, Stream, Wrong};
+use command_line::escape;
 use std::env::Env;
+use std::fmt::Display;
 use std::io;
 use std::io::Write;
 
 // What the program is called.
 pub(crate) const NAME: [u8; 4] = *b"show";
 
-// How the program is called. The status is then 0.
-pub(crate) fn help(out: &mut impl Write) -> io::Result<u64> {
+// What the program ends with.
+#[derive(Clone, Copy)]
+pub(crate) enum Status {
+    Accepted,
+    Refused,
+    Unusable,
+}
+
+impl From<Status> for u64 {
+    fn from(status: Status) -> u64 {
+        match status {
+            Status::Accepted => 0,
+            Status::Refused => 1,
+            Status::Unusable => 2,
+        }
+    }
+}
+
+// Why nothing can be shown. Where it is the type sheet, that has been told.
+#[derive(Clone, Copy)]
+pub(crate) enum Trouble {
+    Argument(Wrong),
+    Sheet,
+    Input(io::Error),
+    LongLayout,
+    Output(io::Error),
+}
+
+// What is written goes to standard output.
+impl From<io::Error> for Trouble {
+    fn from(why: io::Error) -> Trouble {
+        Trouble::Output(why)
+    }
+}
+
+// How the program is called.
+pub(crate) fn help(out: &mut impl Write) -> io::Result<()> {
     out.write_all(
         b"\
 show [--sheet FILE] [FILE]
@@ -30,46 +69,46 @@ ASCII \\xNN. A refusal from reading, and what is untidy, also tells its place, c
 block after it or from the layout, and the bytes around it in hexadecimal: that byte is in brackets, which are empty where
 the bytes end there.
 ",
-    )?;
-    Ok(0)
+    )
 }
 
-// The status that goes with what was written; where that failed it is 2, and why is said.
-pub(crate) fn ended(err: &mut impl Write, written: io::Result<u64>) -> u64 {
-    command_line::ended(err, &NAME, written)
+// Says on standard error why nothing can be shown. What standard error does not take is lost.
+pub(crate) fn tell(rt: &impl Env, err: &mut impl Write, asked: Options, trouble: Trouble) {
+    let mut space = [0u8; 4096];
+    let _ = match trouble {
+        Trouble::Argument(wrong) => wrong_argument(rt, err, wrong),
+        Trouble::Sheet => Ok(()),
+        Trouble::Input(why) => {
+            command_line::failed(err, &NAME, input_name(rt, asked, &mut space), why)
+        }
+        Trouble::LongLayout => say(
+            err,
+            input_name(rt, asked, &mut space),
+            &"more than 1,048,576 bytes, show takes no longer layout",
+        ),
+        Trouble::Output(why) => command_line::failed(err, &NAME, b"standard output", why),
+    };
 }
 
-// Says on standard error why a call on the named thing failed. What standard error does not take is lost, here and below.
-pub(crate) fn failed(err: &mut impl Write, name: &[u8], why: io::Error) {
-    let _ = command_line::failed(err, &NAME, name, why);
+// What the stream or layout is called.
+fn input_name<'a>(rt: &impl Env, asked: Options, space: &'a mut [u8; 4096]) -> &'a [u8] {
+    match asked.stream {
+        Some(Stream::File(i)) => options::argument(rt, i, space),
+        _ => b"standard input",
+    }
 }
 
-// Says on standard error that a layout is too long.
-pub(crate) fn too_long(err: &mut impl Write, name: &[u8]) {
-    let _ = command_line::say_wrong(
-        err,
-        &NAME,
-        name,
-        b"\n00: more than 1,048,576 bytes, show takes no longer layout",
-        0,
-    );
+fn wrong_argument(rt: &impl Env, err: &mut impl Write, wrong: Wrong) -> io::Result<()> {
+    let mut space = [0u8; 4096];
+    match wrong.at {
+        Some(i) => say(err, options::argument(rt, i, &mut space), &wrong.fault),
+        None => writeln!(err, "show: {}", wrong.fault),
+    }
 }
 
-// Says on standard error what is wrong with an argument.
-pub(crate) fn wrong_argument(rt: &impl Env, err: &mut impl Write, fault: u64, at: usize) {
-    let _ = command_line::say_wrong_argument(
-        rt,
-        err,
-        &NAME,
-        at,
-        b"
-01: no such option, show --help says which there are
-02--sheet: the file's name is missing
-03: a second stream, show takes one
-04--width: the number is missing
-05: no symbol width, which is a number from 0 to 65535
-06: only --tidy takes a symbol width
-",
-        fault,
-    );
+// A line about the named thing.
+fn say(err: &mut impl Write, name: &[u8], what: &impl Display) -> io::Result<()> {
+    err.write_all(b"show: ")?;
+    escape::escaped(err, name)?;
+    writeln!(err, ": {what}")
 }

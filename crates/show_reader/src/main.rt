@@ -4,7 +4,6 @@
 
 ghost use Rattle.numbers.specs.Numbers.{Past};
 
-use numbers::Got;
 use refusal::Refusal;
 use std::io;
 use std::io::Write;
@@ -21,76 +20,79 @@ fn main(rt: HostRuntime) -> io::Result<()> {
     )
 }
 
-// A layout without records and structs.
-fn show_layout(out: &mut impl Write, s: &[u8]) -> io::Result<()> {
-    let records = show_u16(out, b"layout version ", s, 0)?;
-    let structs = show_u16(out, b"records ", s, records)?;
-    let labels = show_u16(out, b"structs ", s, structs)?;
-    let at = show_u16(out, b"label defs ", s, labels)?;
-    match wire::section_at(s, at) {
-        Got::Value { value, next } => show_label_def(out, &s[value..next]),
-        Got::Refused(why) => show_refusal(out, why),
+// Why no more steps are shown: one was refused, or the output failed.
+#[derive(Clone, Copy)]
+enum Stop {
+    Refused(Refusal),
+    Output(io::Error),
+}
+
+impl From<Refusal> for Stop {
+    fn from(why: Refusal) -> Stop {
+        Stop::Refused(why)
     }
+}
+
+impl From<io::Error> for Stop {
+    fn from(why: io::Error) -> Stop {
+        Stop::Output(why)
+    }
+}
+
+// A layout's steps up to a refusal, which is shown with its place in what was read.
+fn show_layout(out: &mut impl Write, s: &[u8]) -> io::Result<()> {
+    match layout(out, s) {
+        Ok(()) => Ok(()),
+        Err(Stop::Refused(why)) => writeln!(out, "refused {} at {}", why.number, why.place),
+        Err(Stop::Output(why)) => Err(why),
+    }
+}
+
+// A layout without records and structs.
+fn layout(out: &mut impl Write, s: &[u8]) -> Result<(), Stop> {
+    let at = show_u16(out, "layout version", s, 0)?;
+    let at = show_u16(out, "records", s, at)?;
+    let at = show_u16(out, "structs", s, at)?;
+    let at = show_u16(out, "label defs", s, at)?;
+    let (body, end) = wire::section_at(s, at)?;
+    label_def(out, &s[body..end])
 }
 
 // A label def with one label, from its section's own part.
-fn show_label_def(out: &mut impl Write, s: &[u8]) -> io::Result<()> {
+fn label_def(out: &mut impl Write, s: &[u8]) -> Result<(), Stop> {
     let name = wire::name_at(s, 0);
     out.write_all(b"name ")?;
-    show_text(out, s, 0, name)?;
-    match name {
-        Got::Value { value: _, next } => {
-            let at = show_u16(out, b"labels ", s, next)?;
-            show_label(out, s, at)
-        }
-        Got::Refused(_) => Ok(()),
-    }
+    line(out, text_of(s, 0, name)?)?;
+    let (_, next) = name?;
+    let at = show_u16(out, "labels", s, next)?;
+    label(out, s, at)
 }
 
-fn show_label(out: &mut impl Write, s: &[u8], at: usize) -> io::Result<()> {
+fn label(out: &mut impl Write, s: &[u8], at: usize) -> Result<(), Stop> {
     let label = byte_reader::label_in(s, at);
-    let code = label.code;
-    let name = label.name;
-    match code {
-        Got::Value { value, next } => {
-            write!(out, "label {value} ")?;
-            show_text(out, s, next, name)
-        }
-        Got::Refused(why) => show_refusal(out, why),
-    }
+    let (code, next) = label.code?;
+    write!(out, "label {code} ")?;
+    line(out, text_of(s, next, label.name)?)?;
+    Ok(())
 }
 
-// The number at `at`, and the place after it; `at` itself where there is none.
-fn show_u16(out: &mut impl Write, what: &[u8], s: &[u8], at: usize) -> io::Result<usize> {
-    out.write_all(what)?;
-    match numbers::u16_at(s, at, refusal::LAYOUT_TRUNCATED) {
-        Got::Value { value, next } => {
-            writeln!(out, "{value}")?;
-            Ok(next)
-        }
-        Got::Refused(why) => {
-            show_refusal(out, why)?;
-            Ok(at)
-        }
-    }
+// Shows the number at `at`, and answers the place after it.
+fn show_u16(out: &mut impl Write, what: &str, s: &[u8], at: usize) -> Result<usize, Stop> {
+    let (number, next) = numbers::u16_at(s, at, refusal::LAYOUT_TRUNCATED)?;
+    writeln!(out, "{what} {number}")?;
+    Ok(next)
 }
 
-// The text of the name that was read at `at`.
-fn show_text(out: &mut impl Write, s: &[u8], at: usize, name: Got) -> io::Result<()>
+// The text of the name that was read at `at`, between its length and its closing NUL.
+fn text_of(s: &[u8], at: usize, name: Result<(usize, usize), Refusal>) -> Result<&[u8], Refusal>
     requires { Past 256 2 s.now at name }
 {
-    match name {
-        Got::Value { value: _, next } => {
-            let b = at + 1;
-            let e = next - 1;
-            out.write_all(&s[b..e])?;
-            out.write_all(b"\n")
-        }
-        Got::Refused(why) => show_refusal(out, why),
-    }
+    let (_, next) = name?;
+    Ok(&s[at + 1..next - 1])
 }
 
-// A refusal, with its place in what was read.
-fn show_refusal(out: &mut impl Write, why: Refusal) -> io::Result<()> {
-    writeln!(out, "refused {} at {}", why.number, why.place)
+// A text and the line's end.
+fn line(out: &mut impl Write, s: &[u8]) -> io::Result<()> {
+    out.write_all(s)?;
+    out.write_all(b"\n")
 }

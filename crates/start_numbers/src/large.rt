@@ -1,141 +1,81 @@
 // The numbers that small tables do not reach: 91, 92 and 94 of layout rows, and 13 of the block.
-ghost use Rattle.std.specs.Prelude.{◌≡◌, length};
+ghost use Rattle.std.specs.Prelude.{◌≡◌, ◌+◌, ◌*◌, IfOk, vec_len};
 
-use crate::{good, run};
+use crate::start::Start;
+use crate::{Cases, start};
+use std::alloc::{AllocError, Global};
 use std::io;
 use std::io::Write;
 
-// What a table is filled with.
-const LABEL_DEFS: u8 = 0;
+// A label def without a text and without labels.
+const LABEL_DEF: [u32; 9] = [14, 0, 0, 0, 0, 0, 0, 0, 0];
 
-const LABELS: u8 = 1;
-
-const LISTED: u8 = 2;
+// A label of 255 letters.
+const LABEL: [u32; 9] = [15, 0, 255, 0, 0, 0, 0, 0, 0];
 
 // 91
-pub(crate) fn many_label_defs(out: &mut impl Write) -> io::Result<()> {
-    let mut rows = rows_space();
-    fill(LABEL_DEFS, &mut rows);
-    layout(out, b"65536 label defs", &rows)
+pub(crate) fn many_label_defs(cases: &mut Cases<impl Write>) -> io::Result<()> {
+    let rows = rows_of(cases.alloc, &LABEL_DEF, &LABEL_DEF, 65535)?;
+    layout(cases, "65536 label defs", rows)
 }
 
 // 92
-pub(crate) fn long_name(out: &mut impl Write) -> io::Result<()> {
-    layout(
-        out,
-        b"a layout name of 256 bytes",
-        &[14, 0, 256, 0, 0, 0, 0, 0, 0],
-    )
+pub(crate) fn long_name(cases: &mut Cases<impl Write>) -> io::Result<()> {
+    let rows = vec![in cases.alloc; 14, 0, 256, 0, 0, 0, 0, 0, 0]?;
+    layout(cases, "a layout name of 256 bytes", rows)
 }
 
 // 94
-pub(crate) fn long_section(out: &mut impl Write) -> io::Result<()> {
-    let mut rows = section_space();
-    fill(LABELS, &mut rows);
-    layout(out, b"254 labels of 255 bytes", &rows)
+pub(crate) fn long_section(cases: &mut Cases<impl Write>) -> io::Result<()> {
+    let label_def = [14, 0, 0, 254, 0, 0, 0, 0, 0];
+    let rows = rows_of(cases.alloc, &label_def, &LABEL, 254)?;
+    layout(cases, "254 labels of 255 bytes", rows)
 }
 
 // 13: 65,537 listed symbols of 65,535 NULs are as many bytes as the length holds, and a header stands before them.
-pub(crate) fn long_block(out: &mut impl Write) -> io::Result<()> {
-    let mut table = columns_space();
-    fill(LISTED, &mut table);
-    let mut fields = good::good_fields(2);
-    fields[8] = 65535;
-    run::start(
-        out,
-        b"65537 symbols of width 65535",
-        2,
-        &fields,
-        &table,
-        65537,
-        &[],
-        b"TEST",
-        512,
-        &[0u16; 520],
-    )
+pub(crate) fn long_block(cases: &mut Cases<impl Write>) -> io::Result<()> {
+    let mut start = Start::good(cases.alloc, 2)?;
+    start.change(start::Change::Field(start::Field::Width, 65535));
+    start.count = 65537;
+    start.table = listed(cases.alloc)?;
+    start.text = Vec::from_slice(cases.alloc, b"TEST")?;
+    start.show(&mut cases.out, "65537 symbols of width 65535")
 }
 
-// Room for 65,536 layout rows.
-fn rows_space() -> [u32; 589824]
-    ensures { 589824 ≡ length result }
+// A row, and n rows of another kind.
+fn rows_of(
+    alloc: Global,
+    first: &[u32; 9],
+    other: &[u32; 9],
+    n: usize,
+) -> Result<Vec<u32>, AllocError>
+    ensures { IfOk result (λ rows. vec_len rows ≡ 9 + 9 * n) }
 {
-    [0; 589824]
+    let mut rows = Vec::from_slice(alloc, first)?;
+    for _i in 0..n {
+        rows.extend_from_slice(other)?;
+    }
+    Ok(rows)
 }
 
-// Room for 255 layout rows.
-fn section_space() -> [u32; 2295]
-    ensures { 2295 ≡ length result }
+// The columns of 65,537 listed symbols without letters. Each row is its own owner, in the last column.
+fn listed(alloc: Global) -> Result<Vec<u32>, AllocError>
+    ensures { IfOk result (λ table. 393222 ≡ vec_len table) }
 {
-    [0; 2295]
-}
-
-// Room for the columns of 65,537 symbology rows.
-fn columns_space() -> [u32; 393222]
-    ensures { 393222 ≡ length result }
-{
-    [0; 393222]
+    let mut table = vec![in alloc; 0; 327685]?;
+    for row in 0..65537 {
+        table.push(row)?;
+    }
+    Ok(table)
 }
 
 // Layout rows with a text of 256 letters, and no symbology rows.
-fn layout(out: &mut impl Write, words: &[u8], rows: &[u32]) -> io::Result<()> {
-    let text = [b'a'; 256];
-    let fields = good::good_fields(4);
-    run::start(
-        out,
-        words,
-        4,
-        &fields,
-        &[],
-        0,
-        rows,
-        &text,
-        512,
-        &[0u16; 520],
-    )
-}
-
-// Puts every number of a table.
-fn fill(with: u8, table: &mut [u32]) {
-    for i in 0..table.len() {
-        table[i] = number(with, i);
-    }
-}
-
-// Number i of a table: of label defs without labels; of a label def and 254 labels of 255 letters; of the columns of 65,537 listed symbols
-// without letters.
-fn number(with: u8, i: usize) -> u32 {
-    match with {
-        LABEL_DEFS => first_of_nine(i),
-        LABELS => label(i),
-        _ => owner(i),
-    }
-}
-
-fn first_of_nine(i: usize) -> u32 {
-    if i % 9 == 0 { 14 } else { 0 }
-}
-
-fn label(i: usize) -> u32 {
-    match i {
-        0 => 14,
-        2 => 0,
-        3 => 254,
-        _ => label_row(i % 9),
-    }
-}
-
-fn label_row(j: usize) -> u32 {
-    match j {
-        0 => 15,
-        2 => 255,
-        _ => 0,
-    }
-}
-
-// Each row is its own owner, in the last column.
-fn owner(i: usize) -> u32 {
-    if i < 327685 {
-        return 0;
-    }
-    ((i - 327685) % 65537) as u32
+fn layout(cases: &mut Cases<impl Write>, words: &str, rows: Vec<u32>) -> io::Result<()> {
+    let mut start = Start::good(cases.alloc, 4)?;
+    start.count = 0;
+    start.table = Vec::new(cases.alloc);
+    start.layout = rows.len();
+    start.rows = rows;
+    start.text = vec![in cases.alloc; b'a'; 256]?;
+    start.show(&mut cases.out, words)
 }

@@ -1,6 +1,6 @@
 // One layout for each rule: a good one of a record, a struct and a label def, with up to three changes.
-use crate::good;
-use crate::good::Change;
+use crate::Cases;
+use crate::start::{Change, Start, row};
 use std::io;
 use std::io::Write;
 
@@ -34,82 +34,54 @@ fn sheet() -> [u16; 520] {
     sheet
 }
 
-fn one(out: &mut impl Write, words: &[u8], a: Change) -> io::Result<()> {
-    three(out, words, a, good::none(), good::none())
-}
-
-fn two(out: &mut impl Write, words: &[u8], a: Change, b: Change) -> io::Result<()> {
-    three(out, words, a, b, good::none())
-}
-
-fn three(out: &mut impl Write, words: &[u8], a: Change, b: Change, c: Change) -> io::Result<()> {
-    let mut rows = ROWS;
-    let sheet = sheet();
-    good::ruled(out, words, &mut rows, &sheet, a, b, c)
+impl<W: Write> Cases<W> {
+    // The good layout of version 4 with these changes.
+    fn show_rules(&mut self, words: &str, changes: &[Change]) -> io::Result<()> {
+        let mut start = Start::with_rows(self.alloc, 4, &ROWS, ROWS.len())?;
+        start.sheet = sheet();
+        self.show_changed(words, start, changes)
+    }
 }
 
 // Accepted; 60 to 64
-pub(crate) fn layouts(out: &mut impl Write) -> io::Result<()> {
-    one(out, b"a record, a struct and a label def", good::none())?;
-    two(
-        out,
-        b"a struct of 6 bytes with a type of 4",
-        good::row(5, 3, 6),
-        good::row(6, 4, 4),
+pub(crate) fn layouts(cases: &mut Cases<impl Write>) -> io::Result<()> {
+    cases.show_rules("a record, a struct and a label def", &[])?;
+    cases.show_rules(
+        "a struct of 6 bytes with a type of 4",
+        &[row(5, 3, 6), row(6, 4, 4)],
     )?;
-    three(
-        out,
-        b"rtype 8 twice",
-        good::row(5, 0, 10),
-        good::row(5, 5, 8),
-        good::row(5, 6, 1),
+    cases.show_rules(
+        "rtype 8 twice",
+        &[row(5, 0, 10), row(5, 5, 8), row(5, 6, 1)],
     )?;
-    one(out, b"rtype 78", good::row(0, 3, 78))?;
-    one(out, b"a base below the header", good::row(0, 5, 0))?;
-    one(out, b"a base of 12", good::row(0, 5, 12))
+    cases.show_rules("rtype 78", &[row(0, 3, 78)])?;
+    cases.show_rules("a base below the header", &[row(0, 5, 0)])?;
+    cases.show_rules("a base of 12", &[row(0, 5, 12)])
 }
 
 // 71 to 80
-pub(crate) fn fields(out: &mut impl Write) -> io::Result<()> {
-    one(out, b"an id twice", good::row(2, 1, 1))?;
-    one(out, b"a struct in a struct", good::row(6, 4, 10))?;
-    two(
-        out,
-        b"a second struct that is not there",
-        good::row(1, 4, 10),
-        good::row(1, 6, 1),
+pub(crate) fn fields(cases: &mut Cases<impl Write>) -> io::Result<()> {
+    cases.show_rules("an id twice", &[row(2, 1, 1)])?;
+    cases.show_rules("a struct in a struct", &[row(6, 4, 10)])?;
+    cases.show_rules(
+        "a second struct that is not there",
+        &[row(1, 4, 10), row(1, 6, 1)],
     )?;
-    two(
-        out,
-        b"a type of 4 at byte 5",
-        good::row(2, 2, 5),
-        good::row(2, 4, 4),
-    )?;
-    one(out, b"a field of size 0", good::row(2, 3, 0))?;
-    one(out, b"a decimal of scale 0", good::row(2, 4, 12))?;
-    one(
-        out,
-        b"a symbol field of 4 bytes, width 6",
-        good::row(2, 4, 11),
-    )?;
-    one(out, b"a field at byte 65535", good::row(2, 2, 65535))?;
-    one(
-        out,
-        b"a base field marked as an extension",
-        good::row(2, 5, 64),
-    )?;
-    one(out, b"a field past the base", good::row(2, 3, 5))
+    cases.show_rules("a type of 4 at byte 5", &[row(2, 2, 5), row(2, 4, 4)])?;
+    cases.show_rules("a field of size 0", &[row(2, 3, 0)])?;
+    cases.show_rules("a decimal of scale 0", &[row(2, 4, 12)])?;
+    cases.show_rules("a symbol field of 4 bytes, width 6", &[row(2, 4, 11)])?;
+    cases.show_rules("a field at byte 65535", &[row(2, 2, 65535)])?;
+    cases.show_rules("a base field marked as an extension", &[row(2, 5, 64)])?;
+    cases.show_rules("a field past the base", &[row(2, 3, 5)])
 }
 
 // 81 to 83
-pub(crate) fn tilings(out: &mut impl Write) -> io::Result<()> {
-    one(out, b"an overlap in the base", good::row(2, 2, 3))?;
-    one(out, b"a base of 8 with 7 filled", good::row(2, 3, 3))?;
-    three(
-        out,
-        b"a gap before an extension",
-        good::row(1, 3, 8),
-        good::row(2, 2, 9),
-        good::row(2, 5, 64),
+pub(crate) fn tilings(cases: &mut Cases<impl Write>) -> io::Result<()> {
+    cases.show_rules("an overlap in the base", &[row(2, 2, 3)])?;
+    cases.show_rules("a base of 8 with 7 filled", &[row(2, 3, 3)])?;
+    cases.show_rules(
+        "a gap before an extension",
+        &[row(1, 3, 8), row(2, 2, 9), row(2, 5, 64)],
     )
 }

@@ -1,15 +1,21 @@
 -- Words added to check words: one at a time without reducing, and part by part.
 -- Assumes nothing.
-use Prim.Native.Nat.{ℕ, zero, suc, ◌+◌, ◌-◌, ◌*◌, ◌%◌, ◌≤◌, ◌<◌, min}
-use native.Mathlib.Nat.{zero-add, add-zero, add_assoc, add-mod, mod-mod, mod-eq_of_lt}
-use native.Mathlib.Omega.{arith}
-use mathlib.Core.Path.{◌≡◌, refl, sym, ap₂, ◌∙◌}
-use mathlib.Core.List.{List, [], ◌∷◌, ◌++◌, append-nil}
-use lib.ListN.{length, get_or, take, drop, length-drop, drop_of_length-le}
-use lib.Seq.{drop-cons, drop-drop, take_all}
-use Rattle.codec.specs.CaseLaws.{by_le}
+use Rattle.std.proofs.Common.{ℕ, zero, suc, ◌+◌, ◌*◌, ◌/◌, ◌%◌, ◌≤◌, ◌<◌, min, ◌≡◌, refl, sym, ap, ap₂, ◌∙◌, List, [], ◌∷◌, ◌++◌, length, get_or, take, drop, arith, zero-add, add-zero, add_assoc, mod-eq_of_lt, drop-cons}
+use native.Mathlib.Nat.{add-mod, mod-mod}
+use lib.ListN.{drop_of_length-le}
+use Rattle.std.specs.Simd.{first_chunks}
+use Rattle.std.proofs.lemmas.List.{nil_from_length, get_or-drop, get_or-take, drop-drop}
 use Rattle.sums.specs.Sums.{words, sum, running, check_a, check_b, sums_of, reduced, sums_from}
 use Rattle.sums.specs.declared.Sums.{Sums}
+
+-- words of an even number of bytes, or of all, and those of the rest
+words-append : (u v : List ℕ) (k : ℕ) → length u ≡ min (2 * k) (length (u ++ v)) → words (u ++ v) ≡ words u ++ words v
+unfolding words
+words-append [] v k e = refl
+words-append (x ∷ []) [] k e = refl
+words-append (x ∷ []) (y ∷ v) k e = absurd (omega arith)
+words-append (x ∷ y ∷ u) v zero e = absurd (omega arith)
+words-append (x ∷ y ∷ u) v (suc k) e = rw (words-append u v k (omega arith))
 
 -- ---- one part
 
@@ -75,6 +81,23 @@ module _ {a b : ℕ} {s : List ℕ} {x y j : ℕ} (l : Adding a b s x y j) where
       let e = words-none s j h in
       ap₂ (λ m n. reduced m n) (sym (add-zero _) ∙ (rw e at l.x-same)) (sym (add-zero _) ∙ (rw e at l.y-same))
 
+-- pair i of the first n
+pair-at : (n i : ℕ) (s : List ℕ) → i < n → get_or (first_chunks 2 n s) i [] ≡ take 2 (drop (2 * i) s)
+pair-at zero i s h = absurd (omega arith)
+pair-at (suc n) zero s h = refl
+pair-at (suc n) (suc i) s h = pair-at n i (drop 2 s) (omega arith) ∙ ap (λ (u : List ℕ). take 2 u) (drop-drop (2 * i) 2 s ∙ ap (λ k. drop k s) (omega arith))
+
+module _ (n i : ℕ) (s : List ℕ) (h : i < n) {ps : List (List ℕ)} (e : ps ≡ first_chunks 2 n s) where
+  pub pair-low : get_or (get_or ps i []) 0 0 ≡ get_or s (2 * i) 0
+  pair-low = rw (e, pair-at n i s h) (get_or-take 2 (drop (2 * i) s) 0 0 (omega arith) ∙ get_or-drop (2 * i) s 0 0 ∙ ap (λ k. get_or s k 0) (omega arith))
+
+  pub pair-high : get_or (get_or ps i []) 1 0 ≡ get_or s (2 * i + 1) 0
+  pair-high = rw (e, pair-at n i s h) (get_or-take 2 (drop (2 * i) s) 1 0 (omega arith) ∙ get_or-drop (2 * i) s 1 0)
+
+-- the byte that is in no pair
+pub odd-byte : (s : List ℕ) {odd : List ℕ} → odd ≡ drop (length s / 2 * 2) s → get_or odd 0 0 ≡ get_or s (length s / 2 * 2) 0
+odd-byte s e = rw e (get_or-drop (length s / 2 * 2) s 0 0 ∙ ap (λ k. get_or s k 0) (omega arith))
+
 -- ---- part by part
 
 sum-append : (u v : List ℕ) → sum (u ++ v) ≡ sum u + sum v
@@ -109,55 +132,33 @@ from-append a b u v =
     ap₂ (λ m n. reduced m n) e f
     ∙ cc (plus_same p (p % 65535) (sum v) (sum v) (sym (mod-mod p 65535)) refl, plus_same q (q % 65535) (sum (running p v)) (sum (running (p % 65535) v)) (sym (mod-mod q 65535)) (running-same v p (p % 65535) (sym (mod-mod p 65535))))
 
-abbrev double : ℕ → ℕ
-double zero = zero
-double (suc k) = suc (suc (double k))
-
--- the words of k pairs of bytes, and those of the rest
-words-parts : (k : ℕ) (s : List ℕ) → words s ≡ words (take (double k) s) ++ words (drop (double k) s)
-unfolding words
-words-parts zero s = refl
-words-parts (suc k) [] = refl
-words-parts (suc k) (x ∷ []) = refl
-words-parts (suc k) (x ∷ y ∷ s) = rw (← words-parts k s)
-
--- the words of at most 508 bytes, and those of the rest
-words-part : (s : List ℕ) → words s ≡ words (take (min 508 (length s)) s) ++ words (drop (min 508 (length s)) s)
-words-part s =
-    by_le 508 (length s)
-    (λ h. let e : min 508 (length s) ≡ 508 = omega arith in rw e (words-parts 254 s))
-    (λ h. let e : min 508 (length s) ≡ length s = omega arith in rw (e, take_all (length s) s (omega arith), words-none s (length s) (omega arith)) (sym (append-nil (words s))))
-
--- The words before place `at` of s are in t, which is reduced.
-pub record Before (s : List ℕ) (t : Sums) (at : ℕ) : Type 0 where
-  pub within : at ≤ length s
+-- The words before the rest of s are in t, which is reduced.
+pub record Before (s : List ℕ) (t : Sums) (rest : List ℕ) : Type 0 where
   pub a-below : t.a < 65535
   pub b-below : t.b < 65535
-  pub same : sums_from t.a t.b (words (drop at s)) ≡ sums_of s
+  pub same : sums_from t.a t.b (words rest) ≡ sums_of s
 
-pub before-start : (s : List ℕ) → Before s (record { a = 0; b = 0 }) 0
+pub before-start : (s : List ℕ) → Before s (record { a = 0; b = 0 }) s
 unfolding sums_from check_a check_b
-before-start s = record { within = omega arith; a-below = omega arith; b-below = omega arith; same = simp zero-add }
+before-start s = record { a-below = omega arith; b-below = omega arith; same = simp zero-add }
 
 from-below : (a b : ℕ) (ws : List ℕ) → ((sums_from a b ws).a < 65535) × ((sums_from a b ws).b < 65535)
 unfolding sums_from
 from-below a b ws = (omega arith, omega arith)
 
-module _ {s : List ℕ} {t : Sums} {at : ℕ} (l : Before s t at) where
-  pub before-next : (t' : Sums) (end : ℕ) → end ≡ at + min 508 (length s - at) → t' ≡ sums_from t.a t.b (words (take (end - at) (drop at s))) → Before s t' end
-  before-next t' end e f =
-      let n = min 508 (length (drop at s)) in
-      let g : end - at ≡ n = omega (arith, length-drop at s) in
-      let h : at + n ≡ end = omega (arith, length-drop at s) in
-      let k : t' ≡ sums_from t.a t.b (words (take n (drop at s))) = (rw g at f) in
-      let (p, q) = from-below t.a t.b (words (take n (drop at s))) in
+module _ {s : List ℕ} {t : Sums} {rest : List ℕ} (l : Before s t rest) where
+  pub before-next : (u left : List ℕ) {t' : Sums} → rest ≡ u ++ left → length u ≡ min 508 (length rest) → t' ≡ sums_from t.a t.b (words u) → Before s t' left
+  before-next u left {t'} e n k =
+      let (p, q) = from-below t.a t.b (words u) in
+      let w : words rest ≡ words u ++ words left = ap words e ∙ words-append u left 254 (n ∙ ap (λ (v : List ℕ). min 508 (length v)) e) in
       record {
-        within = omega (arith, l.within);
         a-below = rw k p;
         b-below = rw k q;
-        same = rw (k, ← h, ← drop-drop n at s, ← from-append, ← words-part (drop at s)) l.same;
+        same = rw (k, ← from-append, ← w) l.same;
       }
 
-  pub before-end : length s ≤ at → t ≡ sums_of s
-  unfolding sums_from sum running
-  before-end h = sym (ap₂ (λ m n. record { a = m; b = n }) (rw add-zero (mod-eq_of_lt l.a-below)) (rw add-zero (mod-eq_of_lt l.b-below))) ∙ (rw (words-none s at h) at l.same)
+  pub before-end : length rest ≡ 0 → t ≡ sums_of s
+  unfolding sums_from words sum running
+  before-end h =
+      let e : rest ≡ [] = nil_from_length rest h in
+      sym (ap₂ (λ m n. record { a = m; b = n }) (rw add-zero (mod-eq_of_lt l.a-below)) (rw add-zero (mod-eq_of_lt l.b-below))) ∙ (rw e at l.same)

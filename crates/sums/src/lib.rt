@@ -1,7 +1,7 @@
 // The two check words of a house file: over its bytes as little-endian words, the sum of the words and the sum of their running sums.
 #![tactic(auto)]
 
-ghost use Rattle.std.specs.Prelude.{◌≡◌, ◌+◌, ◌-◌, ◌≤◌, ◌<◌, min, length};
+ghost use Rattle.std.specs.Prelude.{◌≡◌, ◌≤◌, ◌<◌, length};
 ghost use Rattle.sums.specs.Sums.{words, sums_of, reduced, sums_from};
 
 // The check words, both modulo 65535.
@@ -16,24 +16,10 @@ pub fn sums_of(s: &[u8]) -> Sums
     ensures { result ≡ sums_of s.now }
 {
     let mut t = Sums { a: 0, b: 0 };
-    let mut at = 0;
-    while at < s.len() {
-        let end = part_end(at, s.len());
-        t = add_part(t.a, t.b, &s[at..end]);
-        at = end;
+    for part in s.chunks(508) {
+        t = add_part(t.a, t.b, part);
     }
     t
-}
-
-// Where the part from `at` on ends: after 508 bytes, or with the slice.
-fn part_end(at: usize, len: usize) -> usize
-    requires { at ≤ len }
-    ensures { result ≡ at + min 508 (len - at) }
-{
-    if len - at < 508 {
-        return len;
-    }
-    at + 508
 }
 
 // Adds the words of s to check words a and b. The sums of so few words stay small, so they are reduced once, at the end.
@@ -43,18 +29,19 @@ fn add_part(a: usize, b: usize, s: &[u8]) -> Sums
 {
     let mut x = a;
     let mut y = b;
-    let mut j = 0;
-    while j + 1 < s.len() {
-        let w = s[j] as usize + 256 * (s[j + 1] as usize);
+    let (pairs, odd) = s.as_chunks::<2>();
+    for pair in pairs {
+        let w = pair[0] as usize + 256 * (pair[1] as usize);
         x += w;
         y += x;
-        j += 2;
     }
-    if j < s.len() {
-        x += s[j] as usize;
-        return reduce(x, y + x);
+    match odd.first() {
+        Some(last) => {
+            x += *last as usize;
+            reduce(x, y + x)
+        }
+        None => reduce(x, y),
     }
-    reduce(x, y)
 }
 
 // Two sums modulo 65535.

@@ -1,6 +1,6 @@
 -- Which numbers a symbology gives, and where.
 -- Assumes nothing.
-use Rattle.std.specs.Prelude.{ℕ, ◌≤◌, ◌≡◌, Bool, List, length, drop}
+use Rattle.std.specs.Prelude.{Result, Err, ℕ, ◌≤◌, ◌≡◌, Bool, List, length, drop}
 use Rattle.std.proofs.Math.Path.{refl}
 use Rattle.std.proofs.Math.Bool.{true, false}
 use Rattle.refusal.specs.declared.Refusal.{Refusal}
@@ -14,8 +14,7 @@ use Rattle.symbology_rows.specs.RefusalLaws.{rows_numbers, symbology_gives, symb
 use Rattle.symbology.specs.Reader.{section_of}
 use Rattle.symbology.specs.ReadLaws.{rows-refused}
 use Rattle.symbology.specs.Answers.{symbology_numbers, SectionPromise}
-use Rattle.symbology.specs.declared.SectionAnswer.{SectionAnswer}
-use Rattle.symbology.specs.declared.SectionAnswer.TheVariants.{Refused}
+use Rattle.symbology.specs.declared.Section.{Section}
 
 module _ (width base : ℕ) (s : List ℕ) where
   all_give : Gives (In symbology_numbers) (symbology_of width base s)
@@ -41,7 +40,7 @@ pub section-place-within : (spanned : Bool) (width base : ℕ) (s : List ℕ) {k
 section-place-within spanned width base s e = within-is (section-within width base s spanned) e
 
 -- what a reader's answer refuses with, and that its place is within the section
-module _ (spanned : Bool) (width base : ℕ) (s : List ℕ) {write : Bool} {t t' : List ℕ} {r : SectionAnswer} (p : SectionPromise write (section_of spanned width base s) t t' r) {k : Refusal} (e : r ≡ Refused k) where
+module _ (spanned : Bool) (width base : ℕ) (s : List ℕ) {write : Bool} {t t' : List ℕ} {r : Result Section Refusal} (p : SectionPromise write (section_of spanned width base s) t t' r) {k : Refusal} (e : r ≡ Err k) where
   pub section-refuses : In symbology_numbers k.number
   section-refuses = gives_is (In symbology_numbers) (section_gives width base s spanned) (rows-refused p e).0
 

@@ -1,6 +1,9 @@
 -- The public reader's answers from what the rows' reader did. Assumes nothing.
+use Rattle.std.specs.Prelude.{Ok, Err}
+use Rattle.numbers.specs.Numbers.{Got}
+use Rattle.numbers.specs.NumberLaws.{same_got}
 use Prim.Native.Nat.{ℕ, ◌+◌, ◌/◌, ◌≤◌, ◌<◌}
-use mathlib.Core.Path.{◌≡◌, refl, sym, ap, ap₂, ◌∙◌, subst}
+use mathlib.Core.Path.{◌≡◌, refl, sym, ap, ◌∙◌, subst}
 use mathlib.Core.Bool.{Bool, true, false}
 use mathlib.Core.List.{List}
 use native.Mathlib.Nat.{zero-add}
@@ -15,9 +18,6 @@ use Rattle.padded.specs.Padded.{nul_padded}
 use Rattle.dates.specs.Date.{is_date}
 use Rattle.table.specs.Table.{put_columns, said, answer, fill, Fills, Ran}
 use Rattle.table.proofs.ColumnLaws.{fill-columns}
-use Rattle.numbers.specs.declared.Got.{Got}
-use Rattle.numbers.specs.declared.Got.TheVariants.{Value}
-use Rattle.numbers.specs.declared.Got.TheVariants as Got'
 use Rattle.symbology_format.specs.Symbology
 use Rattle.symbology_format.specs.Symbology.{Symbology}
 use Rattle.symbology_format.specs.SymbologyRows.{symbology_rows}
@@ -26,41 +26,29 @@ use Rattle.symbology_rows.specs.Answers.{found, rows_answer, rows_table, RowsPro
 use Rattle.symbology_format.proofs.LenientLaws.{no-tests}
 use Rattle.symbology_rows.specs.ReadLaws.{symbology-parse}
 use Rattle.symbology_format.specs.WidthLaws.{rows-of-six}
-use Rattle.symbology_rows.specs.declared.Found.TheVariants as Found'
-use Rattle.symbology_rows.specs.declared.RowsAnswer.TheVariants as RowsAnswer'
+use Rattle.symbology_rows.specs.declared.Rows.TheVariants as Rows'
 
-pub found_13 : (width base : ℕ) (s : List ℕ) → 4294967295 < base + length s → Found'.Refused (refusal 13 0) ≡ found (symbology_of width base s)
+pub found_13 : (width base : ℕ) (s : List ℕ) → 4294967295 < base + length s → Err (refusal 13 0) ≡ found (symbology_of width base s)
 unfolding symbology_of found
 found_13 width base s h = rw (lt-leb (base + length s) 4294967295 h)
 
 module _ (width base : ℕ) (s : List ℕ) {t t' : List ℕ} {r : Got} (h : base + length s ≤ 4294967295) (g : Ran (put_columns 6) base s (symbology_at false width base s 0) 0 t t' r) where
-  pub found_ok : {n q : ℕ} → r ≡ Value n q → Found'.Accepted n q ≡ found (symbology_of width base s)
+  pub found-is : r ≡ found (symbology_of width base s)
   unfolding symbology_of symbology_at found
-  found_ok {n} {q} f = rw (le-leb (base + length s) 4294967295 h) (go ((Symbology.symbology utf8 nul_padded is_date width).codec.parse base s 0) (sym g.answered ∙ f))
+  found-is = rw (le-leb (base + length s) 4294967295 h) (g.answered ∙ go ((Symbology.symbology utf8 nul_padded is_date width).codec.parse base s 0))
     where
-      go : (r : Res Symbology.Symbology) → answer 0 (said symbology_rows r) ≡ Value n q → Found'.Accepted n q ≡ found r
-      go (ok z k) a =
-          let w : 0 + length (symbology_rows z) ≡ n = cc in
-          let y : k ≡ q = cc in
-          ap₂ Found'.Accepted (sym w ∙ zero-add (length (symbology_rows z))) (sym y)
-      go (refuse k) a = absurd (let z : ◌≡◌ {A = ℕ} 0 1 = cc in omega arith)
-
-  pub found-no : {k : Refusal} → r ≡ Got'.Refused k → Found'.Refused k ≡ found (symbology_of width base s)
-  unfolding symbology_of symbology_at found
-  found-no {k} f = rw (le-leb (base + length s) 4294967295 h) (go ((Symbology.symbology utf8 nul_padded is_date width).codec.parse base s 0) (sym g.answered ∙ f))
-    where
-      go : (r : Res Symbology.Symbology) → answer 0 (said symbology_rows r) ≡ Got'.Refused k → Found'.Refused k ≡ found r
-      go (ok z j) a = absurd (let z : ◌≡◌ {A = ℕ} 0 1 = cc in omega arith)
-      go (refuse j) a = let z : j ≡ k = cc in ap Found'.Refused (sym z)
+      go : (z : Res Symbology.Symbology) → answer 0 (said symbology_rows z) ≡ found z
+      go (ok z k) = ap (λ (x : ℕ). Ok (x, k)) (zero-add (length (symbology_rows z)))
+      go (refuse k) = refl
 
 -- ---- what a verdict says
 
-found_at : (r : Res Symbology) {n q : ℕ} → Found'.Accepted n q ≡ found r → (z : Symbology) × (r ≡ ok z q) × (length (symbology_rows z) ≡ n)
+found_at : (r : Res Symbology) {n q : ℕ} → Ok (n, q) ≡ found r → (z : Symbology) × (r ≡ ok z q) × (length (symbology_rows z) ≡ n)
 unfolding found
-found_at (ok z j) {n} {q} e = (z, (let y : j ≡ q = cc in ap (ok z) y), (let y : length (symbology_rows z) ≡ n = cc in y))
+found_at (ok z j) {n} {q} e = (z, ap (ok z) (sym (same_got e).1), sym (same_got e).0)
 found_at (refuse k) e = absurd (let z : ◌≡◌ {A = ℕ} 0 1 = cc in omega arith)
 
-found-bad : (r : Res Symbology) {k : Refusal} → Found'.Refused k ≡ found r → r ≡ refuse k
+found-bad : (r : Res Symbology) {k : Refusal} → Err k ≡ found r → r ≡ refuse k
 unfolding found
 found-bad (ok z j) e = absurd (let z : ◌≡◌ {A = ℕ} 0 1 = cc in omega arith)
 found-bad (refuse j) {k} e = let z : j ≡ k = cc in ap refuse z
@@ -80,14 +68,14 @@ finds_at width base s {n} {q} y e m =
     (λ h. record { small = h; z = y; read = sym (symbology-parse width base s h) ∙ e; is = e; many = m })
     (λ h. let g : refuse (refusal 13 0) ≡ ok y q = (rw (lt-leb (base + length s) 4294967295 h) at e) in absurd (let z : ◌≡◌ {A = ℕ} 0 1 = cc in omega arith))
 
-pub finds : (width base : ℕ) (s : List ℕ) {n q : ℕ} → Found'.Accepted n q ≡ found (symbology_of width base s) → Finds width base s n q
+pub finds : (width base : ℕ) (s : List ℕ) {n q : ℕ} → Ok (n, q) ≡ found (symbology_of width base s) → Finds width base s n q
 finds width base s e = let (y, is, m) = found_at (symbology_of width base s) e in finds_at width base s y is m
 
 -- ---- the rows in the table
 
 module _ {width base : ℕ} {s : List ℕ} {n q : ℕ} (a : Finds width base s n q) {write : Bool} {least : ℕ} {t : List ℕ} where
   module _ (y : write ≡ true) (l : least ≤ q) where
-    pub rows-read : {t' : List ℕ} {r : Got} → n ≤ length t / 6 → Ran (put_columns 6) base s (symbology_at true width base s 0) 0 t t' r → RowsPromise write least (symbology_of width base s) t t' (RowsAnswer'.Read n q)
+    pub rows-read : {t' : List ℕ} {r : Got} → n ≤ length t / 6 → Ran (put_columns 6) base s (symbology_at true width base s 0) 0 t t' r → RowsPromise write least (symbology_of width base s) t t' (Ok (Rows'.Read n q))
     unfolding symbology_at rows_answer rows_table
     rows-read {t'} h g =
         let R : List (List ℕ) = symbology_rows a.z in
@@ -99,7 +87,7 @@ module _ {width base : ℕ} {s : List ℕ} {n q : ℕ} (a : Finds width base s n
           leaves = rw (y, a.is, le-leb least q l, le-leb (length R) (length t / 6) h1) (f ∙ fill-columns 6 (omega arith) R t (rows-of-six a.z) h1);
         }
 
-    pub rows_short : length t / 6 < n → RowsPromise write least (symbology_of width base s) t t (RowsAnswer'.Counted n q)
+    pub rows_short : length t / 6 < n → RowsPromise write least (symbology_of width base s) t t (Ok (Rows'.Counted n q))
     unfolding rows_answer rows_table
     rows_short h =
         let R : List (List ℕ) = symbology_rows a.z in
@@ -107,14 +95,14 @@ module _ {width base : ℕ} {s : List ℕ} {n q : ℕ} (a : Finds width base s n
         let h1 : length t / 6 < length R = omega arith in
         record { is = rw (y, a.is, le-leb least q l, lt-leb (length R) (length t / 6) h1, e); leaves = rw (y, a.is, le-leb least q l, lt-leb (length R) (length t / 6) h1) }
 
-  pub rows_early : write ≡ true → q < least → RowsPromise write least (symbology_of width base s) t t (RowsAnswer'.Counted n q)
+  pub rows_early : write ≡ true → q < least → RowsPromise write least (symbology_of width base s) t t (Ok (Rows'.Counted n q))
   unfolding rows_answer rows_table
   rows_early y l = record { is = rw (y, a.is, lt-leb least q l, a.many); leaves = rw (y, a.is, lt-leb least q l) }
 
-  pub rows_unasked : write ≡ false → RowsPromise write least (symbology_of width base s) t t (RowsAnswer'.Counted n q)
+  pub rows_unasked : write ≡ false → RowsPromise write least (symbology_of width base s) t t (Ok (Rows'.Counted n q))
   unfolding rows_answer rows_table
   rows_unasked y = record { is = rw (y, a.is, a.many); leaves = rw (y, a.is) }
 
-pub rows-refused : (write : Bool) (least : ℕ) (z : Res Symbology) (t : List ℕ) {k : Refusal} → Found'.Refused k ≡ found z → RowsPromise write least z t t (RowsAnswer'.Refused k)
+pub rows-refused : (write : Bool) (least : ℕ) (z : Res Symbology) (t : List ℕ) {k : Refusal} → Err k ≡ found z → RowsPromise write least z t t (Err k)
 unfolding rows_answer rows_table
 rows-refused write least z t e = rw (found-bad z e) (record { is = refl; leaves = refl })

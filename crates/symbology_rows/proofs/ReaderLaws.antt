@@ -1,4 +1,5 @@
 -- The symbology's formats, as the code meets them. Assumes nothing.
+use Rattle.std.specs.Prelude.{Ok, Err}
 use Prim.Native.Nat.{ℕ, zero, suc, ◌+◌, ◌-◌, ◌*◌, ◌/◌, ◌≤◌, ◌<◌}
 use mathlib.Core.Path.{◌≡◌, refl, sym, ap, ap₂, ◌∙◌}
 use mathlib.Core.List.{List, [], map}
@@ -25,11 +26,9 @@ use Rattle.dates.specs.Date.{is_date}
 use Rattle.dates.specs.Day.{day_of}
 use Rattle.dates.specs.DayLaws.{first-date}
 use Rattle.table.specs.Table.{said, row, seq_from, on_got, ◌and_then◌, each_from}
-use Rattle.numbers.specs.Numbers.{got_of, got_on, num_at, part}
-use Rattle.numbers.specs.NumberLaws.{num_of, num-is, part_length}
+use Rattle.numbers.specs.Numbers.{got_of, got_on, num_at, part, Got}
+use Rattle.numbers.specs.NumberLaws.{num_of, num-is, part_length, same_got}
 use Rattle.table.specs.StepLaws.{items_end, items_row, items_no, rows_end, rows_row, rows-no, each-run, each-end, said-named, said_row, both, both-from, from-same}
-use Rattle.numbers.specs.declared.Got.{Got}
-use Rattle.numbers.specs.declared.Got.TheVariants.{Value, Refused}
 use Rattle.symbology_format.specs.Symbology
 use Rattle.symbology_format.specs.Symbology.{Symbol, Interval, Mapping, Symbology, to_mapping, to_symbology}
 use Rattle.symbology_format.specs.ParseLaws.{parse-symbol, parse-date, parse-list, parse-interval, parse-mapping, parse-symbology}
@@ -50,15 +49,15 @@ none_can count room h = omega (arith, leb-true count 0 (can_0 count room ∙ h))
 module _ (light : Bool) (width why not after : ℕ) (s : List ℕ) (at : ℕ) where
   -- what the code's symbol tells of the symbol, wherever the bytes stand
   abbrev pub symbol_of : ℕ → Got → Res Symbol
-  symbol_of base (Value v q) = ok (record { start = base + at; text = take width (drop at s) }) q
-  symbol_of base (Refused k) = refuse k
+  symbol_of base (Ok (v, q)) = ok (record { start = base + at; text = take width (drop at s) }) q
+  symbol_of base (Err k) = refuse k
 
   -- the tests, one after the other
   tried : Bool → Bool → Bool → Got
-  tried false u p = Refused (refusal why at)
-  tried true false p = Refused (refusal not at)
-  tried true true false = Refused (refusal after at)
-  tried true true true = Value at (at + width)
+  tried false u p = Err (refusal why at)
+  tried true false p = Err (refusal not at)
+  tried true true false = Err (refusal after at)
+  tried true true true = Ok (at, at + width)
 
   abbrev outcome : Got
   outcome = tried (leb (at + width) (length s)) (lax light utf8 (take width (drop at s))) (lax light nul_padded (take width (drop at s)))
@@ -89,25 +88,25 @@ module _ (light : Bool) (width why not after : ℕ) (s : List ℕ) (at : ℕ) wh
   symbol-is base = symbol-tried base ∙ ap (symbol_of base) (sym symbol_got)
 
   -- where it ends
-  pub symbol-place : {v e : ℕ} → symbol_at light width why not after s at ≡ Value v e → e ≡ at + width
+  pub symbol-place : {v e : ℕ} → symbol_at light width why not after s at ≡ Ok (v, e) → e ≡ at + width
   unfolding tried
   symbol-place {v} {e} q = go (leb (at + width) (length s)) (lax light utf8 (take width (drop at s))) (lax light nul_padded (take width (drop at s))) (sym symbol_got ∙ q)
     where
-      go : (f u p : Bool) → tried f u p ≡ Value v e → e ≡ at + width
+      go : (f u p : Bool) → tried f u p ≡ Ok (v, e) → e ≡ at + width
       go false u p x = absurd (let z : ◌≡◌ {A = ℕ} 0 1 = cc in omega arith)
       go true false p x = absurd (let z : ◌≡◌ {A = ℕ} 0 1 = cc in omega arith)
       go true true false x = absurd (let z : ◌≡◌ {A = ℕ} 0 1 = cc in omega arith)
-      go true true true x = let z : at + width ≡ e = cc in sym z
+      go true true true x = sym (same_got x).1
 
   -- its text is the part of the slice
-  pub symbol-part : {v e : ℕ} → symbol_at light width why not after s at ≡ Value v e → take width (drop at s) ≡ part s at e
+  pub symbol-part : {v e : ℕ} → symbol_at light width why not after s at ≡ Ok (v, e) → take width (drop at s) ≡ part s at e
   symbol-part {v} {e} q = let d : e - at ≡ width = omega (arith, symbol-place q) in rw d
 
-  pub symbol-wide : {v e : ℕ} → symbol_at light width why not after s at ≡ Value v e → e ≤ length s → length (part s at e) ≡ width
+  pub symbol-wide : {v e : ℕ} → symbol_at light width why not after s at ≡ Ok (v, e) → e ≤ length s → length (part s at e) ≡ width
   symbol-wide {v} {e} q h = part_length s at e h ∙ omega (arith, symbol-place q)
 
   -- the code's exits
-  pub sym_why : length s - at < width → Refused (refusal why at) ≡ symbol_at light width why not after s at
+  pub sym_why : length s - at < width → Err (refusal why at) ≡ symbol_at light width why not after s at
   unfolding tried
   sym_why h = let r : length s < at + width = omega arith in sym (symbol_got ∙ rw (lt-leb (at + width) (length s) r))
 
@@ -118,21 +117,21 @@ module _ (light : Bool) (width why not after : ℕ) (s : List ℕ) (at : ℕ) wh
     there : leb (at + width) (length s) ≡ true
     there = let r : at + width ≤ length s = omega arith in le-leb (at + width) (length s) r
 
-    pub sym_light : light ≡ true → Value at (at + width) ≡ symbol_at light width why not after s at
+    pub sym_light : light ≡ true → Ok (at, at + width) ≡ symbol_at light width why not after s at
     unfolding tried
     sym_light e = sym (symbol_got ∙ rw (there, e))
 
     -- of what was told of the part
     module _ (e : light ≡ false) where
-      pub sym_not : utf8 (part s at (at + width)) ≡ false → Refused (refusal not at) ≡ symbol_at light width why not after s at
+      pub sym_not : utf8 (part s at (at + width)) ≡ false → Err (refusal not at) ≡ symbol_at light width why not after s at
       unfolding tried
       sym_not u = sym (symbol_got ∙ rw (there, e, ap utf8 sym_part ∙ u))
 
-      pub sym_after : (utf8 (part s at (at + width)) ≡ true) × (nul_padded (part s at (at + width)) ≡ false) → Refused (refusal after at) ≡ symbol_at light width why not after s at
+      pub sym_after : (utf8 (part s at (at + width)) ≡ true) × (nul_padded (part s at (at + width)) ≡ false) → Err (refusal after at) ≡ symbol_at light width why not after s at
       unfolding tried
       sym_after (u, p) = sym (symbol_got ∙ rw (there, e, ap utf8 sym_part ∙ u, ap nul_padded sym_part ∙ p))
 
-      pub sym_ok : (utf8 (part s at (at + width)) ≡ true) × (nul_padded (part s at (at + width)) ≡ true) → Value at (at + width) ≡ symbol_at light width why not after s at
+      pub sym_ok : (utf8 (part s at (at + width)) ≡ true) × (nul_padded (part s at (at + width)) ≡ true) → Ok (at, at + width) ≡ symbol_at light width why not after s at
       unfolding tried
       sym_ok (u, p) = sym (symbol_got ∙ rw (there, e, ap utf8 sym_part ∙ u, ap nul_padded sym_part ∙ p))
 
@@ -141,13 +140,17 @@ module _ (light : Bool) (width kind base m n : ℕ) (s : List ℕ) (at : ℕ) wh
   unfolding symbols_at
   symbols-end h = rows_end (symbol light width 31 32 41) (list_row kind) (list_rows kind) (λ _. refl) (λ x xs _. refl) base s m n at h
 
-  pub symbols-row : {v p : ℕ} → 0 < n → symbol_at light width 31 32 41 s at ≡ Value v p → symbols_at light width kind base m n s at ≡ row (row6 kind (base + at) (trimmed_len (part s at p)) 0 0 m) (symbols_at light width kind base (m + 1) (n - 1) s p)
+  pub symbols-row : {v p : ℕ} → 0 < n → symbol_at light width 31 32 41 s at ≡ Ok (v, p) → symbols_at light width kind base m n s at ≡ row (row6 kind (base + at) (trimmed_len (part s at p)) 0 0 m) (symbols_at light width kind base (m + 1) (n - 1) s p)
   unfolding symbols_at
   symbols-row {v} {p} h e =
       rows_row (symbol light width 31 32 41) (list_row kind) (list_rows kind) (λ _. refl) (λ x xs _. refl) base s m n at h (symbol-is light width 31 32 41 s at base ∙ ap (symbol_of light width 31 32 41 s at base) e)
       ∙ ap (λ u. row (row6 kind (base + at) (trimmed_len u) 0 0 m) (said (λ xs. list_rows kind xs (m + 1)) (times_parse (symbol light width 31 32 41) (n - 1) base s p))) (symbol-part light width 31 32 41 s at e)
 
-  pub symbols_no : {k : Refusal} → 0 < n → symbol_at light width 31 32 41 s at ≡ Refused k → symbols_at light width kind base m n s at ≡ refuse k
+  -- the same, where `left` follow
+  pub symbols-next : {v p left : ℕ} → suc left ≡ n → symbol_at light width 31 32 41 s at ≡ Ok (v, p) → symbols_at light width kind base m n s at ≡ row (row6 kind (base + at) (trimmed_len (part s at p)) 0 0 m) (symbols_at light width kind base (m + 1) left s p)
+  symbols-next {p = p} h e = symbols-row (omega arith) e ∙ ap (λ (j : ℕ). row (row6 kind (base + at) (trimmed_len (part s at p)) 0 0 m) (symbols_at light width kind base (m + 1) j s p)) (omega arith)
+
+  pub symbols_no : {k : Refusal} → 0 < n → symbol_at light width 31 32 41 s at ≡ Err k → symbols_at light width kind base m n s at ≡ refuse k
   unfolding symbols_at
   symbols_no h e = rows-no (symbol light width 31 32 41) (list_row kind) (list_rows kind) (λ _. refl) (λ x xs _. refl) base s m n at h (symbol-is light width 31 32 41 s at base ∙ ap (symbol_of light width 31 32 41 s at base) e)
 
@@ -186,12 +189,12 @@ module _ (width kind base : ℕ) (s : List ℕ) where
 
       go : (g : Got) → symbol_at true width 31 32 41 s at ≡ g → symbols_at false width kind base (m + 1) (suc n - 1) s (at + width) ≡ symbols_at true width kind base (m + 1) (suc n - 1) s (at + width)
           → symbols_at false width kind base m (suc n) s at ≡ symbols_at true width kind base m (suc n) s at
-      go (Value v p) e more =
+      go (Ok (v, p)) e more =
           let place = sym (symbol-place true width 31 32 41 s at e) in
           symbols-row false width kind base m (suc n) s at (omega arith) (first ∙ e)
           ∙ ap (row (row6 kind (base + at) (trimmed_len (part s at p)) 0 0 m)) (rw place at more)
           ∙ sym (symbols-row true width kind base m (suc n) s at (omega arith) e)
-      go (Refused k) e more = symbols_no false width kind base m (suc n) s at (omega arith) (first ∙ e) ∙ sym (symbols_no true width kind base m (suc n) s at (omega arith) e)
+      go (Err k) e more = symbols_no false width kind base m (suc n) s at (omega arith) (first ∙ e) ∙ sym (symbols_no true width kind base m (suc n) s at (omega arith) e)
 
   -- the bytes of n symbols, where these can be there
   module _ (m n at : ℕ) (i : at ≤ length s) (h : can_be n (length s - at) width ≡ true) where
@@ -216,15 +219,15 @@ module _ (width kind base : ℕ) (s : List ℕ) where
     easy_same false false e = refl
 
 module _ (light : Bool) (width kind base m : ℕ) (s : List ℕ) (at : ℕ) where
-  pub list-no : {k : Refusal} → u32_at 30 s at ≡ Refused k → list_at light width kind base m s at ≡ refuse k
+  pub list-no : {k : Refusal} → u32_at 30 s at ≡ Err k → list_at light width kind base m s at ≡ refuse k
   unfolding list_at limited
   list-no e = rw (parse-list (lax light utf8) (lax light nul_padded) (lax light is_date) width base s at, num-is 30 4 s at base, e)
 
-  pub list_31 : {count p : ℕ} → u32_at 30 s at ≡ Value count p → can_be count (length s - p) width ≡ false → list_at light width kind base m s at ≡ refuse (refusal 31 at)
+  pub list_31 : {count p : ℕ} → u32_at 30 s at ≡ Ok (count, p) → can_be count (length s - p) width ≡ false → list_at light width kind base m s at ≡ refuse (refusal 31 at)
   unfolding can_be list_at limited
   list_31 e f = rw (parse-list (lax light utf8) (lax light nul_padded) (lax light is_date) width base s at, num-is 30 4 s at base, e, f)
 
-  pub list-ok : {count p : ℕ} → u32_at 30 s at ≡ Value count p → can_be count (length s - p) width ≡ true → list_at light width kind base m s at ≡ symbols_at light width kind base m count s p
+  pub list-ok : {count p : ℕ} → u32_at 30 s at ≡ Ok (count, p) → can_be count (length s - p) width ≡ true → list_at light width kind base m s at ≡ symbols_at light width kind base m count s p
   unfolding can_be list_at symbols_at limited
   list-ok e f = rw (parse-list (lax light utf8) (lax light nul_padded) (lax light is_date) width base s at, num-is 30 4 s at base, e, f)
 
@@ -237,48 +240,48 @@ count-wide count room (suc w) b h = omega arith
 
 -- a number, tested
 dated : Bool → Refusal → Got → Got
-dated light k g = got_on g λ v p. cond (lax light is_date v) (Value v p) (Refused k)
+dated light k g = got_on g λ v p. cond (lax light is_date v) (Ok (v, p)) (Err k)
 
 date_got : (light : Bool) (why : ℕ) (s : List ℕ) (at : ℕ) → dated light (refusal why at) (num_at why 4 s at) ≡ date_at light why s at
 unfolding date_at dated checked
 date_got light why s at = rw (parse-date (lax light utf8) (lax light nul_padded) (lax light is_date) 0 0 s at why, num-is why 4 s at 0) (go (num_at why 4 s at))
   where
-    test : (v p : ℕ) (b : Bool) → cond b (Value v p) (Refused (refusal why at)) ≡ got_of (λ v. v) (need b why at >>= λ _ _. ok v p)
+    test : (v p : ℕ) (b : Bool) → cond b (Ok (v, p)) (Err (refusal why at)) ≡ got_of (λ v. v) (need b why at >>= λ _ _. ok v p)
     test v p true = refl
     test v p false = refl
 
-    go : (g : Got) → (got_on g λ v p. cond (lax light is_date v) (Value v p) (Refused (refusal why at))) ≡ got_of (λ v. v) (num_of g >>= λ x j. need (lax light is_date x) why at >>= λ _ _. ok x j)
-    go (Value v p) = test v p (lax light is_date v)
-    go (Refused k) = refl
+    go : (g : Got) → (got_on g λ v p. cond (lax light is_date v) (Ok (v, p)) (Err (refusal why at))) ≡ got_of (λ v. v) (num_of g >>= λ x j. need (lax light is_date x) why at >>= λ _ _. ok x j)
+    go (Ok (v, p)) = test v p (lax light is_date v)
+    go (Err k) = refl
 
 module _ (light : Bool) (why : ℕ) (s : List ℕ) (at : ℕ) where
-  pub date-ok : {v p : ℕ} → num_at why 4 s at ≡ Value v p → true ≡ lax light is_date v → Value v p ≡ date_at light why s at
+  pub date-ok : {v p : ℕ} → num_at why 4 s at ≡ Ok (v, p) → true ≡ lax light is_date v → Ok (v, p) ≡ date_at light why s at
   unfolding dated
-  date-ok {v} {p} e d = sym (ap (λ b. cond b (Value v p) (Refused (refusal why at))) (sym d)) ∙ ap (dated light (refusal why at)) (sym e) ∙ date_got light why s at
+  date-ok {v} {p} e d = sym (ap (λ b. cond b (Ok (v, p)) (Err (refusal why at))) (sym d)) ∙ ap (dated light (refusal why at)) (sym e) ∙ date_got light why s at
 
-  pub date-bad : {v p : ℕ} → num_at why 4 s at ≡ Value v p → false ≡ lax light is_date v → Refused (refusal why at) ≡ date_at light why s at
+  pub date-bad : {v p : ℕ} → num_at why 4 s at ≡ Ok (v, p) → false ≡ lax light is_date v → Err (refusal why at) ≡ date_at light why s at
   unfolding dated
-  date-bad {v} {p} e d = sym (ap (λ b. cond b (Value v p) (Refused (refusal why at))) (sym d)) ∙ ap (dated light (refusal why at)) (sym e) ∙ date_got light why s at
+  date-bad {v} {p} e d = sym (ap (λ b. cond b (Ok (v, p)) (Err (refusal why at))) (sym d)) ∙ ap (dated light (refusal why at)) (sym e) ∙ date_got light why s at
 
-  pub date-cut : {k : Refusal} → num_at why 4 s at ≡ Refused k → Refused k ≡ date_at light why s at
+  pub date-cut : {k : Refusal} → num_at why 4 s at ≡ Err k → Err k ≡ date_at light why s at
   unfolding dated
   date-cut e = ap (dated light (refusal why at)) (sym e) ∙ date_got light why s at
 
 -- what is read as a date passes the test
 abbrev passes : Bool → Got → Bool
-passes light (Value v p) = lax light is_date v
-passes light (Refused k) = true
+passes light (Ok (v, p)) = lax light is_date v
+passes light (Err k) = true
 
 dated-passes : (light : Bool) (k : Refusal) (g : Got) → passes light (dated light k g) ≡ true
 unfolding dated
-dated-passes light k (Value v p) = go (lax light is_date v) refl
+dated-passes light k (Ok (v, p)) = go (lax light is_date v) refl
   where
-    go : (b : Bool) → lax light is_date v ≡ b → passes light (cond b (Value v p) (Refused k)) ≡ true
+    go : (b : Bool) → lax light is_date v ≡ b → passes light (cond b (Ok (v, p)) (Err k)) ≡ true
     go true e = e
     go false e = refl
-dated-passes light k (Refused j) = refl
+dated-passes light k (Err j) = refl
 
-pub date-passes : (light : Bool) (why : ℕ) (s : List ℕ) (at : ℕ) {v p : ℕ} → date_at light why s at ≡ Value v p → lax light is_date v ≡ true
+pub date-passes : (light : Bool) (why : ℕ) (s : List ℕ) (at : ℕ) {v p : ℕ} → date_at light why s at ≡ Ok (v, p) → lax light is_date v ≡ true
 date-passes light why s at e = sym (ap (passes light) (date_got light why s at ∙ e)) ∙ dated-passes light (refusal why at) (num_at why 4 s at)
 
 -- 1 January of the year 0 does, whatever is tested
@@ -299,23 +302,23 @@ date-is light width why base s at = rw (parse-date (lax light utf8) (lax light n
     test v p false = refl
 
     go : (g : Got) → (num_of g >>= λ x j. need (lax light is_date x) why at >>= λ _ _. ok x j) ≡ num_of (got_of (λ v. v) (num_of g >>= λ x j. need (lax light is_date x) why at >>= λ _ _. ok x j))
-    go (Value v p) = test v p (lax light is_date v)
-    go (Refused k) = refl
+    go (Ok (v, p)) = test v p (lax light is_date v)
+    go (Err k) = refl
 
 module _ (light : Bool) (width base : ℕ) (s : List ℕ) (at : ℕ) where
-  interval_no1 : {k : Refusal} → date_at light 38 s at ≡ Refused k → (interval light width).parse base s at ≡ refuse k
+  interval_no1 : {k : Refusal} → date_at light 38 s at ≡ Err k → (interval light width).parse base s at ≡ refuse k
   unfolding named ◌then◌
   interval_no1 e = rw (parse-interval (lax light utf8) (lax light nul_padded) (lax light is_date) width base s at, date-is light width 38 base s at, e)
 
-  interval_no2 : {a q : ℕ} {k : Refusal} → date_at light 38 s at ≡ Value a q → date_at light 39 s q ≡ Refused k → (interval light width).parse base s at ≡ refuse k
+  interval_no2 : {a q : ℕ} {k : Refusal} → date_at light 38 s at ≡ Ok (a, q) → date_at light 39 s q ≡ Err k → (interval light width).parse base s at ≡ refuse k
   unfolding named ◌then◌
   interval_no2 {a} {q} e f = rw (parse-interval (lax light utf8) (lax light nul_padded) (lax light is_date) width base s at, date-is light width 38 base s at, e, date-is light width 39 base s q, f)
 
-  interval_no3 : {a q b r : ℕ} {k : Refusal} → date_at light 38 s at ≡ Value a q → date_at light 39 s q ≡ Value b r → symbol_at light width 37 40 43 s r ≡ Refused k → (interval light width).parse base s at ≡ refuse k
+  interval_no3 : {a q b r : ℕ} {k : Refusal} → date_at light 38 s at ≡ Ok (a, q) → date_at light 39 s q ≡ Ok (b, r) → symbol_at light width 37 40 43 s r ≡ Err k → (interval light width).parse base s at ≡ refuse k
   unfolding named ◌then◌
   interval_no3 {a} {q} {b} {r} e f g = rw (parse-interval (lax light utf8) (lax light nul_padded) (lax light is_date) width base s at, date-is light width 38 base s at, e, date-is light width 39 base s q, f, symbol-is light width 37 40 43 s r base, g)
 
-  interval-ok : (owner : ℕ) {a q b r v p : ℕ} → date_at light 38 s at ≡ Value a q → date_at light 39 s q ≡ Value b r → symbol_at light width 37 40 43 s r ≡ Value v p
+  interval-ok : (owner : ℕ) {a q b r v p : ℕ} → date_at light 38 s at ≡ Ok (a, q) → date_at light 39 s q ≡ Ok (b, r) → symbol_at light width 37 40 43 s r ≡ Ok (v, p)
       → (x : Interval) × ((interval light width).parse base s at ≡ ok x p) × (interval_row owner x ≡ row6 4 (base + r) (trimmed_len (part s r p)) (day_of a) (day_of b) owner)
   unfolding named ◌then◌
   interval-ok owner {a} {q} {b} {r} {v} {p} e f g = (
@@ -329,24 +332,30 @@ module _ (light : Bool) (width base owner n : ℕ) (s : List ℕ) (at : ℕ) whe
   unfolding intervals_at
   intervals-end h = items_end (interval light width) (interval_row owner) base s n at h
 
-  pub intervals_no1 : {k : Refusal} → 0 < n → date_at light 38 s at ≡ Refused k → intervals_at light width base owner n s at ≡ refuse k
+  pub intervals_no1 : {k : Refusal} → 0 < n → date_at light 38 s at ≡ Err k → intervals_at light width base owner n s at ≡ refuse k
   unfolding intervals_at
   intervals_no1 h e = items_no (interval light width) (interval_row owner) base s n at h (interval_no1 light width base s at e)
 
-  pub intervals_no2 : {a q : ℕ} {k : Refusal} → 0 < n → date_at light 38 s at ≡ Value a q → date_at light 39 s q ≡ Refused k → intervals_at light width base owner n s at ≡ refuse k
+  pub intervals_no2 : {a q : ℕ} {k : Refusal} → 0 < n → date_at light 38 s at ≡ Ok (a, q) → date_at light 39 s q ≡ Err k → intervals_at light width base owner n s at ≡ refuse k
   unfolding intervals_at
   intervals_no2 h e f = items_no (interval light width) (interval_row owner) base s n at h (interval_no2 light width base s at e f)
 
-  pub intervals_no3 : {a q b r : ℕ} {k : Refusal} → 0 < n → date_at light 38 s at ≡ Value a q → date_at light 39 s q ≡ Value b r → symbol_at light width 37 40 43 s r ≡ Refused k → intervals_at light width base owner n s at ≡ refuse k
+  pub intervals_no3 : {a q b r : ℕ} {k : Refusal} → 0 < n → date_at light 38 s at ≡ Ok (a, q) → date_at light 39 s q ≡ Ok (b, r) → symbol_at light width 37 40 43 s r ≡ Err k → intervals_at light width base owner n s at ≡ refuse k
   unfolding intervals_at
   intervals_no3 h e f g = items_no (interval light width) (interval_row owner) base s n at h (interval_no3 light width base s at e f g)
 
-  pub intervals-row : {a q b r v p : ℕ} → 0 < n → date_at light 38 s at ≡ Value a q → date_at light 39 s q ≡ Value b r → symbol_at light width 37 40 43 s r ≡ Value v p
+  pub intervals-row : {a q b r v p : ℕ} → 0 < n → date_at light 38 s at ≡ Ok (a, q) → date_at light 39 s q ≡ Ok (b, r) → symbol_at light width 37 40 43 s r ≡ Ok (v, p)
       → intervals_at light width base owner n s at ≡ row (row6 4 (base + r) (trimmed_len (part s r p)) (day_of a) (day_of b) owner) (intervals_at light width base owner (n - 1) s p)
   unfolding intervals_at
   intervals-row {p = p} h e f g =
       let (x, e1, e2) = interval-ok light width base s at owner e f g in
       items_row (interval light width) (interval_row owner) base s n at h e1 ∙ ap (λ v. row v (said (map (interval_row owner)) (times_parse (interval light width) (n - 1) base s p))) e2
+
+  -- the same, where `left` follow
+  pub intervals-next : {a q b r v p left : ℕ} → suc left ≡ n → date_at light 38 s at ≡ Ok (a, q) → date_at light 39 s q ≡ Ok (b, r) → symbol_at light width 37 40 43 s r ≡ Ok (v, p)
+      → intervals_at light width base owner n s at ≡ row (row6 4 (base + r) (trimmed_len (part s r p)) (day_of a) (day_of b) owner) (intervals_at light width base owner left s p)
+  intervals-next {a = a} {b = b} {r = r} {p = p} h e f g =
+      intervals-row (omega arith) e f g ∙ ap (λ (j : ℕ). row (row6 4 (base + r) (trimmed_len (part s r p)) (day_of a) (day_of b) owner) (intervals_at light width base owner j s p)) (omega arith)
 
 -- ---- a mapping
 
@@ -373,14 +382,14 @@ module _ (light : Bool) (width base m : ℕ) (s : List ℕ) (at : ℕ) where
       second : (x : Symbol) (len p : ℕ) → x.start ≡ base + at → trimmed_len x.text ≡ len → (g : Got)
           → said (λ x. mapping_rows x m) ((◌>>=◌ {B = Symbol × List Interval} (num_of g >>= λ n j. need (leb n ((length s - j) / (width + 8))) 37 p >>= λ _ _. times_parse (interval light width) n base s j) λ y k. ok (x, y) k) >>= λ z j. ok (to_mapping z) j)
           ≡ on_got g (λ count q. cond (can_be count (length s - q) (width + 8)) (row (row6 3 (base + at) len count 0 m) (said (map (interval_row m)) (times_parse (interval light width) count base s q))) (refuse (refusal 37 p)))
-      second x len p e l (Value count q) = last x len p e l count q (leb count ((length s - q) / (width + 8)))
-      second x len p e l (Refused k) = refl
+      second x len p e l (Ok (count, q)) = last x len p e l count q (leb count ((length s - q) / (width + 8)))
+      second x len p e l (Err k) = refl
 
       first : (g : Got) → symbol_at light width 35 36 42 s at ≡ g
           → said (λ x. mapping_rows x m) ((◌>>=◌ {B = Symbol × List Interval} (symbol_of light width 35 36 42 s at base g) λ x i. ((num 35 4).parse base s i >>= λ n j. need (leb n ((length s - j) / (width + 8))) 37 i >>= λ _ _. times_parse (interval light width) n base s j) >>= λ y k. ok (x, y) k) >>= λ z j. ok (to_mapping z) j)
           ≡ (on_got g λ _ p. on_got (u32_at 35 s p) λ count q. cond (can_be count (length s - q) (width + 8)) (row (row6 3 (base + at) (trimmed_len (part s at p)) count 0 m) (said (map (interval_row m)) (times_parse (interval light width) count base s q))) (refuse (refusal 37 p)))
-      first (Value v p) e = rw (num-is 35 4 s p base) (second (record { start = base + at; text = take width (drop at s) }) (trimmed_len (part s at p)) p refl (ap trimmed_len (symbol-part light width 35 36 42 s at e)) (u32_at 35 s p))
-      first (Refused k) e = refl
+      first (Ok (v, p)) e = rw (num-is 35 4 s p base) (second (record { start = base + at; text = take width (drop at s) }) (trimmed_len (part s at p)) p refl (ap trimmed_len (symbol-part light width 35 36 42 s at e)) (u32_at 35 s p))
+      first (Err k) e = refl
 
 -- ---- mappings
 
@@ -389,19 +398,23 @@ module _ (light : Bool) (width base m : ℕ) (s : List ℕ) (at : ℕ) where
   unfolding mappings_at mapping_at
   mappings-run n h = each-run (mapping light width) mapping_rows base s m n at h
 
+  -- the same, where `left` follow
+  pub mappings-next : {left : ℕ} (n : ℕ) → suc left ≡ n → mappings_at light width base m n s at ≡ seq_from m (mapping_at light width base m s at) (λ k p. mappings_at light width base k left s p)
+  mappings-next n h = mappings-run n (omega arith) ∙ ap (λ (j : ℕ). seq_from m (mapping_at light width base m s at) (λ k p. mappings_at light width base k j s p)) (omega arith)
+
   pub mappings-end : (n : ℕ) → n ≤ 0 → mappings_at light width base m n s at ≡ ok [] at
   unfolding mappings_at
   mappings-end n h = each-end (mapping light width) mapping_rows base s m n at h
 
-  pub mapped-no : {k : Refusal} → u32_at 33 s at ≡ Refused k → mapped_at light width base m s at ≡ refuse k
+  pub mapped-no : {k : Refusal} → u32_at 33 s at ≡ Err k → mapped_at light width base m s at ≡ refuse k
   unfolding mapped_at limited
   mapped-no e = rw (num-is 33 4 s at base, e)
 
-  pub mapped_34 : {count p : ℕ} → u32_at 33 s at ≡ Value count p → can_be count (length s - p) (width + 4) ≡ false → mapped_at light width base m s at ≡ refuse (refusal 34 at)
+  pub mapped_34 : {count p : ℕ} → u32_at 33 s at ≡ Ok (count, p) → can_be count (length s - p) (width + 4) ≡ false → mapped_at light width base m s at ≡ refuse (refusal 34 at)
   unfolding can_be mapped_at limited
   mapped_34 e f = rw (num-is 33 4 s at base, e, f)
 
-  pub mapped-ok : {count p : ℕ} → u32_at 33 s at ≡ Value count p → can_be count (length s - p) (width + 4) ≡ true → mapped_at light width base m s at ≡ mappings_at light width base m count s p
+  pub mapped-ok : {count p : ℕ} → u32_at 33 s at ≡ Ok (count, p) → can_be count (length s - p) (width + 4) ≡ true → mapped_at light width base m s at ≡ mappings_at light width base m count s p
   unfolding can_be mapped_at mappings_at limited
   mapped-ok e f = rw (num-is 33 4 s at base, e, f)
 

@@ -10,8 +10,7 @@ use Rattle.symbology_format.specs.Symbology
 use Rattle.symbology_format.specs.Symbology.{Symbol, Interval, Mapping}
 use Rattle.symbology_format.specs.SymbologyRows.{list_rows, interval_row, mapping_rows, symbology_rows}
 use Rattle.table.specs.Table.{Out, said, each_from}
-use Rattle.numbers.specs.Numbers.{got_of, num_at}
-use Rattle.numbers.specs.declared.Got.{Got}
+use Rattle.numbers.specs.Numbers.{got_of, num_at, Got}
 
 -- a count; why where it is missing
 abbrev pub u32_at : ℕ → List ℕ → ℕ → Got

@@ -1,5 +1,5 @@
 -- Which numbers a symbology of a block gives, and where. Assumes nothing.
-use Rattle.std.specs.Prelude.{ℕ, ◌+◌, ◌≡◌, Bool, List, ◌∷◌, leb}
+use Rattle.std.specs.Prelude.{Result, Err, ℕ, ◌+◌, ◌≡◌, Bool, List, ◌∷◌, leb}
 use Rattle.std.proofs.Common.{zero-le}
 use Rattle.std.proofs.Math.Path.{refl}
 use Rattle.std.proofs.Math.ListN.{length}
@@ -16,8 +16,7 @@ use Rattle.symbology_format.specs.Contents.{contents_numbers, symbology-numbers}
 use Rattle.symbology_rows.specs.Reader.{symbology_of}
 use Rattle.symbology_rows.specs.ReadLaws.{gave_refused}
 use Rattle.symbology_rows.specs.Answers.{RowsPromise}
-use Rattle.symbology_rows.specs.declared.RowsAnswer.{RowsAnswer}
-use Rattle.symbology_rows.specs.declared.RowsAnswer.TheVariants.{Refused}
+use Rattle.symbology_rows.specs.declared.Rows.{Rows}
 
 -- 13 for its size, else a number of its contents
 abbrev pub rows_numbers : List ℕ
@@ -40,5 +39,5 @@ module _ (width base : ℕ) (s : List ℕ) where
       (λ e. rw e (tells zero-le))
 
   -- what a reader's answer refuses with
-  pub rows-refuse : {write : Bool} {least : ℕ} {t t' : List ℕ} {r : RowsAnswer} → RowsPromise write least (symbology_of width base s) t t' r → {k : Refusal} → r ≡ Refused k → In rows_numbers k.number
+  pub rows-refuse : {write : Bool} {least : ℕ} {t t' : List ℕ} {r : Result Rows Refusal} → RowsPromise write least (symbology_of width base s) t t' r → {k : Refusal} → r ≡ Err k → In rows_numbers k.number
   rows-refuse p e = gives_is (In rows_numbers) symbology_gives (gave_refused p e).0

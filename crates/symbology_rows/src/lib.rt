@@ -11,23 +11,13 @@ ghost use Rattle.symbology_rows.specs.Answers.{found, RowsPromise};
 
 use lists::list;
 use mappings::mapped;
-use numbers::Got;
 use refusal::Refusal;
 
-// The verdict on a symbology: how many rows it has and the place after it; or the refusal.
+// A symbology that was accepted: its rows, which were written or only counted, and the place after it.
 #[derive(Clone, Copy)]
-enum Found {
-    Accepted { rows: usize, next: usize },
-    Refused(Refusal),
-}
-
-// What reading a symbology answers: its rows, which were written, and the place after it; the same where none was written; or the
-// refusal.
-#[derive(Clone, Copy)]
-pub enum RowsAnswer {
+pub enum Rows {
     Read { rows: usize, next: usize },
     Counted { rows: usize, next: usize },
-    Refused(Refusal),
 }
 
 // The rows of the symbology of this width in s, whose first byte is byte `base` of the block: 13 where that block has more than
@@ -40,62 +30,47 @@ pub fn read_rows(
     write: bool,
     least: usize,
     table: &mut [u32],
-) -> RowsAnswer
+) -> Result<Rows, Refusal>
     ensures { RowsPromise write least (symbology_of width base s.now) table.old table.new result }
 {
-    match symbology_verdict(s, base, width) {
-        Found::Accepted { rows, next } => {
-            if write {
-                if least <= next {
-                    if rows <= table.len() / 6 {
-                        symbology(s, 0, width as usize, true, base, table);
-                        return RowsAnswer::Read { rows, next };
-                    }
-                }
-            }
-            RowsAnswer::Counted { rows, next }
-        }
-        Found::Refused(why) => RowsAnswer::Refused(why),
+    let (rows, next) = symbology_verdict(s, base, width)?;
+    if write && least <= next && rows <= table.len() / 6 {
+        let _ = symbology(s, 0, width as usize, true, base, table);
+        return Ok(Rows::Read { rows, next });
     }
+    Ok(Rows::Counted { rows, next })
 }
 
-// The verdict on the symbology of this width in s, whose first byte is byte `base` of the block.
-fn symbology_verdict(s: &[u8], base: usize, width: u16) -> Found
+// The verdict on the symbology of this width in s, whose first byte is byte `base` of the block: how many rows it has, and the place
+// after it.
+fn symbology_verdict(s: &[u8], base: usize, width: u16) -> Result<(usize, usize), Refusal>
     ensures { result ≡ found (symbology_of width base s.now) }
 {
-    if s.len() > 4294967295 {
-        return Found::Refused(Refusal {
-            number: refusal::SIZE,
-            place: 0,
-        });
-    }
-    if base > 4294967295 - s.len() {
-        return Found::Refused(Refusal {
+    if s.len() > 4294967295 || base > 4294967295 - s.len() {
+        return Err(Refusal {
             number: refusal::SIZE,
             place: 0,
         });
     }
     let mut none = [0u32; 1];
-    match symbology(s, 0, width as usize, false, base, &mut none) {
-        Got::Value { value: rows, next } => Found::Accepted { rows, next },
-        Got::Refused(why) => Found::Refused(why),
-    }
+    symbology(s, 0, width as usize, false, base, &mut none)
 }
 
 // Three lists and the mappings. Where `light` holds, texts and dates are not tested.
-fn symbology(s: &[u8], at: usize, width: usize, light: bool, base: usize, table: &mut [u32]) -> Got
+fn symbology(
+    s: &[u8],
+    at: usize,
+    width: usize,
+    light: bool,
+    base: usize,
+    table: &mut [u32],
+) -> Result<(usize, usize), Refusal>
     requires room { Room base s.now at 0 }
     requires width_bound { width < 65536 }
     ensures { Ran (put_columns 6) base s.now (symbology_at light width base s.now at) 0 table.old table.new result }
 {
-    match list(s, at, 0, width, light, base, table, 0) {
-        Got::Value { value: a, next: p } => match list(s, p, 1, width, light, base, table, a) {
-            Got::Value { value: b, next: q } => match list(s, q, 2, width, light, base, table, b) {
-                Got::Value { value: c, next: r } => mapped(s, r, width, light, base, table, c),
-                Got::Refused(why) => Got::Refused(why),
-            },
-            Got::Refused(why) => Got::Refused(why),
-        },
-        Got::Refused(why) => Got::Refused(why),
-    }
+    let (a, p) = list(s, at, 0, width, light, base, table, 0)?;
+    let (b, q) = list(s, p, 1, width, light, base, table, a)?;
+    let (c, r) = list(s, q, 2, width, light, base, table, b)?;
+    mapped(s, r, width, light, base, table, c)
 }

@@ -8,8 +8,7 @@ ghost use Rattle.table.specs.Table.{put_columns, Put, Room, Ran};
 ghost use Rattle.symbology_rows.specs.Reader.{symbol_at, symbols_at, list_at, can_be};
 ghost use Rattle.symbology_format.specs.SymbologyRows.{row6};
 
-use numbers::Got;
-use padded::Padded;
+use padded::Fault;
 use refusal::Refusal;
 
 // Whether `count` items of at least `least` bytes can be in `room` bytes.
@@ -32,28 +31,30 @@ pub(crate) fn symbol_at(
     why: u32,
     not: u32,
     after: u32,
-) -> Got
+) -> Result<(usize, usize), Refusal>
     requires { at ≤ length s.now }
     ensures { (result ≡ symbol_at light width why not after s.now at) × Past (length s.now + 1) width s.now at result }
 {
     if width > numbers::left(s, at) {
-        let number = why;
-        return Got::Refused(Refusal { number, place: at });
+        return Err(Refusal {
+            number: why,
+            place: at,
+        });
     }
     let e = at + width;
-    if light {
-        return Got::Value { value: at, next: e };
-    }
     let part = &s[at..e];
-    if padded::is_padded_ascii(part) {
-        return Got::Value { value: at, next: e };
+    if light || padded::is_padded_ascii(part) {
+        return Ok((at, e));
     }
-    let number = match padded::check_padded(part) {
-        Padded::Fine => return Got::Value { value: at, next: e },
-        Padded::NotUtf8 => not,
-        Padded::AfterNul => after,
+    let fault = match padded::check_padded(part) {
+        Ok(()) => return Ok((at, e)),
+        Err(Fault::NotUtf8) => not,
+        Err(Fault::AfterNul) => after,
     };
-    Got::Refused(Refusal { number, place: at })
+    Err(Refusal {
+        number: fault,
+        place: at,
+    })
 }
 
 // Row n of the table for a symbol, where the table has it: only then are the NULs at the symbol's end looked for. The last number of
@@ -88,16 +89,14 @@ fn symbols(
     base: usize,
     table: &mut [u32],
     n: usize,
-) -> Got
+) -> Result<(usize, usize), Refusal>
     requires room { Room base s.now at n }
     requires width_bound { (width < 65536) × (count ≤ 4294967296 * width) }
     ensures { Ran (put_columns 6) base s.now (symbols_at light width kind base n count s.now at) n table.old table.new result }
 {
-    let mut todo = count;
     let mut p = at;
-    let mut k = n;
-    while 0 < todo {
-        match symbol_at(
+    for k in n..n + count {
+        let (_, next) = symbol_at(
             s,
             p,
             width,
@@ -105,28 +104,19 @@ fn symbols(
             refusal::LIST_COUNT_LARGE,
             refusal::LIST_NOT_UTF8,
             refusal::LIST_AFTER_NUL,
-        ) {
-            Got::Value { value: _, next } => {
-                let part = &s[p..next];
-                put_symbol(table, k, kind, base + p, part, 0, 0, k);
-                k += 1;
-                p = next;
-                todo -= 1;
-            }
-            Got::Refused(why) => return Got::Refused(why),
-        }
+        )?;
+        let part = &s[p..next];
+        put_symbol(table, k, kind, base + p, part, 0, 0, k);
+        p = next;
     }
-    Got::Value { value: k, next: p }
+    Ok((n + count, p))
 }
 
 // Whether symbols of this width need no test: where `light` holds, and where all are below 128 and have only NULs after a NUL.
 fn are_easy(symbols: &[u8], width: usize, light: bool) -> bool
     ensures { result ≡ lax light (each_padded width (length symbols.now / width)) symbols.now }
 {
-    if light {
-        return true;
-    }
-    padded::are_padded_ascii(symbols, width)
+    light || padded::are_padded_ascii(symbols, width)
 }
 
 // A list: its count, and as many symbols. These are judged one by one only where a look at all of them does not settle it.
@@ -139,20 +129,16 @@ pub(crate) fn list(
     base: usize,
     table: &mut [u32],
     n: usize,
-) -> Got
+) -> Result<(usize, usize), Refusal>
     requires room { Room base s.now at n }
     requires width_bound { width < 65536 }
     ensures { Ran (put_columns 6) base s.now (list_at light width kind base n s.now at) n table.old table.new result }
 {
-    match numbers::u32_at(s, at, refusal::LIST_COUNT_MISSING) {
-        Got::Value { value, next } => {
-            if can_be(value, numbers::left(s, next), width) {
-                let easy = are_easy(&s[next..next + value * width], width, light);
-                return symbols(s, next, value, kind, width, easy, base, table, n);
-            }
-            let number = refusal::LIST_COUNT_LARGE;
-            Got::Refused(Refusal { number, place: at })
-        }
-        Got::Refused(why) => Got::Refused(why),
+    let (count, next) = numbers::u32_at(s, at, refusal::LIST_COUNT_MISSING)?;
+    if !can_be(count, numbers::left(s, next), width) {
+        let number = refusal::LIST_COUNT_LARGE;
+        return Err(Refusal { number, place: at });
     }
+    let easy = are_easy(&s[next..next + count * width], width, light);
+    symbols(s, next, count, kind, width, easy, base, table, n)
 }

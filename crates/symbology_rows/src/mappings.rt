@@ -11,7 +11,6 @@ ghost use Rattle.symbology_rows.specs.Reader.{symbol_at, date_at, intervals_at, 
 ghost use Rattle.symbology_format.specs.SymbologyRows.{row6};
 
 use super::lists::{can_be, put_symbol, symbol_at};
-use numbers::Got;
 use refusal::{
     END_DATE, INTERVAL_COUNT_LARGE, MAPPING_SHORT, RAW_SYMBOL_AFTER_NUL, RAW_SYMBOL_NOT_UTF8,
     Refusal, START_DATE, SYMBOL_AFTER_NUL, SYMBOL_NOT_UTF8,
@@ -26,21 +25,17 @@ pub(crate) fn mapped(
     base: usize,
     table: &mut [u32],
     n: usize,
-) -> Got
+) -> Result<(usize, usize), Refusal>
     requires room { Room base s.now at n }
     requires width_bound { width < 65536 }
     ensures { Ran (put_columns 6) base s.now (mapped_at light width base n s.now at) n table.old table.new result }
 {
-    match numbers::u32_at(s, at, refusal::MAPPING_COUNT_MISSING) {
-        Got::Value { value, next } => {
-            if can_be(value, numbers::left(s, next), width + 4) {
-                return mappings(s, next, value, width, light, base, table, n);
-            }
-            let number = refusal::MAPPING_COUNT_LARGE;
-            Got::Refused(Refusal { number, place: at })
-        }
-        Got::Refused(why) => Got::Refused(why),
+    let (count, next) = numbers::u32_at(s, at, refusal::MAPPING_COUNT_MISSING)?;
+    if !can_be(count, numbers::left(s, next), width + 4) {
+        let number = refusal::MAPPING_COUNT_LARGE;
+        return Err(Refusal { number, place: at });
     }
+    mappings(s, next, count, width, light, base, table, n)
 }
 
 // The mappings. The months of their dates are kept, since most dates are of a few months.
@@ -53,26 +48,20 @@ fn mappings(
     base: usize,
     table: &mut [u32],
     n: usize,
-) -> Got
+) -> Result<(usize, usize), Refusal>
     requires room { Room base s.now at n }
     requires width_bound { width < 65536 }
     ensures { Ran (put_columns 6) base s.now (mappings_at light width base n count s.now at) n table.old table.new result }
 {
     let mut months = [0u64; 64];
-    let mut todo = count;
     let mut p = at;
     let mut k = n;
-    while 0 < todo {
-        match mapping(s, p, width, light, base, table, k, &mut months) {
-            Got::Value { value: m, next: q } => {
-                k = m;
-                p = q;
-                todo -= 1;
-            }
-            Got::Refused(why) => return Got::Refused(why),
-        }
+    for _ in 0..count {
+        let (m, q) = mapping(s, p, width, light, base, table, k, &mut months)?;
+        k = m;
+        p = q;
     }
-    Got::Value { value: k, next: p }
+    Ok((k, p))
 }
 
 // A mapping: its raw symbol, the count of its intervals, and these. Its row is row n, which owns itself and the intervals' rows.
@@ -85,7 +74,7 @@ fn mapping(
     table: &mut [u32],
     n: usize,
     months: &mut [u64; 64],
-) -> Got
+) -> Result<(usize, usize), Refusal>
     requires room { Room base s.now at n }
     requires width_bound { width < 65536 }
     requires right { Right months.old }
@@ -93,32 +82,21 @@ fn mapping(
 {
     if numbers::left(s, at) < width + 4 {
         let number = MAPPING_SHORT;
-        return Got::Refused(Refusal { number, place: at });
+        return Err(Refusal { number, place: at });
     }
-    match raw_symbol_at(s, at, width, light) {
-        Got::Value { value: _, next: p } => {
-            match numbers::u32_at(s, p, MAPPING_SHORT) {
-                Got::Value {
-                    value: count,
-                    next: q,
-                } => {
-                    if can_be(count, numbers::left(s, q), width + 8) {
-                        let part = &s[at..p];
-                        put_symbol(table, n, 3, base + at, part, count as u32, 0, n);
-                        return intervals(s, q, count, width, light, base, table, n, months);
-                    }
-                    let number = INTERVAL_COUNT_LARGE;
-                    Got::Refused(Refusal { number, place: p })
-                }
-                Got::Refused(why) => Got::Refused(why),
-            }
-        }
-        Got::Refused(why) => Got::Refused(why),
+    let (_, p) = raw_symbol_at(s, at, width, light)?;
+    let (count, q) = numbers::u32_at(s, p, MAPPING_SHORT)?;
+    if !can_be(count, numbers::left(s, q), width + 8) {
+        let number = INTERVAL_COUNT_LARGE;
+        return Err(Refusal { number, place: p });
     }
+    let part = &s[at..p];
+    put_symbol(table, n, 3, base + at, part, count as u32, 0, n);
+    intervals(s, q, count, width, light, base, table, n, months)
 }
 
 // The raw symbol of a mapping.
-fn raw_symbol_at(s: &[u8], at: usize, width: usize, light: bool) -> Got
+fn raw_symbol_at(s: &[u8], at: usize, width: usize, light: bool) -> Result<(usize, usize), Refusal>
     requires { at ≤ length s.now }
     ensures { (result ≡ symbol_at light width 35 36 42 s.now at) × Past (length s.now + 1) width s.now at result }
 {
@@ -145,34 +123,23 @@ fn intervals(
     table: &mut [u32],
     owner: usize,
     months: &mut [u64; 64],
-) -> Got
-    requires { Room base s.now at (owner + 1) × (width < 65536) × Right months.old }
+) -> Result<(usize, usize), Refusal>
+    requires { Room base s.now at (owner + 1) × (width < 65536) × Right months.old × (count < 4294967296) }
     ensures { Ran (put_columns 6) base s.now (intervals_at light width base owner count s.now at) (owner + 1) table.old table.new result × Right months.new }
 {
-    let mut todo = count;
     let mut last = 101;
     let mut p = at;
-    let mut k = owner + 1;
-    while 0 < todo {
-        match date_at(s, p, light, START_DATE, months, last) {
-            Got::Value { value: a, next: q } => match date_at(s, q, light, END_DATE, months, last) {
-                Got::Value { value: b, next: r } => match interval_name(s, r, width, light) {
-                    Got::Value { value: _, next: e } => {
-                        let part = &s[r..e];
-                        put_interval(table, k, owner, base + r, part, a as u32, b as u32, months);
-                        last = b;
-                        k += 1;
-                        p = e;
-                        todo -= 1;
-                    }
-                    Got::Refused(why) => return Got::Refused(why),
-                },
-                Got::Refused(why) => return Got::Refused(why),
-            },
-            Got::Refused(why) => return Got::Refused(why),
-        }
+    let first = owner + 1;
+    for k in first..first + count {
+        let (a, q) = date_at(s, p, light, START_DATE, months, last)?;
+        let (b, r) = date_at(s, q, light, END_DATE, months, last)?;
+        let (_, e) = interval_name(s, r, width, light)?;
+        let part = &s[r..e];
+        put_interval(table, k, owner, base + r, part, a as u32, b as u32, months);
+        last = b;
+        p = e;
     }
-    Got::Value { value: k, next: p }
+    Ok((first + count, p))
 }
 
 // Row n of the table for an interval of these dates, of the mapping in row `owner`, where the table has row n: only then are the
@@ -199,7 +166,7 @@ fn put_interval(
 }
 
 // The symbol of an interval.
-fn interval_name(s: &[u8], at: usize, width: usize, light: bool) -> Got
+fn interval_name(s: &[u8], at: usize, width: usize, light: bool) -> Result<(usize, usize), Refusal>
     requires { at ≤ length s.now }
     ensures { (result ≡ symbol_at light width 37 40 43 s.now at) × Past (length s.now + 1) width s.now at result }
 {
@@ -215,27 +182,24 @@ fn interval_name(s: &[u8], at: usize, width: usize, light: bool) -> Got
 }
 
 // The date at `at`; `why` at `at` where there is none. Where `light` holds, any number is one; so is `last`, a date before it.
-fn date_at(s: &[u8], at: usize, light: bool, why: u32, months: &mut [u64; 64], last: usize) -> Got
+fn date_at(
+    s: &[u8],
+    at: usize,
+    light: bool,
+    why: u32,
+    months: &mut [u64; 64],
+    last: usize,
+) -> Result<(usize, usize), Refusal>
     requires right { Right months.old }
     requires last_passed { lax light is_date last ≡ true }
     ensures { (result ≡ date_at light why s.now at) × Past 4294967296 4 s.now at result × Right months.new }
 {
-    match numbers::u32_at(s, at, why) {
-        Got::Value { value, next } => {
-            if light {
-                return Got::Value { value, next };
-            }
-            if value == last {
-                return Got::Value { value, next };
-            }
-            if dates::is_date_in(months, value as u32) {
-                return Got::Value { value, next };
-            }
-            Got::Refused(Refusal {
-                number: why,
-                place: at,
-            })
-        }
-        Got::Refused(short) => Got::Refused(short),
+    let (value, next) = numbers::u32_at(s, at, why)?;
+    if light || value == last || dates::is_date_in(months, value as u32) {
+        return Ok((value, next));
     }
+    Err(Refusal {
+        number: why,
+        place: at,
+    })
 }

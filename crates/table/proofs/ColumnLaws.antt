@@ -3,10 +3,10 @@ use Rattle.std.specs.Prelude.{ℕ, zero, suc, ◌+◌, ◌-◌, ◌*◌, ◌/◌
 use Rattle.std.proofs.Common.{mul-suc, mul_comm, mul-le-mul_right, zero-add, add-zero, le-div_iff_mul-le, ◌∙◌, subst, length-drop, take-append-drop, length-take-le, drop-cons, get_or-append-add, get_or-take, get_or-drop, take_at, drop_at}
 use native.Mathlib.Omega.{arith}
 use Rattle.std.proofs.Math.Path.{sym, ap, ap₂}
-use mathlib.Core.List.{List, [], ◌∷◌, ◌++◌, map, map-append, append_assoc, append-nil}
-use Rattle.std.proofs.Math.ListN.{length, get_or, length-append, get_or-append, get_or-map}
+use mathlib.Core.List.{List, [], ◌∷◌, ◌++◌, map-append, append_assoc, append-nil}
+use Rattle.std.proofs.Math.ListN.{length, get_or, length-append, get_or-append}
 use Rattle.std.proofs.lemmas.List.{length-map, set_at}
-use Rattle.std.proofs.Math.Seq.{drop-length, drop-append_seam}
+use Rattle.std.proofs.Math.Seq.{drop-length}
 use borrow.Author.Tests.{lt-ltb, le-ltb}
 use Rattle.table.specs.Table.{spread, put_columns, fill}
 use Rattle.table.proofs.TableLaws.{Wide}

@@ -1,13 +1,13 @@
 -- Readers of rows, put together: one after the other, in a loop, by a test. Assumes nothing.
-use Rattle.std.specs.Prelude.{ℕ, suc, ◌+◌, ◌*◌, ◌/◌, ◌≤◌, ◌<◌, ◌≡◌, refl, List, [], ◌∷◌, ◌++◌, Bool, true, false, cond, length, ltb}
+use Rattle.numbers.specs.NumberLaws.{same_got}
+use Rattle.numbers.specs.Numbers.{Got}
+use Rattle.std.specs.Prelude.{ℕ, suc, ◌+◌, ◌*◌, ◌/◌, ◌≤◌, ◌<◌, ◌≡◌, refl, List, [], ◌∷◌, ◌++◌, Bool, true, false, cond, length, ltb, Ok, Err}
 use Rattle.std.proofs.Common.{sym, ap, ◌∙◌, subst, subst₂, add-zero, arith, length-append, le-ltb, lt-ltb}
 use Rattle.std.proofs.Math.Nat.{div-zero}
 use Rattle.std.proofs.lemmas.List.Edits.{sets}
 use Rattle.refusal.specs.declared.Refusal.{Refusal}
 use Rattle.codec.specs.Codec.{ok, refuse, moved, shifted, ◌>>=◌}
 use Rattle.table.specs.Table.{Out, row, seq, seq_from, on_got, Putter, put_row, put_columns, spread, Put, fill, Fills, answer, Room, Ran, Within, stopped, refused}
-use Rattle.numbers.specs.declared.Got.{Got}
-use Rattle.numbers.specs.declared.Got.TheVariants.{Value, Refused}
 
 -- a table that does not have the row
 past-table : (w n : ℕ) (t u : List ℕ) → length t / w ≤ n → t ≡ cond (ltb n (length t / w)) u t
@@ -51,7 +51,7 @@ going o h = record { answers = refl; fills = λ t' e. e; few = h.few; inside = h
 
 -- one row, and others
 answer-row : (r : List ℕ) (o : Out) (n : ℕ) → answer n (row r o) ≡ answer (n + 1) o
-answer-row r (ok rs p) n = let e : n + suc (length rs) ≡ n + 1 + length rs = omega arith in ap (λ m. Value m p) e
+answer-row r (ok rs p) n = let e : n + suc (length rs) ≡ n + 1 + length rs = omega arith in ap (λ m. Ok (m, p)) e
 answer-row r (refuse k) n = refl
 
 fills-row : (put : Putter) (r : List ℕ) (o : Out) (n : ℕ) (t t' : List ℕ) → Fills put (put t n r) (n + 1) o t' → Fills put t n (row r o) t'
@@ -69,20 +69,20 @@ join : (put : Putter) (rs : List (List ℕ)) (n : ℕ) (t t₁ : List ℕ) → t
     → (answer n (o >>= λ qs q. ok (rs ++ qs) q) ≡ answer (n + length rs) o) × ((t' : List ℕ) → Fills put t₁ (n + length rs) o t' → Fills put t n (o >>= λ qs q. ok (rs ++ qs) q) t')
 join put rs n t t₁ g (ok qs q) =
     let e : n + length (rs ++ qs) ≡ n + length rs + length qs = omega (arith, length-append rs qs) in
-    (ap (λ m. Value m q) e, λ t' h. h ∙ ap (λ v. fill put v (n + length rs) qs) g ∙ sym (fill-append put rs qs n t))
+    (ap (λ m. Ok (m, q)) e, λ t' h. h ∙ ap (λ v. fill put v (n + length rs) qs) g ∙ sym (fill-append put rs qs n t))
 join put rs n t t₁ g (refuse k) = (refl, λ t' h. tt)
 
-seq-go : (put : Putter) (o : Out) (f : ℕ → ℕ → Out) (n : ℕ) (t t₁ : List ℕ) {m p : ℕ} → answer n o ≡ Value m p → Fills put t n o t₁
+seq-go : (put : Putter) (o : Out) (f : ℕ → ℕ → Out) (n : ℕ) (t t₁ : List ℕ) {m p : ℕ} → answer n o ≡ Ok (m, p) → Fills put t n o t₁
     → (answer n (seq_from n o f) ≡ answer m (f m p)) × ((t' : List ℕ) → Fills put t₁ m (f m p) t' → Fills put t n (seq_from n o f) t')
 unfolding seq_from
 seq-go put (ok rs q) f n t t₁ {m} {p} e g =
-    let em : n + length rs ≡ m = cc in
-    let ep : q ≡ p = cc in
+    let em : n + length rs ≡ m = (same_got e).0 in
+    let ep : q ≡ p = (same_got e).1 in
     subst₂ (λ (m p : ℕ). (answer n (seq_from n (ok rs q) f) ≡ answer m (f m p)) × ((t' : List ℕ) → Fills put t₁ m (f m p) t' → Fills put t n (seq_from n (ok rs q) f) t')) em ep
     (join put rs n t t₁ g (f (n + length rs) q))
 seq-go put (refuse k) f n t t₁ e g = absurd (let z : ◌≡◌ {A = ℕ} 0 1 = cc in omega arith)
 
-seq-stop : (put : Putter) (o : Out) (f : ℕ → ℕ → Out) (n : ℕ) (t t' : List ℕ) {k : Refusal} → answer n o ≡ Refused k → (answer n (seq_from n o f) ≡ Refused k) × Fills put t n (seq_from n o f) t'
+seq-stop : (put : Putter) (o : Out) (f : ℕ → ℕ → Out) (n : ℕ) (t t' : List ℕ) {k : Refusal} → answer n o ≡ Err k → (answer n (seq_from n o f) ≡ Err k) × Fills put t n (seq_from n o f) t'
 unfolding seq_from
 seq-stop put (ok rs q) f n t t' e = absurd (let z : ◌≡◌ {A = ℕ} 0 1 = cc in omega arith)
 seq-stop put (refuse j) f n t t' e = (e, tt)
@@ -93,45 +93,45 @@ unfolding seq seq_from
 seq-from n o f = refl
 
 module _ {put : Putter} {base n : ℕ} {s : List ℕ} {o : Out} {t t₁ : List ℕ} {r₁ : Got} (g : Ran put base s o n t t₁ r₁) where
-  pub ran_from : {base' m p : ℕ} {s' t₂ : List ℕ} {r₂ : Got} (f : ℕ → ℕ → Out) → r₁ ≡ Value m p → Ran put base' s' (f m p) m t₁ t₂ r₂ → Ran put base' s' (seq_from n o f) n t t₂ r₂
+  pub ran_from : {base' m p : ℕ} {s' t₂ : List ℕ} {r₂ : Got} (f : ℕ → ℕ → Out) → r₁ ≡ Ok (m, p) → Ran put base' s' (f m p) m t₁ t₂ r₂ → Ran put base' s' (seq_from n o f) n t t₂ r₂
   ran_from f e h =
       let q = seq-go put o f n t t₁ (sym g.answered ∙ e) g.filled in
       record { answered = h.answered ∙ sym q.0; filled = q.1 _ h.filled; within = h.within }
 
-  pub ran_seq : {base' m p : ℕ} {s' t₂ : List ℕ} {r₂ : Got} (f : ℕ → Out) → r₁ ≡ Value m p → Ran put base' s' (f p) m t₁ t₂ r₂ → Ran put base' s' (seq o f) n t t₂ r₂
+  pub ran_seq : {base' m p : ℕ} {s' t₂ : List ℕ} {r₂ : Got} (f : ℕ → Out) → r₁ ≡ Ok (m, p) → Ran put base' s' (f p) m t₁ t₂ r₂ → Ran put base' s' (seq o f) n t t₂ r₂
   ran_seq f e h = rw (seq-from n o f) (ran_from (λ _ p. f p) e h)
 
-  pub ran_from-stop : {base' : ℕ} {k : Refusal} {s' : List ℕ} (f : ℕ → ℕ → Out) → r₁ ≡ Refused k → Ran put base' s' (seq_from n o f) n t t₁ (Refused k)
+  pub ran_from-stop : {base' : ℕ} {k : Refusal} {s' : List ℕ} (f : ℕ → ℕ → Out) → r₁ ≡ Err k → Ran put base' s' (seq_from n o f) n t t₁ (Err k)
   ran_from-stop f e =
       let q = seq-stop put o f n t t₁ (sym g.answered ∙ e) in
       record { answered = sym q.0; filled = q.1; within = refused }
 
-  pub ran_stop : {base' : ℕ} {k : Refusal} {s' : List ℕ} (f : ℕ → Out) → r₁ ≡ Refused k → Ran put base' s' (seq o f) n t t₁ (Refused k)
+  pub ran_stop : {base' : ℕ} {k : Refusal} {s' : List ℕ} (f : ℕ → Out) → r₁ ≡ Err k → Ran put base' s' (seq o f) n t t₁ (Err k)
   ran_stop f e = rw (seq-from n o f) (ran_from-stop (λ _ p. f p) e)
 
-  pub ran_at : {m p : ℕ} → r₁ ≡ Value m p → (m ≤ base + p) × (p ≤ length s)
+  pub ran_at : {m p : ℕ} → r₁ ≡ Ok (m, p) → (m ≤ base + p) × (p ≤ length s)
   ran_at {m} {p} e = let w = g.within in go (rw e at w)
     where
-      go : Within base s (Value m p) → (m ≤ base + p) × (p ≤ length s)
+      go : Within base s (Ok (m, p)) → (m ≤ base + p) × (p ≤ length s)
       go (stopped x y) = (x, y)
 
   -- what refuses is the reader's refusal
-  pub ran_refused : {k : Refusal} → r₁ ≡ Refused k → o ≡ refuse k
+  pub ran_refused : {k : Refusal} → r₁ ≡ Err k → o ≡ refuse k
   ran_refused {k} e = go o (sym g.answered ∙ e)
     where
-      go : (o : Out) → answer n o ≡ Refused k → o ≡ refuse k
+      go : (o : Out) → answer n o ≡ Err k → o ≡ refuse k
       go (ok rs p) q = absurd (let z : ◌≡◌ {A = ℕ} 0 1 = cc in omega arith)
       go (refuse j) q = let x : j ≡ k = cc in ap refuse x
 
   -- a list of its own that begins at place b here: what is read, and what is refused
-  pub ran_shifted : (b : ℕ) {m p : ℕ} → r₁ ≡ Value m p → Ran put base s (shifted b o) n t t₁ r₁
+  pub ran_shifted : (b : ℕ) {m p : ℕ} → r₁ ≡ Ok (m, p) → Ran put base s (shifted b o) n t t₁ r₁
   ran_shifted b {m} {p} e = go o g (sym g.answered ∙ e)
     where
-      go : (o : Out) → Ran put base s o n t t₁ r₁ → answer n o ≡ Value m p → Ran put base s (shifted b o) n t t₁ r₁
+      go : (o : Out) → Ran put base s o n t t₁ r₁ → answer n o ≡ Ok (m, p) → Ran put base s (shifted b o) n t t₁ r₁
       go (ok rs p) h q = h
       go (refuse j) h q = absurd (let z : ◌≡◌ {A = ℕ} 0 1 = cc in omega arith)
 
-  pub ran_moved : (b : ℕ) {k : Refusal} → r₁ ≡ Refused k → Ran put base s (shifted b o) n t t₁ (Refused (moved b k))
+  pub ran_moved : (b : ℕ) {k : Refusal} → r₁ ≡ Err k → Ran put base s (shifted b o) n t t₁ (Err (moved b k))
   ran_moved b e = rw (ran_refused e) (record { answered = refl; filled = tt; within = refused })
 
 -- a number that was read, a row, a refusal, another name of the same
@@ -145,7 +145,7 @@ module _ {put : Putter} {base n : ℕ} {s t t₁ : List ℕ} {r : Got} where
   pub ran_else : (o o' : Out) {b : Bool} → b ≡ false → Ran put base s o' n t t₁ r → Ran put base s (cond b o o') n t t₁ r
   ran_else o o' e g = rw e g
 
-  pub ran_on : {d : Got} {v p : ℕ} (f : ℕ → ℕ → Out) → d ≡ Value v p → Ran put base s (f v p) n t t₁ r → Ran put base s (on_got d f) n t t₁ r
+  pub ran_on : {d : Got} {v p : ℕ} (f : ℕ → ℕ → Out) → d ≡ Ok (v, p) → Ran put base s (f v p) n t t₁ r → Ran put base s (on_got d f) n t t₁ r
   ran_on f e g = rw e g
 
   pub ran_row : {v t₂ : List ℕ} {o : Out} → Put put t n v t₂ → Ran put base s o (n + 1) t₂ t₁ r → Ran put base s (row v o) n t t₁ r
@@ -156,10 +156,10 @@ module _ {put : Putter} {base n : ℕ} {s t t₁ : List ℕ} {r : Got} where
         within = g.within;
       }
 
-pub ran_no : {put : Putter} {base n : ℕ} {k : Refusal} {s : List ℕ} {o : Out} {t t' : List ℕ} → o ≡ refuse k → Ran put base s o n t t' (Refused k)
+pub ran_no : {put : Putter} {base n : ℕ} {k : Refusal} {s : List ℕ} {o : Out} {t t' : List ℕ} → o ≡ refuse k → Ran put base s o n t t' (Err k)
 ran_no e = rw e (record { answered = refl; filled = tt; within = refused })
 
-pub ran_on-no : {put : Putter} {base n : ℕ} {k : Refusal} {s t : List ℕ} {d : Got} (f : ℕ → ℕ → Out) → d ≡ Refused k → Ran put base s (on_got d f) n t t (Refused k)
+pub ran_on-no : {put : Putter} {base n : ℕ} {k : Refusal} {s t : List ℕ} {d : Got} (f : ℕ → ℕ → Out) → d ≡ Err k → Ran put base s (on_got d f) n t t (Err k)
 ran_on-no f e = ran_no (rw e)
 
 module _ {put : Putter} {base n₀ p n : ℕ} {s : List ℕ} {o₀ o : Out} {t₀ t : List ℕ} (g : Going put base s o₀ n₀ t₀ o p n t) where
@@ -175,7 +175,7 @@ module _ {put : Putter} {base n₀ p n : ℕ} {s : List ℕ} {o₀ o : Out} {t�
       }
 
   -- the rows of a reader within
-  pub going-from : {base' m q p' : ℕ} {s' t' : List ℕ} {o' : Out} {r : Got} (f : ℕ → ℕ → Out) → o ≡ seq_from n o' f → Ran put base' s' o' n t t' r → r ≡ Value m q → length t' ≡ length t → (m ≤ base + p') × (p' ≤ length s) → Going put base s o₀ n₀ t₀ (f m q) p' m t'
+  pub going-from : {base' m q p' : ℕ} {s' t' : List ℕ} {o' : Out} {r : Got} (f : ℕ → ℕ → Out) → o ≡ seq_from n o' f → Ran put base' s' o' n t t' r → r ≡ Ok (m, q) → length t' ≡ length t → (m ≤ base + p') × (p' ≤ length s) → Going put base s o₀ n₀ t₀ (f m q) p' m t'
   going-from {t' = t'} {o'} f e h i l b =
       let z = seq-go put o' f n t t' (sym h.answered ∙ i) h.filled in
       record {
@@ -186,23 +186,23 @@ module _ {put : Putter} {base n₀ p n : ℕ} {s : List ℕ} {o₀ o : Out} {t�
         wide = l ∙ g.wide;
       }
 
-  pub going-run : {base' m q p' : ℕ} {s' t' : List ℕ} {o' : Out} {r : Got} (f : ℕ → Out) → o ≡ seq o' f → Ran put base' s' o' n t t' r → r ≡ Value m q → length t' ≡ length t → (m ≤ base + p') × (p' ≤ length s) → Going put base s o₀ n₀ t₀ (f q) p' m t'
+  pub going-run : {base' m q p' : ℕ} {s' t' : List ℕ} {o' : Out} {r : Got} (f : ℕ → Out) → o ≡ seq o' f → Ran put base' s' o' n t t' r → r ≡ Ok (m, q) → length t' ≡ length t → (m ≤ base + p') × (p' ≤ length s) → Going put base s o₀ n₀ t₀ (f q) p' m t'
   going-run {o' = o'} f e h i l b = going-from (λ _ p. f p) (e ∙ seq-from n o' f) h i l b
 
-  pub going-from_halt : {base' : ℕ} {k : Refusal} {s' t' : List ℕ} {o' : Out} {r : Got} (f : ℕ → ℕ → Out) → o ≡ seq_from n o' f → Ran put base' s' o' n t t' r → r ≡ Refused k → Ran put base s o₀ n₀ t₀ t' (Refused k)
+  pub going-from_halt : {base' : ℕ} {k : Refusal} {s' t' : List ℕ} {o' : Out} {r : Got} (f : ℕ → ℕ → Out) → o ≡ seq_from n o' f → Ran put base' s' o' n t t' r → r ≡ Err k → Ran put base s o₀ n₀ t₀ t' (Err k)
   going-from_halt {t' = t'} {o'} f e h i =
       let z = seq-stop put o' f n t t' (sym h.answered ∙ i) in
       record { answered = sym (g.answers ∙ rw e z.0); filled = g.fills t' (subst (λ x. Fills put t n x t') (sym e) z.1); within = refused }
 
-  pub going_halt : {base' : ℕ} {k : Refusal} {s' t' : List ℕ} {o' : Out} {r : Got} (f : ℕ → Out) → o ≡ seq o' f → Ran put base' s' o' n t t' r → r ≡ Refused k → Ran put base s o₀ n₀ t₀ t' (Refused k)
+  pub going_halt : {base' : ℕ} {k : Refusal} {s' t' : List ℕ} {o' : Out} {r : Got} (f : ℕ → Out) → o ≡ seq o' f → Ran put base' s' o' n t t' r → r ≡ Err k → Ran put base s o₀ n₀ t₀ t' (Err k)
   going_halt {o' = o'} f e h i = going-from_halt (λ _ p. f p) (e ∙ seq-from n o' f) h i
 
-  pub going_end : o ≡ ok [] p → Ran put base s o₀ n₀ t₀ t (Value n p)
+  pub going_end : o ≡ ok [] p → Ran put base s o₀ n₀ t₀ t (Ok (n, p))
   going_end e = record {
-    answered = sym (g.answers ∙ rw e (ap (λ m. Value m p) (add-zero n)));
+    answered = sym (g.answers ∙ rw e (ap (λ m. Ok (m, p)) (add-zero n)));
     filled = g.fills t (subst (λ x. Fills put t n x t) (sym e) refl);
     within = stopped g.few g.inside;
   }
 
-  pub going-no : {k : Refusal} → o ≡ refuse k → Ran put base s o₀ n₀ t₀ t (Refused k)
+  pub going-no : {k : Refusal} → o ≡ refuse k → Ran put base s o₀ n₀ t₀ t (Err k)
   going-no e = record { answered = sym (g.answers ∙ rw e); filled = g.fills t (subst (λ x. Fills put t n x t) (sym e) tt); within = refused }

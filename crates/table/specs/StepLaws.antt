@@ -1,17 +1,15 @@
 -- What a reader of rows meets, combinator by combinator: items, pairs, counts and numbers. Assumes nothing.
 use Prim.Native.Nat.{ℕ, zero, suc, ◌+◌, ◌-◌, ◌≤◌, ◌<◌}
 use native.Mathlib.Omega.{arith}
-use Rattle.std.specs.Prelude.{◌≡◌, List, [], ◌∷◌, ◌++◌, map}
+use Rattle.std.specs.Prelude.{◌≡◌, List, [], ◌∷◌, ◌++◌, map, Ok, Err}
 use Rattle.std.proofs.Math.Path.{refl}
 use Rattle.std.proofs.Common.{ap}
 use Rattle.std.proofs.Math.ListN.{length}
 use Rattle.refusal.specs.declared.Refusal.{Refusal}
 use Rattle.codec.specs.Codec.{Res, ok, refuse, ◌>>=◌, Codec, num, times_parse}
-use Rattle.numbers.specs.Numbers.{num_at}
+use Rattle.numbers.specs.Numbers.{num_at, Got}
 use Rattle.numbers.specs.NumberLaws.{num_of, num-is}
 use Rattle.table.specs.Table.{Out, From, ◌and_then◌, each_from, said, row, seq, seq_from, on_got}
-use Rattle.numbers.specs.declared.Got.{Got}
-use Rattle.numbers.specs.declared.Got.TheVariants.{Value, Refused}
 
 -- ---- n items, row by row
 
@@ -114,8 +112,8 @@ module _ {A : Type 0} (why w : ℕ) (h : ℕ → List ℕ) (f : A → List (List
   count-row = rw (num-is why w s at base) (go (num_at why w s at))
     where
       go : (g : Got) → said (λ x. h (size x) ∷ f x) (num_of g >>= c) ≡ on_got g (λ count p. row (h count) (said f (c count p)))
-      go (Value count p) = said_row h f size count (c count p) (l count p)
-      go (Refused k) = refl
+      go (Ok (count, p)) = said_row h f size count (c count p) (l count p)
+      go (Err k) = refl
 
 -- a number first
 module _ {A : Type 0} (f : A → List (List ℕ)) (base : ℕ) (s : List ℕ) (at : ℕ) where
@@ -123,8 +121,8 @@ module _ {A : Type 0} (f : A → List (List ℕ)) (base : ℕ) (s : List ℕ) (a
   said-num why w c o h = rw (num-is why w s at base) (go (num_at why w s at))
     where
       go : (g : Got) → said f (num_of g >>= c) ≡ on_got g o
-      go (Value v p) = h v p
-      go (Refused k) = refl
+      go (Ok (v, p)) = h v p
+      go (Err k) = refl
 
 -- ---- one reader's rows, and then another's
 

@@ -1,11 +1,10 @@
 -- What a reader of rows gives: the rows and the place after them, or the refusal; and what it leaves in a table.
 -- Assumes nothing.
-use Rattle.std.specs.Prelude.{ℕ, ◌+◌, ◌*◌, ◌/◌, ◌≤◌, ◌<◌, ◌^◌, ◌≡◌, cond, List, [], ◌∷◌, ◌++◌, map, length, set, ltb}
+use Rattle.numbers.specs.Numbers.{Got}
+use Rattle.std.specs.Prelude.{ℕ, ◌+◌, ◌*◌, ◌/◌, ◌≤◌, ◌<◌, ◌^◌, ◌≡◌, cond, List, [], ◌∷◌, ◌++◌, map, length, set, ltb, Ok, Err}
 use Rattle.std.proofs.lemmas.List.Edits.{sets}
 use Rattle.refusal.specs.declared.Refusal.{Refusal}
 use Rattle.codec.specs.Codec.{Res, ok, refuse, ◌>>=◌}
-use Rattle.numbers.specs.declared.Got.{Got}
-use Rattle.numbers.specs.declared.Got.TheVariants.{Value, Refused}
 
 -- the lists, one after the other
 abbrev pub flat : {A : Type 0} → List (List A) → List A
@@ -51,8 +50,8 @@ seq_from n o f = o >>= λ rs p. f (n + length rs) p >>= λ qs q. ok (rs ++ qs) q
 
 -- a number that was read, and what follows it
 abbrev pub on_got : Got → (ℕ → ℕ → Out) → Out
-on_got (Value v p) f = f v p
-on_got (Refused k) f = refuse k
+on_got (Ok (v, p)) f = f v p
+on_got (Err k) f = refuse k
 
 -- how row n goes into a table
 abbrev pub Putter : Type 0
@@ -87,13 +86,13 @@ Fills put t n (refuse k) t' = Unit {0}
 
 -- the next row's index and the next place, or the refusal
 abbrev pub answer : ℕ → Out → Got
-answer n (ok rs p) = Value (n + length rs) p
-answer n (refuse k) = Refused k
+answer n (ok rs p) = Ok (n + length rs, p)
+answer n (refuse k) = Err k
 
 -- a place within the section, and rows counted within the bytes passed
 pub data Within (base : ℕ) (s : List ℕ) : Got → Type 0 where
-  stopped : {m p : ℕ} → m ≤ base + p → p ≤ length s → Within base s (Value m p)
-  refused : {k : Refusal} → Within base s (Refused k)
+  stopped : {m p : ℕ} → m ≤ base + p → p ≤ length s → Within base s (Ok (m, p))
+  refused : {k : Refusal} → Within base s (Err k)
 
 -- what a reader of rows at `at` asks: places from `base` on fit a u32, and there are no more rows than bytes before
 pub record Room (base : ℕ) (s : List ℕ) (at n : ℕ) : Type 0 where

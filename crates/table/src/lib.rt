@@ -10,15 +10,9 @@ pub fn put_row(table: &mut [u32], n: usize, row: &[u32])
     ensures { Put (put_row (length row.now)) table.old n row.now table.new }
 {
     let w = row.len();
-    if 0 < w {
-        if n < table.len() / w {
-            let at = w * n;
-            let mut j = 0;
-            while j < w {
-                table[at + j] = row[j];
-                j += 1;
-            }
-        }
+    if 0 < w && n < table.len() / w {
+        let at = w * n;
+        table[at..at + w].copy_from_slice(row);
     }
 }
 

@@ -1,5 +1,5 @@
 -- Which numbers the checker gives. Assumes nothing.
-use Rattle.std.specs.Prelude.{ℕ, suc, ◌+◌, ◌≡◌, refl, Bool, true, false, cond, List, [], ◌∷◌, ◌++◌, length, leb, eqb}
+use Rattle.std.specs.Prelude.{ℕ, suc, ◌+◌, ◌≡◌, refl, Bool, true, false, cond, List, [], ◌∷◌, ◌++◌, length, leb, eqb, Err}
 use Rattle.std.proofs.Common.{subst, arith}
 use Rattle.refusal.specs.declared.Refusal.{Refusal}
 use Rattle.codec.specs.Codec.{Res, ok, refuse, refusal, Codec}
@@ -10,7 +10,6 @@ use Rattle.layout.specs.LayoutOf.{entry, label, record_l, struct_l, label_def}
 use Rattle.layout.specs.NameCountLaws.{AllOf}
 use Rattle.rules.specs.Rules.{ruled_numbers, ruled_of}
 use Rattle.rules.proofs.RefusalLaws.{ruled_gives}
-use Rattle.tidy.specs.declared.Tidy.TheVariants.{Refused}
 use Rattle.tidy.specs.Tidy.{leftover, nonzero, each_from, in_entry, in_fields, in_labels, in_record, in_struct, in_label_def, structs_at, labels_at, untidy, first_of, told, tidy_of, untidy_numbers, tidy_numbers}
 
 -- each is told by one of the four numbers
@@ -67,16 +66,16 @@ untidy-numbers t =
     (left_numbered 123 _ t.rest refl)))).each
 
 -- the first of what is told
-first_numbered : (ks : List Refusal) {k : Refusal} → AllOf (λ m. In untidy_numbers m.number) ks → first_of ks ≡ Refused k → In untidy_numbers k.number
+first_numbered : (ks : List Refusal) {k : Refusal} → AllOf (λ m. In untidy_numbers m.number) ks → first_of ks ≡ Err k → In untidy_numbers k.number
 unfolding first_of
 first_numbered [] h e = absurd (let z : ◌≡◌ {A = ℕ} 0 1 = cc in omega arith)
 first_numbered (m ∷ ks) {k} h e = let q : m ≡ k = cc in subst (λ (n : Refusal). In untidy_numbers n.number) q h.0
 
 -- the reader's numbers, and 120 to 123
-pub tidy_refuses : (sheet : List ℕ) (width : ℕ) (s : List ℕ) {k : Refusal} → tidy_of sheet width s ≡ Refused k → In tidy_numbers k.number
+pub tidy_refuses : (sheet : List ℕ) (width : ℕ) (s : List ℕ) {k : Refusal} → tidy_of sheet width s ≡ Err k → In tidy_numbers k.number
 unfolding told
 tidy_refuses sheet width s {k} e = go (ruled_of sheet width s) (ruled_gives sheet width s) e
   where
-    go : (r : Res Layout) → Gives (In ruled_numbers) r → told r ≡ Refused k → In tidy_numbers k.number
+    go : (r : Res Layout) → Gives (In ruled_numbers) r → told r ≡ Err k → In tidy_numbers k.number
     go (ok t j) g e = in_more untidy_numbers tidy_numbers refl k.number (first_numbered (untidy t) (untidy-numbers t) e)
     go (refuse m) g e = let q : m ≡ k = cc in in_more ruled_numbers tidy_numbers refl k.number (subst (λ (n : Refusal). In ruled_numbers n.number) q g)

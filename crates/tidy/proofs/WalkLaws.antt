@@ -1,7 +1,7 @@
 -- A walk over the bytes of an accepted layout meets the first thing that is untidy in it. Assumes nothing.
 use Prim.Native.Nat.{ℕ, suc, ◌+◌, ◌-◌, ◌/◌, ◌%◌, ◌<◌}
 use native.Mathlib.Omega.{arith}
-use Rattle.std.specs.Prelude.{◌≡◌, false, cond, leb, eqb}
+use Rattle.std.specs.Prelude.{◌≡◌, false, cond, leb, eqb, Ok, Err}
 use Rattle.std.proofs.Math.Path.{refl, sym, ap}
 use Rattle.std.proofs.Common.{ap₂, ◌∙◌, subst, get_or-drop, le-leb}
 use mathlib.Core.List.{List, [], ◌∷◌, ◌++◌, append-nil}
@@ -20,21 +20,17 @@ use Rattle.layout.specs.LayoutOf.{D, entry, fields, label, record_l, struct_l, l
 use Rattle.layout.specs.PlaceLaws.{count_at}
 use Rattle.layout.specs.PrintLaws.{entry-print, fields-print, label-print, label_body-print, record_body-print, struct_body-print}
 use Rattle.layout.specs.LawfulLaws.{in_section, entry-lawful, fields-lawful, label-lawful, label_def-bytes, label_def-lawful, struct_bytes, struct_lawful, record_bytes, record_lawful, layout-bytes, layout-lawful, layout_parsed}
-use Rattle.layout.specs.Answers.{verdict}
+use Rattle.layout.specs.Answers.{accepted, verdict}
 use Rattle.layout.specs.AnswerLaws.{verdict-ok, verdict-no}
-use Rattle.layout.specs.declared.Verdict.TheVariants as Verdict'
 use Rattle.rules.specs.Rules.{ruled_of}
 use Rattle.engines.specs.VerdictLaws.{ruled-layout}
-use Rattle.tidy.specs.declared.Tidy.TheVariants.{Refused}
-use Rattle.tidy.specs.declared.Met.{Met}
-use Rattle.tidy.specs.declared.Met.TheVariants.{Clear, Untidy}
-use Rattle.tidy.specs.Tidy.{leftover, nonzero, each_from, in_entry, in_fields, in_labels, in_record, in_struct, in_label_def, structs_at, labels_at, untidy, first_of, told, tidy_of}
-use Rattle.tidy.specs.Walk.{onwards, zeros_from, entries_from, names_from, labels_from, items_from, closing, own_bytes, section_from, sections_from, group_from, layout_met, met_told}
+use Rattle.tidy.specs.Tidy.{Tidy, leftover, nonzero, each_from, in_entry, in_fields, in_labels, in_record, in_struct, in_label_def, structs_at, labels_at, untidy, first_of, told, tidy_of}
+use Rattle.tidy.specs.Walk.{Met, onwards, zeros_from, entries_from, names_from, labels_from, items_from, closing, own_bytes, section_from, sections_from, group_from, layout_met, met_told}
 
 -- the first of some untidy things, or clear up to a place
 unfoldable pub met_of : List Refusal → ℕ → Met
-met_of [] j = Clear j
-met_of (k ∷ ks) j = Untidy k
+met_of [] j = Ok j
+met_of (k ∷ ks) j = Err k
 
 -- of what comes after a part, the first is met where the part is clear
 met-after : (xs ys : List Refusal) (i j : ℕ) (f : ℕ → Met) → f i ≡ met_of ys j → onwards (met_of xs i) f ≡ met_of (xs ++ ys) j
@@ -42,7 +38,7 @@ unfolding met_of
 met-after [] ys i j f e = e
 met-after (k ∷ xs) ys i j f e = refl
 
-met-none : (j : ℕ) → met_of [] j ≡ Clear j
+met-none : (j : ℕ) → met_of [] j ≡ Ok j
 unfolding met_of
 met-none j = refl
 
@@ -57,7 +53,7 @@ closing-met k p (x ∷ xs) {e} q = rw (lt-leb e p (omega arith))
 
 -- none
 module _ (s : List ℕ) (a : ℕ) where
-  entries_none : entries_from s a 0 ≡ Clear a
+  entries_none : entries_from s a 0 ≡ Ok a
   unfolding entries_from
   entries_none = refl
 
@@ -65,11 +61,11 @@ module _ (s : List ℕ) (a : ℕ) where
   unfolding names_from
   names-none = refl
 
-  labels-none : (least : ℕ) → labels_from s a least 0 ≡ Clear a
+  labels-none : (least : ℕ) → labels_from s a least 0 ≡ Ok a
   unfolding labels_from
   labels-none least = refl
 
-  sections-none : (kind : ℕ) → sections_from kind s a 0 ≡ Clear a
+  sections-none : (kind : ℕ) → sections_from kind s a 0 ≡ Ok a
   unfolding sections_from
   sections-none kind = refl
 
@@ -83,7 +79,7 @@ module _ (s : List ℕ) (a n : ℕ) where
   unfolding names_from
   names-suc = refl
 
-  labels-suc : (least : ℕ) → labels_from s a least (suc n) ≡ cond (leb least (le16 s a)) (labels_from s (a + 4 + get_or s (a + 2) 0) (le16 s a + 1) n) (Untidy (refusal 121 a))
+  labels-suc : (least : ℕ) → labels_from s a least (suc n) ≡ cond (leb least (le16 s a)) (labels_from s (a + 4 + get_or s (a + 2) 0) (le16 s a + 1) n) (Err (refusal 121 a))
   unfolding labels_from
   labels-suc least = refl
 
@@ -186,7 +182,7 @@ module _ {s : List ℕ} where
       let e = entries-here f.entries (ns ++ post) p l.entries (here-left es ns post h) in
       let n = names-here f.names post (p + length es) l.names (here-right es ns post h) in
       let c : names_from s (p + length es) (length f.entries) ≡ p + length (es ++ ns) = ap (names_from s (p + length es)) (sym l.even) ∙ n ∙ omega (arith, length-append es ns) in
-      rw (k, e) (met-after (each_from entry in_entry p f.entries) [] (p + length es) (p + length (es ++ ns)) (λ q. Clear (names_from s q (length f.entries))) (ap Clear c ∙ sym (met-none _)) ∙ ap (λ (ks : List Refusal). met_of ks (p + length (es ++ ns))) (append-nil (each_from entry in_entry p f.entries)))
+      rw (k, e) (met-after (each_from entry in_entry p f.entries) [] (p + length es) (p + length (es ++ ns)) (λ q. Ok (names_from s q (length f.entries))) (ap Ok c ∙ sym (met-none _)) ∙ ap (λ (ks : List Refusal). met_of ks (p + length (es ++ ns))) (append-nil (each_from entry in_entry p f.entries)))
 
   -- a section of its own numbers, a name, a count and as many items, in which `found` tells what is untidy among items at a place
   module _ (kind : ℕ) (own : List ℕ) (n : Name) (count : ℕ) (items rest : List ℕ) (found : ℕ → List Refusal) where
@@ -322,7 +318,7 @@ met-told (k ∷ ks) j = refl
 
 module _ (sheet : List ℕ) (width : ℕ) (s : List ℕ) where
   -- of an accepted layout: what the walk over its bytes meets
-  pub accepted-told : {v n : ℕ} {r : Met} → Bytes s → Verdict'.Accepted v n ≡ verdict (ruled_of sheet width s) → r ≡ layout_met s → met_told r ≡ tidy_of sheet width s
+  pub accepted-told : {v n : ℕ} {r : Met} → Bytes s → Ok (accepted v n) ≡ verdict (ruled_of sheet width s) → r ≡ layout_met s → met_told r ≡ tidy_of sheet width s
   unfolding told
   accepted-told bs q e =
       let (t, j, et, _, _) = verdict-ok (ruled_of sheet width s) q in
@@ -331,6 +327,6 @@ module _ (sheet : List ℕ) (width : ℕ) (s : List ℕ) where
       rw (e, et) (ap (λ (u : List ℕ). met_told (layout_met u)) (sym p.bytes) ∙ ap met_told (layout-met t p.legal) ∙ met-told (untidy t) _)
 
   -- of any other: the reader's refusal
-  pub refused-told : {k : Refusal} → Verdict'.Refused k ≡ verdict (ruled_of sheet width s) → Refused k ≡ tidy_of sheet width s
+  pub refused-told : {k : Refusal} → Err k ≡ verdict (ruled_of sheet width s) → ◌≡◌ {A = Tidy} (Err k) (tidy_of sheet width s)
   unfolding told
   refused-told q = rw (verdict-no (ruled_of sheet width s) q)

@@ -1,15 +1,13 @@
 -- The plain form of a layout: nothing left over in a section or after the last label def, label codes that rise, zeros where an entry is
 -- skipped. What is untidy in an accepted layout, in wire order, each thing by its number and its place; and the answer, which is the first.
 -- Assumes nothing.
-use Rattle.std.specs.Prelude.{ℕ, suc, ◌+◌, ◌-◌, cond, List, [], ◌∷◌, ◌++◌, length, leb, eqb}
+use Rattle.std.specs.Prelude.{ℕ, suc, ◌+◌, ◌-◌, cond, List, [], ◌∷◌, ◌++◌, length, leb, eqb, Result, Ok, Err}
 use Rattle.refusal.specs.declared.Refusal.{Refusal}
 use Rattle.codec.specs.Codec.{Res, ok, refuse, refusal, Codec, times_print}
 use Rattle.wire.specs.Reader.{all_tests, name}
 use Rattle.layout.specs.Layout.{Entry, Fields, RecordL, StructL, Label, LabelDef, Layout, print_layout}
 use Rattle.layout.specs.LayoutOf.{D, entry, label, record_l, struct_l, label_def}
 use Rattle.rules.specs.Rules.{ruled_of, ruled_numbers}
-use Rattle.tidy.specs.declared.Tidy.{Tidy}
-use Rattle.tidy.specs.declared.Tidy.TheVariants.{Yes, Refused}
 
 -- ---- what is untidy
 
@@ -69,15 +67,19 @@ untidy t =
 
 -- ---- the answer
 
+-- yes, or why not
+abbrev pub Tidy : Type 0
+Tidy = Result (Unit {0}) Refusal
+
 -- the first untidy thing, or yes where there is none
 unfoldable pub first_of : List Refusal → Tidy
-first_of [] = Yes
-first_of (k ∷ ks) = Refused k
+first_of [] = Ok tt
+first_of (k ∷ ks) = Err k
 
 -- the reader's refusal comes first
 unfoldable pub told : Res Layout → Tidy
 told (ok t j) = first_of (untidy t)
-told (refuse k) = Refused k
+told (refuse k) = Err k
 
 -- of a layout given with a symbol width and a sheet
 abbrev pub tidy_of : List ℕ → ℕ → List ℕ → Tidy
@@ -92,5 +94,5 @@ tidy_numbers = ruled_numbers ++ untidy_numbers
 
 -- 0 for yes
 abbrev pub tidy_number : Tidy → ℕ
-tidy_number Yes = 0
-tidy_number (Refused e) = e.number
+tidy_number (Ok x) = 0
+tidy_number (Err e) = e.number

@@ -1,8 +1,7 @@
 // The type sheet that layouts are judged with: a made one, or one's own from a file.
 #![tactic(auto)]
 
-ghost use Rattle.std.specs.Prelude.{◌≡◌, ◌⊎◌};
-ghost use Rattle.type_sheet.specs.declared.Loaded.TheVariants as Loaded';
+ghost use Rattle.std.specs.Prelude.{◌≡◌, OnErr};
 
 use std::io;
 use std::rt::Files;
@@ -10,10 +9,9 @@ use std::rt::Files;
 // A file of a type sheet: 520 numbers of two bytes.
 const SHEET_LEN: usize = 1040;
 
-// What came of a file: a sheet was read; it could not be opened, and the error says why; or what could be read from it is not 1,040 bytes.
+// Why a file gave no sheet: it could not be opened, and the error says why; or what could be read from it is not 1,040 bytes.
 #[derive(Clone, Copy)]
-pub enum Loaded {
-    Read,
+pub enum LoadError {
     Unopened(io::Error),
     Unfit,
 }
@@ -41,20 +39,17 @@ pub fn made() -> [u16; 520] {
 }
 
 // Reads a sheet from the file of this path, which has nothing else. Where it cannot, the sheet stays as it was.
-pub fn load<R: Files>(rt: &R, path: &[u8], sheet: &mut [u16; 520]) -> Loaded
-    ensures { (result ≡ Loaded'.Read) ⊎ (sheet.new ≡ sheet.old) }
+pub fn load<R: Files>(rt: &R, path: &[u8], sheet: &mut [u16; 520]) -> Result<(), LoadError>
+    ensures { OnErr result (sheet.new ≡ sheet.old) }
 {
-    let mut file = match reading::open(rt, path) {
-        Ok(file) => file,
-        Err(why) => return Loaded::Unopened(why),
-    };
+    let mut file = reading::open(rt, path).map_err(LoadError::Unopened)?;
     let mut bytes = [0u8; 4096];
     match reading::read_full(&mut file, &mut bytes) {
         Ok(SHEET_LEN) => {
             take(&bytes, sheet);
-            Loaded::Read
+            Ok(())
         }
-        _ => Loaded::Unfit,
+        _ => Err(LoadError::Unfit),
     }
 }
 

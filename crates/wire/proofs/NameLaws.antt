@@ -1,5 +1,5 @@
 -- A name, exit by exit, and what the reader of names answers. Assumes nothing.
-use Rattle.std.specs.Prelude.{ℕ, ◌+◌, ◌-◌, ◌≤◌, ◌<◌, Bool, true, false, List, [], ◌∷◌, get_or, take, drop}
+use Rattle.std.specs.Prelude.{ℕ, ◌+◌, ◌-◌, ◌≤◌, ◌<◌, Bool, true, false, List, [], ◌∷◌, get_or, take, drop, Ok, Err}
 use Rattle.std.proofs.Common.{zero-add, ◌∙◌, length-take, length-drop}
 use native.Mathlib.Omega.{arith}
 use Rattle.std.proofs.Math.Path.{◌≡◌, refl, sym, ap}
@@ -15,12 +15,11 @@ use Rattle.codec.specs.Lenient.{lax}
 use Rattle.codec.proofs.LenientLaws.{lax-out}
 use Rattle.plain_text.specs.Plain.{plain}
 use Rattle.plain_text.specs.PlainLaws.{plain-utf8, plain-next}
-use Rattle.numbers.specs.Numbers.{part}
+use Rattle.numbers.specs.NumberLaws.{same_got}
+use Rattle.numbers.specs.Numbers.{part, Got}
 use Rattle.wire.specs.Formats
 use Rattle.wire.specs.Formats.{Name, Tests, no_nul, text, text_of}
 use Rattle.wire.specs.Reader.{all_tests, tests_of, name_by, name_at, text_fault}
-use Rattle.numbers.specs.declared.Got.{Got}
-use Rattle.numbers.specs.declared.Got.TheVariants.{Value, Refused}
 
 -- ---- the text of a name
 
@@ -59,8 +58,8 @@ text_light t {light} e = text-fine (tests_of light) t (lax-out no_nul t e) (lax-
 
 -- what the reader of names tells of the name, wherever the bytes stand
 abbrev pub name_of : ℕ → List ℕ → ℕ → Got → Res Name
-name_of base s i (Value len q) = ok (record { start = base + (i + 1); text = take len (drop (i + 1) s) }) q
-name_of base s i (Refused k) = refuse k
+name_of base s i (Ok (len, q)) = ok (record { start = base + (i + 1); text = take len (drop (i + 1) s) }) q
+name_of base s i (Err k) = refuse k
 
 module _ (tests : Tests) where
   -- a text without fault passes both tests, and one with a fault is refused by it
@@ -122,17 +121,17 @@ module _ (tests : Tests) where
     record Exit (g : Got) : Type 0 where
       pub is : name_at tests s i ≡ g
       pub parse : (base : ℕ) → (name_by tests).parse base s i ≡ name_of base s i g
-      pub place : {n q : ℕ} → g ≡ Value n q → (n ≡ len) × (q ≡ i + 1 + n + 1) × (length (take n (drop (i + 1) s)) ≡ n)
+      pub place : {n q : ℕ} → g ≡ Ok (n, q) → (n ≡ len) × (q ≡ i + 1 + n + 1) × (length (take n (drop (i + 1) s)) ≡ n)
 
-    exit_no : (k : Refusal) → ((base : ℕ) → (name_by tests).parse base s i ≡ refuse k) → Exit (Refused k)
+    exit_no : (k : Refusal) → ((base : ℕ) → (name_by tests).parse base s i ≡ refuse k) → Exit (Err k)
     unfolding name_at
     exit_no k e = record { is = rw (e 0); parse = e; place = λ q. absurd (let z : ◌≡◌ {A = ℕ} 0 1 = cc in omega arith) }
 
-    exit_none : length s ≤ i → Exit (Refused (refusal 50 i))
+    exit_none : length s ≤ i → Exit (Err (refusal 50 i))
     exit_none h = exit_no _ (λ base. name-none base s i h)
 
     module _ (h : i < length s) where
-      exit_cut : length s < i + 1 + len → Exit (Refused (refusal 50 (i + 1)))
+      exit_cut : length s < i + 1 + len → Exit (Err (refusal 50 (i + 1)))
       exit_cut h1 = exit_no _ (λ base. name-cut base s i len h refl h1)
 
       module _ (h1 : i + 1 + len ≤ length s) where
@@ -142,10 +141,10 @@ module _ (tests : Tests) where
         text-long : length text-of ≡ len
         text-long = simp (length-take, length-drop) (omega arith)
 
-        exit_bad : (text_fault tests text-of ≡ 0 → ⊥) → Exit (Refused (refusal (text_fault tests text-of) (i + 1)))
+        exit_bad : (text_fault tests text-of ≡ 0 → ⊥) → Exit (Err (refusal (text_fault tests text-of) (i + 1)))
         exit_bad z = go (judged text-of)
           where
-            go : Judged text-of → Exit (Refused (refusal (text_fault tests text-of) (i + 1)))
+            go : Judged text-of → Exit (Err (refusal (text_fault tests text-of) (i + 1)))
             go (bad {k} e _ f) = exit_no _ (λ base. name-bad base s i len h refl (f base s (i + 1) len (body base)) ∙ ap (λ (n : ℕ). refuse (refusal n (i + 1))) (sym e))
             go (good e _) = absurd (z e)
 
@@ -157,25 +156,24 @@ module _ (tests : Tests) where
               go (bad e n _) = absurd (n (sym e ∙ z))
               go (good _ f) = f base s (i + 1) len (body base)
 
-          exit_end : length s ≤ i + 1 + len → Exit (Refused (refusal 50 (i + 1 + len)))
+          exit_end : length s ≤ i + 1 + len → Exit (Err (refusal 50 (i + 1 + len)))
           exit_end h2 = exit_no _ (λ base. name-end base s i len h refl (read base) h2)
 
           module _ (h2 : i + 1 + len < length s) where
-            exit_open : (get_or s (i + 1 + len) 0 ≡ 0 → ⊥) → Exit (Refused (refusal 54 (i + 1 + len)))
+            exit_open : (get_or s (i + 1 + len) 0 ≡ 0 → ⊥) → Exit (Err (refusal 54 (i + 1 + len)))
             exit_open n = exit_no _ (λ base. name_open base s i len h refl (read base) h2 n)
 
-            exit_got : get_or s (i + 1 + len) 0 ≡ 0 → Exit (Value len (i + 1 + len + 1))
+            exit_got : get_or s (i + 1 + len) 0 ≡ 0 → Exit (Ok (len, i + 1 + len + 1))
             unfolding name_at
             exit_got n = record {
-              is = rw (name_got 0 s i len h refl (read 0) h2 n) (ap (λ m. Value m (i + 1 + len + 1)) text-long);
+              is = rw (name_got 0 s i len h refl (read 0) h2 n) (ap (λ m. Ok (m, i + 1 + len + 1)) text-long);
               parse = λ base. name_got base s i len h refl (read base) h2 n;
               place = λ q. got_place q;
             }
               where
-                got_place : {n q : ℕ} → Value len (i + 1 + len + 1) ≡ Value n q → (n ≡ len) × (q ≡ i + 1 + n + 1) × (length (take n (drop (i + 1) s)) ≡ n)
+                got_place : {n q : ℕ} → ◌≡◌ {A = Got} (Ok (len, i + 1 + len + 1)) (Ok (n, q)) → (n ≡ len) × (q ≡ i + 1 + n + 1) × (length (take n (drop (i + 1) s)) ≡ n)
                 got_place {n} {q} e =
-                    let x : len ≡ n = cc in
-                    let y : i + 1 + len + 1 ≡ q = cc in
+                    let (x, y) = same_got e in
                     (sym x, sym y ∙ ap (λ (m : ℕ). i + 1 + m + 1) x, ap (λ m. length (take m (drop (i + 1) s))) (sym x) ∙ text-long ∙ x)
 
     any_exit : (g : Got) × Exit g
@@ -198,42 +196,42 @@ module _ (tests : Tests) where
     name-is base = let (g, x) = any_exit in x.parse base ∙ ap (name_of base s i) (sym x.is)
 
     -- where a name ends, and how long its text is
-    pub name-place : {n q : ℕ} → name_at tests s i ≡ Value n q → (n ≡ len) × (q ≡ i + 1 + n + 1) × (length (take n (drop (i + 1) s)) ≡ n)
+    pub name-place : {n q : ℕ} → name_at tests s i ≡ Ok (n, q) → (n ≡ len) × (q ≡ i + 1 + n + 1) × (length (take n (drop (i + 1) s)) ≡ n)
     name-place e = let (g, x) = any_exit in x.place (sym x.is ∙ e)
 
     -- what the code of the reader meets
-    pub name-none-at : length s - i < 1 → Refused (refusal 50 i) ≡ name_at tests s i
+    pub name-none-at : length s - i < 1 → Err (refusal 50 i) ≡ name_at tests s i
     name-none-at h = sym (exit_none (omega arith)).is
 
     module _ (h : 1 ≤ length s - i) {n : ℕ} (en : n ≡ len) where
-      pub name-cut-at : length s - (i + 1) < n → Refused (refusal 50 (i + 1)) ≡ name_at tests s i
+      pub name-cut-at : length s - (i + 1) < n → Err (refusal 50 (i + 1)) ≡ name_at tests s i
       name-cut-at h1 = sym (exit_cut (omega arith) (omega arith)).is
 
       module _ (h1 : n ≤ length s - (i + 1)) {why : ℕ} (ew : why ≡ text_fault tests (part s (i + 1) (i + 1 + n))) where
         text-is : part s (i + 1) (i + 1 + n) ≡ text-of
         text-is = let d : i + 1 + n - (i + 1) ≡ len = omega arith in rw d refl
 
-        pub name-bad-at : (why ≡ 0 → ⊥) → Refused (refusal why (i + 1)) ≡ name_at tests s i
-        name-bad-at z = let e = ew ∙ ap (text_fault tests) text-is in ap (λ (n : ℕ). Refused (refusal n (i + 1))) e ∙ sym (exit_bad (omega arith) (omega arith) (λ q. z (e ∙ q))).is
+        pub name-bad-at : (why ≡ 0 → ⊥) → Err (refusal why (i + 1)) ≡ name_at tests s i
+        name-bad-at z = let e = ew ∙ ap (text_fault tests) text-is in ap (λ (n : ℕ). Err (refusal n (i + 1))) e ∙ sym (exit_bad (omega arith) (omega arith) (λ q. z (e ∙ q))).is
 
         module _ (z : why ≡ 0) where
           fine : text_fault tests text-of ≡ 0
           fine = ap (text_fault tests) (sym text-is) ∙ sym ew ∙ z
 
-          pub name-end-at : length s - (i + 1 + n) < 1 → Refused (refusal 50 (i + 1 + n)) ≡ name_at tests s i
-          name-end-at h2 = ap (λ (m : ℕ). Refused (refusal 50 (i + 1 + m))) en ∙ sym (exit_end (omega arith) (omega arith) fine (omega arith)).is
+          pub name-end-at : length s - (i + 1 + n) < 1 → Err (refusal 50 (i + 1 + n)) ≡ name_at tests s i
+          name-end-at h2 = ap (λ (m : ℕ). Err (refusal 50 (i + 1 + m))) en ∙ sym (exit_end (omega arith) (omega arith) fine (omega arith)).is
 
           module _ (h2 : 1 ≤ length s - (i + 1 + n)) where
-            pub name_open_at : (get_or s (i + 1 + n) 0 ≡ 0 → ⊥) → Refused (refusal 54 (i + 1 + n)) ≡ name_at tests s i
-            name_open_at o = ap (λ (m : ℕ). Refused (refusal 54 (i + 1 + m))) en ∙ sym (exit_open (omega arith) (omega arith) fine (omega arith) (rw en at o)).is
+            pub name_open_at : (get_or s (i + 1 + n) 0 ≡ 0 → ⊥) → Err (refusal 54 (i + 1 + n)) ≡ name_at tests s i
+            name_open_at o = ap (λ (m : ℕ). Err (refusal 54 (i + 1 + m))) en ∙ sym (exit_open (omega arith) (omega arith) fine (omega arith) (rw en at o)).is
 
-            pub name_got_at : get_or s (i + 1 + n) 0 ≡ 0 → Value n (i + 1 + n + 1) ≡ name_at tests s i
-            name_got_at o = ap (λ (m : ℕ). Value m (i + 1 + m + 1)) en ∙ sym (exit_got (omega arith) (omega arith) fine (omega arith) (rw en at o)).is
+            pub name_got_at : get_or s (i + 1 + n) 0 ≡ 0 → Ok (n, i + 1 + n + 1) ≡ name_at tests s i
+            name_got_at o = ap (λ (m : ℕ). Ok (m, i + 1 + m + 1)) en ∙ sym (exit_got (omega arith) (omega arith) fine (omega arith) (rw en at o)).is
 
   -- a name, wherever it stands
-  pub name-ok : (base : ℕ) (s : List ℕ) (at : ℕ) {len p : ℕ} → name_at tests s at ≡ Value len p → (x : Name) × ((name_by tests).parse base s at ≡ ok x p) × (x.start ≡ base + (at + 1)) × (length x.text ≡ len)
+  pub name-ok : (base : ℕ) (s : List ℕ) (at : ℕ) {len p : ℕ} → name_at tests s at ≡ Ok (len, p) → (x : Name) × ((name_by tests).parse base s at ≡ ok x p) × (x.start ≡ base + (at + 1)) × (length x.text ≡ len)
   name-ok base s at {len} {p} e =
       (record { start = base + (at + 1); text = take len (drop (at + 1) s) }, name-is s at base ∙ ap (name_of base s at) e, refl, (name-place s at e).2)
 
-  pub name-no : (base : ℕ) (s : List ℕ) (at : ℕ) {k : Refusal} → name_at tests s at ≡ Refused k → (name_by tests).parse base s at ≡ refuse k
+  pub name-no : (base : ℕ) (s : List ℕ) (at : ℕ) {k : Refusal} → name_at tests s at ≡ Err k → (name_by tests).parse base s at ≡ refuse k
   name-no base s at e = name-is s at base ∙ ap (name_of base s at) e

@@ -1,22 +1,20 @@
 -- What a reader of rows meets: names and sections. Assumes nothing.
 use Prim.Native.Nat.{ℕ, zero, suc, ◌+◌, ◌-◌, ◌≤◌, ◌<◌}
 use native.Mathlib.Omega.{arith}
-use Rattle.std.specs.Prelude.{◌≡◌, false, length, take, drop}
+use Rattle.std.specs.Prelude.{◌≡◌, false, length, take, drop, Ok, Err}
 use Rattle.std.proofs.Math.Path.{refl, ap}
 use Rattle.std.proofs.Common.{sym, ◌∙◌}
 use mathlib.Core.List.{List, [], ◌∷◌, ◌++◌}
 use Rattle.refusal.specs.declared.Refusal.{Refusal}
 use Rattle.codec.specs.Codec.{Res, ok, refuse, moved, shifted, ◌>>=◌, Codec, named, times_parse}
 use Rattle.codec.proofs.Format.{Format}
-use Rattle.numbers.specs.Numbers.{part}
+use Rattle.numbers.specs.Numbers.{part, Got}
 use Rattle.table.specs.Table.{Out, all_rows, said, seq, on_got}
 use Rattle.table.specs.StepLaws.{seq-ok, seq-no}
 use Rattle.wire.specs.Formats.{Name, Tests, section}
 use Rattle.wire.specs.Reader.{name_by, name_at, section_at}
 use Rattle.wire.proofs.NameLaws.{name_of, name-is, name-place}
 use Rattle.wire.specs.SectionLaws.{section_got, section-bad}
-use Rattle.numbers.specs.declared.Got.{Got}
-use Rattle.numbers.specs.declared.Got.TheVariants.{Value, Refused}
 
 -- a name first
 module _ (tests : Tests) {A : Type 0} (f : A → List (List ℕ)) (base : ℕ) (s : List ℕ) (at : ℕ) where
@@ -26,8 +24,8 @@ module _ (tests : Tests) {A : Type 0} (f : A → List (List ℕ)) (base : ℕ) (
   said-name c o h = rw (name-is tests s at base) (go (name_at tests s at) refl)
     where
       go : (g : Got) → name_at tests s at ≡ g → said f (name_of base s at g >>= c) ≡ on_got g o
-      go (Value len p) e = h (record { start = base + (at + 1); text = take len (drop (at + 1) s) }) len p refl (name-place tests s at e).2
-      go (Refused k) e = refl
+      go (Ok (len, p)) e = h (record { start = base + (at + 1); text = take len (drop (at + 1) s) }) len p refl (name-place tests s at e).2
+      go (Err k) e = refl
 
 -- ---- sections
 
@@ -40,7 +38,7 @@ module _ {A B : Type 0} (F : Format A false) (to : A × List ℕ → B) (from : 
   parts-end zero at h = refl
   parts-end (suc n) at h = let z : ⊥ = omega arith in absurd z
 
-  pub parts-run : (n at : ℕ) {b e : ℕ} → 0 < n → section_at s at ≡ Value b e
+  pub parts-run : (n at : ℕ) {b e : ℕ} → 0 < n → section_at s at ≡ Ok (b, e)
       → said (all_rows f) (times_parse item n 0 s at) ≡ seq (shifted b (said (λ x. f (to (x, []))) (F.codec.parse b (part s b e) 0))) (λ _. said (all_rows f) (times_parse item (n - 1) 0 s e))
   unfolding named
   parts-run zero at h q = let z : ⊥ = omega arith in absurd z
@@ -56,7 +54,7 @@ module _ {A B : Type 0} (F : Format A false) (to : A × List ℕ → B) (from : 
       go (ok x j) = tail x (drop j (part s b e)) (times_parse item n 0 s e) ∙ sym (seq-ok (f (to (x, []))) j (λ _. said (all_rows f) (times_parse item n 0 s e)))
       go (refuse k) = sym (seq-no (moved b k) (λ _. said (all_rows f) (times_parse item n 0 s e)))
 
-  pub parts-no : (n at : ℕ) {k : Refusal} → 0 < n → section_at s at ≡ Refused k → said (all_rows f) (times_parse item n 0 s at) ≡ refuse k
+  pub parts-no : (n at : ℕ) {k : Refusal} → 0 < n → section_at s at ≡ Err k → said (all_rows f) (times_parse item n 0 s at) ≡ refuse k
   unfolding named
   parts-no zero at h q = let z : ⊥ = omega arith in absurd z
   parts-no (suc n) at h q = rw (section-bad F s at q)

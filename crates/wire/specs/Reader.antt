@@ -1,16 +1,14 @@
 -- What reading a name or a section at a place of a slice answers, from their formats.
 -- Assumes nothing.
-use Rattle.std.specs.Prelude.{ℕ, ◌+◌, ◌≤◌, Bool, List, [], ◌∷◌, length}
+use Rattle.std.specs.Prelude.{ℕ, ◌+◌, ◌≤◌, Bool, List, [], ◌∷◌, length, Ok, Err}
 use Rattle.refusal.specs.declared.Refusal.{Refusal}
 use Rattle.codec.specs.Codec.{fault_of, Codec}
 use Rattle.codec.specs.Lenient.{lax}
 use Rattle.codec.proofs.Format.{raw}
 use Rattle.text.specs.Utf8.{utf8}
-use Rattle.numbers.specs.Numbers.{got_of}
+use Rattle.numbers.specs.Numbers.{got_of, Got}
 use Rattle.wire.specs.Formats
 use Rattle.wire.specs.Formats.{Name, Tests, no_nul, section}
-use Rattle.numbers.specs.declared.Got.{Got}
-use Rattle.numbers.specs.declared.Got.TheVariants.{Value, Refused}
 
 -- all that a name's text is asked, with the text crate's UTF-8
 abbrev pub all_tests : Tests
@@ -49,5 +47,5 @@ section_numbers = 50 ∷ 51 ∷ []
 
 -- a part of s from `at` on
 pub data Lies (s : List ℕ) (at : ℕ) : Got → Type 0 where
-  lies : {b e : ℕ} → at ≤ b → b ≤ e → e ≤ length s → Lies s at (Value b e)
-  outside : {k : Refusal} → Lies s at (Refused k)
+  lies : {b e : ℕ} → at ≤ b → b ≤ e → e ≤ length s → Lies s at (Ok (b, e))
+  outside : {k : Refusal} → Lies s at (Err k)

@@ -2,9 +2,8 @@
 use Rattle.std.specs.Prelude.{ℕ, ◌+◌, ◌≡◌, Bool, List}
 use Rattle.std.proofs.Common.{sym, ◌∙◌}
 use Rattle.codec.specs.Codec.{among}
-use Rattle.numbers.specs.Numbers.{Past}
+use Rattle.numbers.specs.Numbers.{Past, Got}
 use Rattle.wire.specs.Reader.{name_at, tests_of, section_at, Lies}
-use Rattle.numbers.specs.declared.Got.{Got}
 
 module _ (s : List ℕ) (at : ℕ) (r r' : Got) where
   -- of `name_in`, and of `name_at`, whose answer is that of the first with nothing left out

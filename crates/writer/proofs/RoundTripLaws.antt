@@ -1,6 +1,6 @@
 -- What the writer accepts reads back, with the writer's width and the same sheet, as the same version, rows and names, starts apart.
 -- Assumes nothing.
-use Rattle.std.specs.Prelude.{ℕ, ◌≤◌, ◌<◌, Bool, List, ◌++◌, map, drop}
+use Rattle.std.specs.Prelude.{ℕ, ◌≤◌, ◌<◌, Bool, List, ◌++◌, map, drop, Ok, Err}
 use native.Mathlib.Omega.{arith}
 use Rattle.std.proofs.Math.Path.{◌≡◌, refl}
 use Rattle.std.proofs.Common.{sym, ap, ◌∙◌}
@@ -28,7 +28,6 @@ use Rattle.rows_check.specs.TreeLaws.{tree-rows, tree-version}
 use Rattle.rows_check.specs.NameLaws.{tree-each}
 use Rattle.rows_check.specs.SectionLaws.{printed-is, printed-length}
 use Rattle.writer.specs.Write.{write_layout, out_after}
-use Rattle.writer.specs.declared.Written.TheVariants.{Length, Refused}
 
 pub record ReadsBack (sheet : List ℕ) (width version : ℕ) (table text : List ℕ) : Type 0 where
   pub layout : Layout
@@ -44,11 +43,11 @@ rules_still sheet width t =
 
 -- ---- what is left in the output
 
-pub out_written : (n : ℕ) (bytes out : List ℕ) → out_after (Length n) bytes out ≡ bytes ++ drop (length bytes) out
+pub out_written : (n : ℕ) (bytes out : List ℕ) → out_after (Ok n) bytes out ≡ bytes ++ drop (length bytes) out
 unfolding out_after
 out_written n bytes out = refl
 
-pub out-refused : (k : Refusal) (bytes out : List ℕ) → out_after (Refused k) bytes out ≡ out
+pub out-refused : (k : Refusal) (bytes out : List ℕ) → out_after (Err k) bytes out ≡ out
 unfolding out_after
 out-refused k bytes out = refl
 
@@ -63,17 +62,17 @@ pub record Accepts (sheet : List ℕ) (width version : ℕ) (table text : List �
 module _ (sheet : List ℕ) (width version : ℕ) (table text : List ℕ) (room : ℕ) where
   -- what neither 90 to 95 nor a rule nor 96 refuses is written
   pub accepts : fault true table text ≡ 0 → rows_rules sheet width table text ≡ 0 → length (printed version table text) ≤ room
-      → write_layout sheet width version table text room ≡ Length (length (printed version table text))
+      → write_layout sheet width version table text room ≡ Ok (length (printed version table text))
   unfolding write_layout
   accepts f r h = rw (none-fault sheet width true table text f r, le-leb (length (printed version table text)) room h)
 
   -- and nothing else
-  pub accepted : (n : ℕ) → write_layout sheet width version table text room ≡ Length n → Accepts sheet width version table text room n
+  pub accepted : (n : ℕ) → write_layout sheet width version table text room ≡ Ok n → Accepts sheet width version table text room n
   unfolding write_layout
   accepted n e = go (eqb 0 (rows_fault sheet width true table text)) refl (leb (length (printed version table text)) room) refl e
     where
       go : (b : Bool) → eqb 0 (rows_fault sheet width true table text) ≡ b → (c : Bool) → leb (length (printed version table text)) room ≡ c
-          → cond b (cond c (Length (length (printed version table text))) (Refused (refusal 96 0))) (Refused (refusal (rows_fault sheet width true table text) 0)) ≡ Length n
+          → cond b (cond c (Ok (length (printed version table text))) (Err (refusal 96 0))) (Err (refusal (rows_fault sheet width true table text) 0)) ≡ Ok n
           → Accepts sheet width version table text room n
       go true y true z e =
           let m : n ≡ length (printed version table text) = cc in
@@ -86,7 +85,7 @@ module _ (sheet : List ℕ) (width version : ℕ) (table text : List ℕ) (room 
   -- ---- the round trip
 
   -- the layout of rows that are accepted reads back
-  tree-reads : (n : ℕ) → Bytes text → version < 65536 → write_layout sheet width version table text room ≡ Length n → Reads (tree_of version table text) text
+  tree-reads : (n : ℕ) → Bytes text → version < 65536 → write_layout sheet width version table text room ≡ Ok n → Reads (tree_of version table text) text
   tree-reads n bytes v e =
       let s = sound table text (accepted n e).whole in
       let t = tree_of version table text in
@@ -94,7 +93,7 @@ module _ (sheet : List ℕ) (width version : ℕ) (table text : List ℕ) (room 
       reads t text (tree-legal table text bytes s version v) l (tree-each table text version s.formed)
 
   -- what is written is read as the layout of its rows, with its places
-  pub reads-tree : (n : ℕ) → Bytes text → version < 65536 → write_layout sheet width version table text room ≡ Length n
+  pub reads-tree : (n : ℕ) → Bytes text → version < 65536 → write_layout sheet width version table text room ≡ Ok n
       → ruled_of sheet width (printed version table text) ≡ ok (locate_layout all_tests D (tree_of version table text)) (length (printed version table text))
   reads-tree n bytes v e =
       let t = tree_of version table text in
@@ -102,7 +101,7 @@ module _ (sheet : List ℕ) (width version : ℕ) (table text : List ℕ) (room 
       rules_still sheet width t ∙ sym (rows_rules_lem sheet width version table text) ∙ (accepted n e).ruled in
       rw (printed-is version table text) (ruled-is sheet width (print_layout all_tests D t) ∙ rw ((tree-reads n bytes v e).accepted, z))
 
-  pub reads-back : (n : ℕ) → Bytes text → version < 65536 → write_layout sheet width version table text room ≡ Length n → ReadsBack sheet width version table text
+  pub reads-back : (n : ℕ) → Bytes text → version < 65536 → write_layout sheet width version table text room ≡ Ok n → ReadsBack sheet width version table text
   reads-back n bytes v e =
       let b = tree-reads n bytes v e in
       let r = tree-rows table text version (sound table text (accepted n e).whole).formed in

@@ -1,22 +1,25 @@
 -- What the writer answers and what it leaves of the output: 90 to 95, then the rules, then 96. Each is about no byte: its place is 0.
 -- Assumes nothing.
-use Rattle.std.specs.Prelude.{true, cond, ℕ, ◌≡◌, List, [], ◌∷◌, ◌++◌, length, drop, leb, eqb}
+use Rattle.std.specs.Prelude.{true, cond, ℕ, ◌≡◌, Result, Ok, Err, List, [], ◌∷◌, ◌++◌, length, drop, leb, eqb}
 use Rattle.codec.specs.Codec.{refusal}
 use Rattle.rules.specs.RowRules.{row_rule_numbers, rows_fault}
 use Rattle.rows_check.specs.Check.{printed}
 use Rattle.rows_check.specs.Tree.{skip}
 use Rattle.rows_check.specs.Sections.{Spans, printed_name, printed_entry, printed_label}
 use Rattle.put.specs.Output.{Wrote}
-use Rattle.writer.specs.declared.Written.{Written}
-use Rattle.writer.specs.declared.Written.TheVariants.{Length, Refused}
+use Rattle.refusal.specs.declared.Refusal.{Refusal}
+
+-- how many bytes were written, or what refuses
+abbrev pub Written : Type 0
+Written = Result ℕ Refusal
 
 -- 90 to 95, then 60 to 83, or x
 abbrev pub ruled : List ℕ → ℕ → List ℕ → List ℕ → Written → Written
-ruled sheet width rows text x = cond (eqb 0 (rows_fault sheet width true rows text)) x (Refused (refusal (rows_fault sheet width true rows text) 0))
+ruled sheet width rows text x = cond (eqb 0 (rows_fault sheet width true rows text)) x (Err (refusal (rows_fault sheet width true rows text) 0))
 
 -- 96, or x
 abbrev pub roomy : List ℕ → ℕ → Written → Written
-roomy bytes room x = cond (leb (length bytes) room) x (Refused (refusal 96 0))
+roomy bytes room x = cond (leb (length bytes) room) x (Err (refusal 96 0))
 
 -- what refuses to write: the rows, their rules, the room
 abbrev pub write_numbers : List ℕ
@@ -25,12 +28,12 @@ write_numbers = row_rule_numbers true ++ (96 ∷ [])
 -- by the sheet, the symbol width, the layout version, the rows with their text, and how long the output is
 unfoldable pub write_layout : List ℕ → ℕ → ℕ → List ℕ → List ℕ → ℕ → Written
 write_layout sheet width version rows text room =
-    ruled sheet width rows text (roomy (printed version rows text) room (Length (length (printed version rows text))))
+    ruled sheet width rows text (roomy (printed version rows text) room (Ok (length (printed version rows text))))
 
 -- the bytes stand at the front of the output, and the rest of it is as it was; a refusal leaves it as it was
 unfoldable pub out_after : Written → List ℕ → List ℕ → List ℕ
-out_after (Length n) bytes out = bytes ++ drop (length bytes) out
-out_after (Refused k) bytes out = out
+out_after (Ok n) bytes out = bytes ++ drop (length bytes) out
+out_after (Err k) bytes out = out
 
 -- what writing answers and leaves
 pub record Writes (sheet : List ℕ) (width version : ℕ) (rows text out out' : List ℕ) (r : Written) : Type 0 where
@@ -54,5 +57,5 @@ pub record TextsInside (kind : ℕ) (rows text : List ℕ) (q n : ℕ) : Type 0 
 
 -- 0 for a written layout
 abbrev pub written_number : Written → ℕ
-written_number (Length n) = 0
-written_number (Refused e) = e.number
+written_number (Ok n) = 0
+written_number (Err e) = e.number

@@ -33,10 +33,7 @@ pub(crate) fn entry_of(rows: &[u32], q: usize) -> [u8; 11]
 pub(crate) fn has_fields(kind: usize) -> bool
     ensures { result ≡ has_fields kind }
 {
-    if kind == kinds::RECORD {
-        return true;
-    }
-    kind == kinds::STRUCT
+    kind == kinds::RECORD || kind == kinds::STRUCT
 }
 
 // How many fields or labels the section at row q has.

@@ -65,12 +65,8 @@ fn put_parts(
     ensures { Wrote at (many after (printed_part kind rows.now text.now) q n) out.old out.new result }
 {
     let mut a = at;
-    let mut p = q;
-    let mut todo = n;
-    while 0 < todo {
+    for p in q..q + n {
         a = put_part(kind, out, a, rows, text, p);
-        p += 1;
-        todo -= 1;
     }
     a
 }

@@ -7,7 +7,7 @@ ghost use Rattle.put.specs.Output.{RoomFor, Wrote, Filled};
 ghost use Rattle.writer.specs.Write.{WroteSections};
 
 use super::{cells, parts};
-use rows_check::kinds;
+use rows_check::{Size, kinds};
 
 // The place after what was written, and the row after what was read.
 #[derive(Clone, Copy)]
@@ -22,11 +22,9 @@ pub(crate) fn put_layout(
     version: usize,
     rows: &[u32],
     text: &[u8],
-    r: usize,
-    s: usize,
-    l: usize,
+    size: Size,
 ) -> usize
-    requires counts { (r ≡ kinds rows.now 10) × ((s ≡ kinds rows.now 13) × (l ≡ kinds rows.now 14)) }
+    requires counts { (size.records ≡ kinds rows.now 10) × ((size.structs ≡ kinds rows.now 13) × (size.labels ≡ kinds rows.now 14)) }
     requires sections { Sections 10 rows.now text.now 0 (kinds rows.now 10) }
     requires struct_sections { Sections 13 rows.now text.now (structs_from rows.now) (kinds rows.now 13) }
     requires label_sections { Sections 14 rows.now text.now (labels_from rows.now) (kinds rows.now 14) }
@@ -34,9 +32,9 @@ pub(crate) fn put_layout(
     ensures { Filled (printed version rows.now text.now) out.old out.new result }
 {
     let a = put::put_little(out, 0, version, 2);
-    let g = put_group(kinds::RECORD, out, a, rows, text, 0, r);
-    let h = put_group(kinds::STRUCT, out, g.at, rows, text, g.row, s);
-    let i = put_group(kinds::LABEL_DEF, out, h.at, rows, text, h.row, l);
+    let g = put_group(kinds::RECORD, out, a, rows, text, 0, size.records);
+    let h = put_group(kinds::STRUCT, out, g.at, rows, text, g.row, size.structs);
+    let i = put_group(kinds::LABEL_DEF, out, h.at, rows, text, h.row, size.labels);
     i.at
 }
 
@@ -73,11 +71,9 @@ fn put_sections(
 {
     let mut a = at;
     let mut p = q;
-    let mut todo = k;
-    while 0 < todo {
+    for _ in 0..k {
         a = put_section(kind, out, a, rows, text, p);
         p = cells::next_row(kind, rows, p);
-        todo -= 1;
     }
     Placed { at: a, row: p }
 }

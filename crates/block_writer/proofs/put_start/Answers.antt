@@ -4,7 +4,6 @@ use mathlib.Core.Path.{refl}
 use Rattle.put.specs.OutputLaws.{wrote-length, left-start, left-room, left_step, left_stored, left-all, left-rest}
 use Rattle.block_writer.specs.PutLaws.{dataset-found, header-whole}
 use Rattle.block_writer.proofs.StartLaws.{start-fields, start-parts, layout-ready, names-given}
-use borrow.Author.Rules.{rules}
 use Rattle.block_writer.proofs.put_start.Goals as goal
 
 pub put_prelude-a-requires : goal.put_prelude-a-requires

@@ -1,7 +1,7 @@
 -- Each of the sixteen is what its function gives.
 -- Assumes nothing.
+use Rattle.std.proofs.Common.{rules}
 use Rattle.c_answer.specs.Numbers.{fields_out}
-use borrow.Author.Rules.{rules}
 use Rattle.c_answer.proofs.fields_out.Goals as goal
 
 pub returns : goal.returns

@@ -3,5 +3,5 @@
 use borrow.Author.Rules.{rules}
 use Rattle.c_texts.proofs.put_answer.Goals as goal
 
-pub returns-in-Has : goal.returns-in-Has
-returns-in-Has c = let e = c.in-Has.is in (simp e, simp e)
+pub returns-in-Some : goal.returns-in-Some
+returns-in-Some c = let e = c.in-Some.is in (simp e, simp e)

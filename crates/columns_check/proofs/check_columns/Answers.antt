@@ -1,10 +1,8 @@
 -- The tests, one after the other; where the lists end is known from three runs.
 -- Assumes nothing.
 use mathlib.Core.Path.{sym, ◌∙◌}
-use borrow.Author.Tests.{not-true, not-false}
 use native.Mathlib.Omega.{arith}
 use Rattle.columns_check.proofs.AnswerLaws.{too_many, too_large, unfit, formed, ends, malformed, wide, rows}
-use borrow.Author.Rules.{rules}
 use Rattle.columns_check.proofs.check_columns.Goals as goal
 
 pub returns-then-table-count : goal.returns-then-table-count

@@ -5,7 +5,6 @@ use native.Mathlib.Omega.{arith}
 use borrow.Author.Tests.{lt-ltb, le-ltb}
 use Rattle.dates.specs.Day.{days_before, days_of_year, is_day_number, date_on, date_of_day}
 use Rattle.dates.specs.DayLaws.{all_days}
-use borrow.Author.Rules.{rules}
 use Rattle.dates.proofs.date_of_day.Goals as goal
 
 pub returns-then-day-gt3652424 : goal.returns-then-day-gt3652424

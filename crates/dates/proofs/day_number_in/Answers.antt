@@ -1,7 +1,6 @@
 -- The days before the month, and those before the day in it. Assumes nothing.
 use native.Mathlib.Omega.{arith}
 use Rattle.dates.specs.Months.{day_in}
-use borrow.Author.Rules.{rules}
 use Rattle.dates.proofs.day_number_in.Goals as goal
 
 pub overflow_cast-first : goal.overflow_cast-first

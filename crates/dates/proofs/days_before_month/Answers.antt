@@ -5,7 +5,6 @@ use Prim.Native.Nat.{ℕ, ◌+◌, ◌*◌, ◌-◌, ◌/◌}
 use native.Mathlib.Omega.{arith}
 use Rattle.dates.specs.DayLaws.{month-past, leap_most}
 use Rattle.dates.proofs.Days.{early, late}
-use borrow.Author.Rules.{rules}
 use Rattle.dates.proofs.days_before_month.Goals as goal
 
 pub returns-then-m-lt3 : goal.returns-then-m-lt3

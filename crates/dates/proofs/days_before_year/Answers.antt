@@ -2,7 +2,6 @@
 -- Assumes nothing.
 use native.Mathlib.Omega.{arith}
 use Rattle.dates.specs.DayLaws.{multiples, year-before}
-use borrow.Author.Rules.{rules}
 use Rattle.dates.proofs.days_before_year.Goals as goal
 
 pub returns : goal.returns

@@ -1,11 +1,9 @@
 -- By the entry, where that is of this month; by what is put into an empty place; else by the calendar. Assumes nothing.
-use native.Mathlib.Omega.{arith}
 use Prim.Native.Nat.{ℕ, ◌/◌}
 use mathlib.Core.Path.{sym, ap, ◌∙◌}
 use borrow.Author.Tests.{eq-eqb, ne_eqb}
 use Rattle.dates.specs.Months.{word_in, months_tested}
 use Rattle.dates.specs.MonthLaws.{word_days, tested_known}
-use borrow.Author.Rules.{rules}
 use Rattle.dates.proofs.days_known.Goals as goal
 
 pub returns-then-known-month : goal.returns-then-known-month

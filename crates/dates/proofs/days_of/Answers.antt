@@ -2,7 +2,6 @@
 -- Assumes nothing.
 use borrow.Author.Tests.{le-leb, lt-leb}
 use Rattle.dates.specs.Months.{days_of}
-use borrow.Author.Rules.{rules}
 use Rattle.dates.proofs.days_of.Goals as goal
 
 pub returns-then-y-gt9999 : goal.returns-then-y-gt9999

@@ -4,7 +4,6 @@ use mathlib.Core.Path.{sym}
 use native.Mathlib.Omega.{arith}
 use Rattle.dates.specs.Day.{in_year}
 use Rattle.dates.specs.DayLaws.{month-most}
-use borrow.Author.Rules.{rules}
 use Rattle.dates.proofs.in_year.Goals as goal
 
 pub overflow_sub-result : goal.overflow_sub-result

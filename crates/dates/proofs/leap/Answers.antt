@@ -8,6 +8,6 @@ pub returns-then-y-eq0 : goal.returns-then-y-eq0
 unfolding is_leap
 returns-then-y-eq0 c = simp (eq-eqb _ _ c.if-y-eq0.true)
 
-pub returns : goal.returns
+pub returns-else-y-eq0 : goal.returns-else-y-eq0
 unfolding is_leap
-returns c = simp (ne_eqb _ _ c.if-y-eq0.false)
+returns-else-y-eq0 c = simp (ne_eqb _ _ c.if-y-eq0.false)

@@ -1,14 +1,10 @@
 -- A leap year has a day more.
 -- Assumes nothing.
-use mathlib.Core.Path.{sym, ◌∙◌}
+use Rattle.codec.specs.CaseLaws.{by_bool}
+use Rattle.dates.specs.Date.{is_leap}
 use Rattle.dates.specs.DayLaws.{leap_day}
-use borrow.Author.Rules.{rules}
 use Rattle.dates.proofs.leap_day.Goals as goal
 
-pub returns-then-leap : goal.returns-then-leap
+pub returns : goal.returns
 unfolding leap_day
-returns-then-leap c = rw (sym c.leap.ensures ∙ c.if-leap.true)
-
-pub returns-else-leap : goal.returns-else-leap
-unfolding leap_day
-returns-else-leap c = rw (sym c.leap.ensures ∙ c.if-leap.false)
+returns c = by_bool (is_leap c.args.y) (λ e. rw (c.from.ensures, c.leap.ensures, e)) (λ e. rw (c.from.ensures, c.leap.ensures, e))

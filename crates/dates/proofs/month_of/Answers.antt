@@ -3,7 +3,6 @@
 use Prim.Native.Nat.{ℕ, ◌≤◌, ◌<◌}
 use mathlib.Core.Path.{subst}
 use Rattle.dates.proofs.Days.{month-right, month-one-more}
-use borrow.Author.Rules.{rules}
 use Rattle.dates.proofs.month_of.Goals as goal
 
 pub returns-then-days_before_month-k : goal.returns-then-days_before_month-k

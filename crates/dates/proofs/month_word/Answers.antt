@@ -6,7 +6,6 @@ use Rattle.dates.specs.Day.{days_to}
 use Rattle.dates.specs.Months.{month_word}
 use Rattle.dates.specs.MonthLaws.{days_most}
 use Rattle.dates.specs.DayLaws.{year-most, month-below}
-use borrow.Author.Rules.{rules}
 use Rattle.dates.proofs.month_word.Goals as goal
 
 pub overflow_add-first : goal.overflow_add-first

@@ -6,7 +6,6 @@ use lib.ListN.{set}
 use borrow.Author.Tests.{eq-eqb, ne_eqb}
 use Rattle.dates.specs.Months.{word_in, months_after}
 use Rattle.dates.specs.MonthLaws.{word_below}
-use borrow.Author.Rules.{rules}
 use Rattle.dates.proofs.word_in.Goals as goal
 
 pub returns-then-entry-month : goal.returns-then-entry-month

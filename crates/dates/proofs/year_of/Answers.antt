@@ -3,7 +3,6 @@
 use Prim.Native.Nat.{ℕ, ◌≤◌, ◌<◌}
 use mathlib.Core.Path.{subst}
 use Rattle.dates.proofs.Days.{year-right, year-one_less, year-one-more}
-use borrow.Author.Rules.{rules}
 use Rattle.dates.proofs.year_of.Goals as goal
 
 pub overflow_sub-result : goal.overflow_sub-result

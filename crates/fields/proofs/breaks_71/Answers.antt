@@ -1,8 +1,13 @@
--- The two tests are those of the rule. Assumes nothing.
-use borrow.Author.Rules.{rules}
+-- By the first test. Assumes nothing.
+use mathlib.Core.Path.{sym, ap, ◌∙◌}
+use mathlib.Core.Bool.{not}
 use Rattle.fields.specs.Field.{breaks71}
 use Rattle.fields.proofs.breaks_71.Goals as goal
 
-pub returns : goal.returns
+pub returns-then-not-is_padding : goal.returns-then-not-is_padding
 unfolding breaks71
-returns c = rw (c.both.ensures, c.is_padding.ensures)
+returns-then-not-is_padding c = rw (sym c.is_padding.ensures ∙ c.if-not-is_padding.true)
+
+pub returns-else-not-is_padding : goal.returns-else-not-is_padding
+unfolding breaks71
+returns-else-not-is_padding c = rw (sym c.is_padding.ensures ∙ c.if-not-is_padding.false) (ap not c.if-not-is_padding.false)

@@ -1,8 +1,12 @@
--- The two tests are those of the rule. Assumes nothing.
+-- By the first test. Assumes nothing.
+use mathlib.Core.Path.{sym, ◌∙◌}
 use Rattle.fields.specs.Field.{breaks76}
-use borrow.Author.Rules.{rules}
 use Rattle.fields.proofs.breaks_76.Goals as goal
 
-pub returns : goal.returns
+pub returns-then-is_decimal : goal.returns-then-is_decimal
 unfolding breaks76
-returns c = rw (c.both.ensures, c.is_decimal.ensures)
+returns-then-is_decimal c = rw (sym c.is_decimal.ensures ∙ c.if-is_decimal.true)
+
+pub returns-else-is_decimal : goal.returns-else-is_decimal
+unfolding breaks76
+returns-else-is_decimal c = rw (sym c.is_decimal.ensures ∙ c.if-is_decimal.false) c.if-is_decimal.false

@@ -1,8 +1,12 @@
--- The two tests are those of the rule. Assumes nothing.
+-- By the first test. Assumes nothing.
+use mathlib.Core.Path.{sym, ◌∙◌}
 use Rattle.fields.specs.Field.{breaks77}
-use borrow.Author.Rules.{rules}
 use Rattle.fields.proofs.breaks_77.Goals as goal
 
-pub returns : goal.returns
+pub returns-then-is_symbol : goal.returns-then-is_symbol
 unfolding breaks77
-returns c = rw (c.both.ensures, c.size_of.ensures.0, c.is_symbol.ensures)
+returns-then-is_symbol c = rw (c.size_of.ensures.0, sym c.is_symbol.ensures ∙ c.if-is_symbol.true)
+
+pub returns-else-is_symbol : goal.returns-else-is_symbol
+unfolding breaks77
+returns-else-is_symbol c = rw (sym c.is_symbol.ensures ∙ c.if-is_symbol.false) c.if-is_symbol.false

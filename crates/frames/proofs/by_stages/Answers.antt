@@ -1,6 +1,5 @@
 -- Two pours and the verdict: the law `framed`.
 -- Assumes nothing.
-use borrow.Author.Rules.{rules}
 use native.Mathlib.Omega.{arith}
 use Rattle.held.proofs.StageLaws.{pour_fits, two_pours}
 use Rattle.frames.specs.Frames.{frame}

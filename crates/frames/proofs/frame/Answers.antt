@@ -1,21 +1,19 @@
 -- A whole frame in the piece is taken at once; any other state goes by stages.
 -- Assumes nothing.
-use borrow.Author.Rules.{rules}
-use native.Mathlib.Omega.{arith}
-use mathlib.Core.Path.{sym, subst, ◌∙◌}
-use lib.ListN.{length}
-use Rattle.frames.proofs.AtOnceLaws.{AtOnce, at_once, put-at-once}
+use Rattle.std.specs.Prelude.{length}
+use Rattle.std.proofs.Common.{arith, sym, ◌∙◌}
+use Rattle.frames.proofs.AtOnceLaws.{at_once, put-at-once}
 use Rattle.frames.proofs.FramingLaws.{framed-at-once}
 use Rattle.frames.proofs.frame.Goals as goal
 
 pub bounds-piece-1 : goal.bounds-piece-1
 bounds-piece-1 c =
-    let o = at_once (length c.args.store.now) c.args.piece.now (omega (arith, c.whole_in-len.ensures)) in
+    let o = at_once (length c.args.store.now) c.args.piece.now (sym c.whole_in.ensures ∙ c.in-Some.is) in
     omega (arith, o.long, o.there)
 
-pub returns-then-len-gt0 : goal.returns-then-len-gt0
-returns-then-len-gt0 c =
+pub returns-in-Some : goal.returns-in-Some
+returns-in-Some c =
     let st = c.args.store.now in
     let p = c.args.piece.now in
-    let o : AtOnce (length st) p c.whole_in-len.result = subst (AtOnce (length st) p) (sym c.whole_in-len.ensures) (at_once (length st) p (omega (arith, c.whole_in-len.ensures))) in
-    framed-at-once c.args.state.held st p c.whole_in-len.result c.pour-taken.result _ (omega arith) o (c.pour-taken.ensures.0 ∙ put-at-once st p c.whole_in-len.result o) c.pour-taken.ensures.1
+    let o = at_once (length st) p (sym c.whole_in.ensures ∙ c.in-Some.is) in
+    framed-at-once c.args.state.held st p _ c.pour-taken.result _ (omega arith) o (c.pour-taken.ensures.0 ∙ put-at-once st p _ o) c.pour-taken.ensures.1

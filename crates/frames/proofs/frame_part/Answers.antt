@@ -1,6 +1,5 @@
 -- Past the store's end there is nothing more to take.
 -- Assumes nothing.
-use borrow.Author.Rules.{rules}
 use native.Mathlib.Omega.{arith}
 use mathlib.Core.Path.{sym}
 use lib.Seq.{take_all, length-take-le}

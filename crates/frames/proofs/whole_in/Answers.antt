@@ -1,28 +1,22 @@
 -- Each way out is a law at the tests that led there.
 -- Assumes nothing.
-use borrow.Author.Rules.{rules}
-use native.Mathlib.Omega.{arith}
-use mathlib.Core.Path.{sym}
+use Rattle.std.proofs.Common.{arith, sym}
 use Rattle.frames.proofs.AtOnceLaws.{none-header, none-length, none-frame, none-room, some-frame}
 use Rattle.frames.proofs.whole_in.Goals as goal
+use Rattle.frames.proofs.whole_in.Goals.{then-len-lt-RECORD_HEADER_LEN-via-then-len-lt-RECORD_HEADER_LEN, then-len-lt-RECORD_HEADER_LEN-via-else-len-lt-RECORD_HEADER_LEN+then-there-len, then-len-lt-RECORD_HEADER_LEN-via-else-len-lt-RECORD_HEADER_LEN+else-there-len+then-room-len}
 
 pub returns-then-there-lt-RECORD_HEADER_LEN : goal.returns-then-there-lt-RECORD_HEADER_LEN
 returns-then-there-lt-RECORD_HEADER_LEN c = sym (none-header c.args.room c.args.piece.now (omega arith))
 
-pub overflow_cast-len : goal.overflow_cast-len
-overflow_cast-len c = omega (arith, c.shared_slice_known-1.given 0)
-
-pub overflow_mul-len : goal.overflow_mul-len
-overflow_mul-len c = omega (arith, c.shared_slice_known-1.given 0)
-
 pub returns-then-len-lt-RECORD_HEADER_LEN : goal.returns-then-len-lt-RECORD_HEADER_LEN
-returns-then-len-lt-RECORD_HEADER_LEN c = sym (none-length c.args.room c.args.piece.now (omega arith) (omega arith))
-
-pub returns-then-there-len : goal.returns-then-there-len
-returns-then-there-len c = sym (none-frame c.args.room c.args.piece.now (omega arith) (omega arith) (omega arith))
-
-pub returns-then-room-len : goal.returns-then-room-len
-returns-then-room-len c = sym (none-room c.args.room c.args.piece.now (omega arith) (omega arith) (omega arith) (omega arith))
+returns-then-len-lt-RECORD_HEADER_LEN c =
+    let n = c.args.room in
+    let p = c.args.piece.now in
+    elim c.then-len-lt-RECORD_HEADER_LEN.branch [
+      | then-len-lt-RECORD_HEADER_LEN-via-then-len-lt-RECORD_HEADER_LEN w ↦ sym (none-length n p (omega arith) (omega arith))
+      | then-len-lt-RECORD_HEADER_LEN-via-else-len-lt-RECORD_HEADER_LEN+then-there-len w ↦ sym (none-frame n p (omega arith) (omega arith) (omega arith))
+      | then-len-lt-RECORD_HEADER_LEN-via-else-len-lt-RECORD_HEADER_LEN+else-there-len+then-room-len w ↦ sym (none-room n p (omega arith) (omega arith) (omega arith) (omega arith))
+    ]
 
 pub returns : goal.returns
 returns c = sym (some-frame c.args.room c.args.piece.now (omega arith) (omega arith) (omega arith) (omega arith))

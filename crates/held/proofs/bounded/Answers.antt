@@ -1,6 +1,5 @@
 -- Each way out is a law of the bounds at the tests that led there.
 -- Assumes nothing.
-use borrow.Author.Rules.{rules}
 use native.Mathlib.Omega.{arith}
 use mathlib.Core.Path.{sym, ◌∙◌}
 use Rattle.held.proofs.StageLaws.{bounded-short, bounded_beyond, bounded-rest, bounded-whole}

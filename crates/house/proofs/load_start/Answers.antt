@@ -1,15 +1,15 @@
 -- The file, then a feed of nothing after what it held. Assumes nothing.
-use native.Mathlib.Omega.{arith}
+use Rattle.std.proofs.Common.{arith}
+use Rattle.codec.specs.Telling.{handed_on}
 use Rattle.house.specs.StartLaws.{load_refused, load_held}
 use Rattle.house_file.specs.LengthLaws.{unpack_length}
-use borrow.Author.Rules.{rules}
 use Rattle.house.proofs.load_start.Goals as goal
 
-pub shape_of-store-in-Refused : goal.shape_of-store-in-Refused
-shape_of-store-in-Refused c = unpack_length c.unpack.ensures
+pub shape_of-store-in_err-len : goal.shape_of-store-in_err-len
+shape_of-store-in_err-len c = unpack_length c.unpack.ensures
 
-pub returns-in-Refused : goal.returns-in-Refused
-returns-in-Refused c = load_refused c.unpack.ensures c.in-Refused.is
+pub returns-in_err-len : goal.returns-in_err-len
+returns-in_err-len c = rw (handed_on c.from_residual.ensures) (load_refused c.unpack.ensures c.in_err-len.was)
 
-pub returns-in-Payload : goal.returns-in-Payload
-returns-in-Payload c = load_held c.unpack.ensures c.in-Payload.is (omega arith) c.feed-fed.ensures
+pub returns : goal.returns
+returns c = load_held c.unpack.ensures c.in_ok-len.was (omega arith) c.feed-fed.ensures

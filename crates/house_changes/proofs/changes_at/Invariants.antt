@@ -3,6 +3,3 @@ use Rattle.house_changes.proofs.changes_at.Given as goal
 
 abbrev pub invariant-loop-by : goal.invariant-loop-by
 invariant-loop-by l = l.at < length l.file
-
-abbrev pub decreases-loop-by : goal.decreases-loop-by
-decreases-loop-by l = l.by

@@ -1,5 +1,4 @@
 -- In rows, or in a layout's bytes. Assumes nothing.
-use borrow.Author.Rules.{rules}
 use Rattle.item_rules.proofs.check_items.Goals as goal
 
 pub returns-then-in_rows : goal.returns-then-in_rows

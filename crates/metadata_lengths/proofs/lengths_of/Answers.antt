@@ -1,16 +1,17 @@
 -- One row for each version. Assumes nothing.
-use borrow.Author.Tests.{eq-eqb, ne_eqb}
+use Rattle.std.proofs.Common.{arith}
+use Rattle.std.proofs.lemmas.Bool.{eq-eqb, ne_eqb}
 use Rattle.metadata_lengths.specs.Lengths.{lengths}
 use Rattle.metadata_lengths.proofs.lengths_of.Goals as goal
 
-pub returns-then-version-eq1 : goal.returns-then-version-eq1
+pub returns-in-1 : goal.returns-in-1
 unfolding lengths
-returns-then-version-eq1 c = rw (eq-eqb _ 1 c.if-version-eq1.true)
+returns-in-1 c = rw c.in-1.is
 
-pub returns-then-version-eq4 : goal.returns-then-version-eq4
+pub returns-in-4 : goal.returns-in-4
 unfolding lengths
-returns-then-version-eq4 c = rw (ne_eqb _ 1 c.if-version-eq1.false, eq-eqb _ 4 c.if-version-eq4.true)
+returns-in-4 c = rw c.in-4.is
 
-pub returns : goal.returns
+pub returns-in_default : goal.returns-in_default
 unfolding lengths
-returns c = rw (ne_eqb _ 1 c.if-version-eq1.false, ne_eqb _ 4 c.if-version-eq4.false)
+returns-in_default c = rw (ne_eqb c.args.version 1 (omega (arith, c.in_default)), ne_eqb c.args.version 4 (omega (arith, c.in_default)))

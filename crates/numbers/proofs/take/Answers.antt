@@ -10,8 +10,5 @@ use Rattle.numbers.proofs.take.Goals as goal
 pub returns-then-n-s : goal.returns-then-n-s
 returns-then-n-s c = (sym (take-ok _ _ _ _ (omega arith)), past-mk (omega arith) (omega arith) (omega arith))
 
-pub returns-else-n-s : goal.returns-else-n-s
-returns-else-n-s c = (sym (take_no _ _ _ _ (omega arith)), refused)
-
-pub returns-else-at-s : goal.returns-else-at-s
-returns-else-at-s c = (sym (take_no _ _ _ _ (omega arith)), refused)
+pub returns : goal.returns
+returns c = (sym (take_no _ _ _ _ (omega arith)), refused)

@@ -10,7 +10,6 @@ use Rattle.padded.proofs.PaddedLaws.{trimmed-no_nul}
 use Rattle.padded.specs.PaddedAnswer.{told}
 use Rattle.padded.specs.PaddedAnswerLaws.{padded-ascii}
 use Rattle.text.specs.TrimLaws.{trimmed-le}
-use borrow.Author.Rules.{rules}
 use Rattle.padded.proofs.check_padded.Goals as goal
 
 pub returns-then-is_padded_ascii : goal.returns-then-is_padded_ascii

@@ -1,11 +1,7 @@
 -- `good_pairs` meets its contract: what was looked at, and what is left of the n, tell the same.
 -- Assumes nothing.
-use Prim.Native.Nat.{◌+◌, ◌-◌, ◌≤◌}
-use mathlib.Core.Path.{◌≡◌, sym, ◌∙◌}
-use mathlib.Core.Bool.{◌&&◌}
+use mathlib.Core.Path.{sym, ◌∙◌}
 use native.Mathlib.Nat.{add-zero, sub-zero}
-use lib.ListN.{drop}
-use Rattle.padded.specs.Pairs.{good_pairs}
 use Rattle.padded.proofs.PaddedWalk.{pairs_one, pairs_none}
 use borrow.Author.Rules.{rules}
 use Rattle.padded.proofs.good_pairs.Goals as goal

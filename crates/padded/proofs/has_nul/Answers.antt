@@ -1,18 +1,14 @@
 -- `has_nul` meets its contract: what was found, and what is left, tell the same. Assumes nothing.
-use Prim.Native.Nat.{◌-◌, ◌≤◌}
-use mathlib.Core.Path.{◌≡◌, refl, sym, ◌∙◌}
-use mathlib.Core.Bool.{◌||◌}
-use lib.ListN.{length, drop}
-use Rattle.codec.specs.Codec.{among}
+use mathlib.Core.Path.{refl, sym, ◌∙◌}
 use Rattle.padded.proofs.PaddedWalk.{nul_next, nul_end}
 use borrow.Author.Rules.{rules}
 use Rattle.padded.proofs.has_nul.Goals as goal
 
-pub loop-j-init : goal.loop-j-init
-loop-j-init c = (search rules, refl)
+pub loop-b-init : goal.loop-b-init
+loop-b-init c = (search rules, refl)
 
-pub loop-j-preserved : goal.loop-j-preserved
-loop-j-preserved c = (search rules, c.loop-j.invariant.1 ∙ nul_next c.loop-j.found c.args.s.now c.loop-j.j (search rules))
+pub loop-b-preserved : goal.loop-b-preserved
+loop-b-preserved c = (search rules, c.loop-b.invariant.1 ∙ nul_next c.loop-b.found c.args.s.now c.loop-b.b-index (search rules))
 
 pub returns : goal.returns
-returns c = sym (c.loop-j.invariant.1 ∙ nul_end c.loop-j.found c.args.s.now c.loop-j.j (search rules))
+returns c = sym (c.loop-b.invariant.1 ∙ nul_end c.loop-b.found c.args.s.now c.loop-b.b-index (search rules))

@@ -1,11 +1,10 @@
 -- `is_padded_ascii` meets its contract. The loop keeps: the i bytes after the first are good; the last sixteen tell the rest.
 -- Assumes nothing.
-use Prim.Native.Nat.{◌-◌, ◌≤◌}
+use Prim.Native.Nat.{◌-◌}
 use mathlib.Core.Path.{sym, ◌∙◌}
 use native.Mathlib.Omega.{arith}
 use lib.ListN.{length}
-use borrow.Author.Tests.{not-true, not-false}
-use Rattle.padded.proofs.PaddedWalk.{pairs_empty, pairs_whole, text-high, text-low, Walked, walked_none, walked_next, walked_miss, walked-last}
+use Rattle.padded.proofs.PaddedWalk.{pairs_empty, pairs_whole, text-high, text-low, walked_none, walked_next, walked_miss, walked-last}
 use borrow.Author.Rules.{rules}
 use Rattle.padded.proofs.is_padded_ascii.Goals as goal
 

@@ -1,11 +1,7 @@
 -- `eight` meets its contract: what was looked at, and what is left of the eight, tell the same.
 -- Assumes nothing.
-use Prim.Native.Nat.{◌+◌, ◌-◌, ◌≤◌}
-use mathlib.Core.Path.{◌≡◌, sym, ◌∙◌}
-use mathlib.Core.Bool.{◌&&◌}
+use mathlib.Core.Path.{sym, ◌∙◌}
 use native.Mathlib.Nat.{add-zero, sub-zero}
-use lib.ListN.{take, drop}
-use Rattle.plain_text.specs.Plain.{plain}
 use Rattle.plain_text.proofs.Eights.{eight_one, eight_none}
 use borrow.Author.Rules.{rules}
 use Rattle.plain_text.proofs.eight.Goals as goal

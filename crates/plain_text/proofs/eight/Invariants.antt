@@ -1,13 +1,10 @@
 -- `eight` meets its contract: what was looked at, and what is left of the eight, tell the same.
 -- Assumes nothing.
 use Prim.Native.Nat.{◌+◌, ◌-◌, ◌≤◌}
-use mathlib.Core.Path.{◌≡◌, sym, ◌∙◌}
+use mathlib.Core.Path.{◌≡◌}
 use mathlib.Core.Bool.{◌&&◌}
-use native.Mathlib.Nat.{add-zero, sub-zero}
 use lib.ListN.{take, drop}
 use Rattle.plain_text.specs.Plain.{plain}
-use Rattle.plain_text.proofs.Eights.{eight_one, eight_none}
-use borrow.Author.Rules.{rules}
 use Rattle.plain_text.proofs.eight.Given as goal
 
 abbrev pub invariant-loop-j : goal.invariant-loop-j

@@ -1,12 +1,8 @@
 -- `is_plain` meets its contract: what is left tells the same; the last eight bytes tell of what is left, if anything.
 -- Assumes nothing.
-use Prim.Native.Nat.{◌-◌}
 use mathlib.Core.Path.{refl, sym, ◌∙◌}
 use native.Mathlib.Omega.{arith}
-use lib.ListN.{length}
-use borrow.Author.Tests.{not-true, not-false}
-use Rattle.text.specs.AllLaws.{Scan, scan_end}
-use Rattle.plain_text.specs.Plain.{plain_byte}
+use Rattle.text.specs.AllLaws.{scan_end}
 use Rattle.plain_text.proofs.Eights.{eight_miss, eight_next, last_eight}
 use borrow.Author.Rules.{rules}
 use Rattle.plain_text.proofs.is_plain.Goals as goal

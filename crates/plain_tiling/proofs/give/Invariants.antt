@@ -1,16 +1,7 @@
--- The invariant: giving what is left of the places gives the same. Assumes nothing.
-use Prim.Native.Nat.{◌-◌, min}
-use mathlib.Core.Path.{◌≡◌, refl, sym, ◌∙◌}
-use lib.ListN.{length, length-set}
-use native.Mathlib.Omega.{arith}
+-- What is left of the places says what all say. Assumes nothing.
+use Rattle.std.specs.Prelude.{◌-◌, ◌≡◌}
 use Rattle.plain_tiling.specs.Plain.{paint}
-use Rattle.plain_tiling.proofs.Loops.{paint-on, paint-end}
-use borrow.Author.Rules.{rules}
 use Rattle.plain_tiling.proofs.give.Given as goal
 
 abbrev pub invariant-loop-p : goal.invariant-loop-p
-invariant-loop-p l =
-    (length l.owners ≡ length l.initial.owners) × (l.end ≡ min l.z (length l.owners)) × (paint l.initial.owners l.a (l.z - l.a) l.owner ≡ paint l.owners l.p (l.z - l.p) l.owner)
-
-abbrev pub decreases-loop-p : goal.decreases-loop-p
-decreases-loop-p l = l.z - l.p
+invariant-loop-p l = paint l.initial.owners l.fn.a (l.fn.z - l.fn.a) l.owner ≡ paint l.owners l.p (l.fn.z - l.p) l.owner

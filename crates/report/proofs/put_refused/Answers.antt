@@ -1,21 +1,13 @@
--- The invariant: the lines of the numbers that are left are still to be stored.
+-- The lines of the numbers that are left are still to be stored.
 -- Assumes nothing.
-use Rattle.put.specs.OutputLaws.{left-start}
 use Rattle.report.proofs.PartLaws.{number-room, number-wrote, numbers-done}
-use borrow.Author.Rules.{rules}
 use Rattle.report.proofs.put_refused.Goals as goal
 
-pub loop-left-init : goal.loop-left-init
-loop-left-init c = (search rules, left-start c.requires)
-
 pub put_number-a-requires : goal.put_number-a-requires
-put_number-a-requires c = number-room _ 256 _ c.loop-left.invariant.1 c.loop-left-test.true c.loop-left.invariant.0
+put_number-a-requires c = number-room _ c.loop-number.number 256 c.loop-number.invariant c.loop-number-test.true
 
-pub loop-left-preserved : goal.loop-left-preserved
-loop-left-preserved c = (search rules, number-wrote _ 256 _ c.loop-left.invariant.1 c.loop-left-test.true c.loop-left.invariant.0 c.put_number-a.ensures)
-
-pub shape_of-out : goal.shape_of-out
-shape_of-out c = c.loop-left.invariant.1.long
+pub loop-number-preserved : goal.loop-number-preserved
+loop-number-preserved c = number-wrote _ c.loop-number.number 256 c.loop-number.invariant c.loop-number-test.true c.put_number-a.ensures
 
 pub returns : goal.returns
-returns c = numbers-done _ 256 _ c.loop-left.invariant.1 c.loop-left-test.false
+returns c = numbers-done _ c.loop-number.number 256 c.loop-number.invariant c.loop-number-test.false

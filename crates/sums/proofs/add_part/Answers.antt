@@ -1,48 +1,27 @@
--- The invariant: what is left to add. The sums stay small, since no more than 508 bytes are added.
--- Assumes nothing.
-use Prim.Native.Nat.{◌+◌, ◌-◌}
-use native.Mathlib.Omega.{arith}
-use mathlib.Core.Path.{◌∙◌}
-use lib.ListN.{length}
-use Rattle.sums.proofs.PartLaws.{Adding, adding_start, adding_two, adding_one, adding_none}
-use borrow.Author.Rules.{rules}
+-- Pair by pair, and the odd byte. Assumes nothing.
+use Rattle.std.proofs.Common.{arith, ap, ◌∙◌, ◌≡◌, ◌+◌, ◌*◌, ◌/◌, ◌%◌, ◌<◌, sym, length, get_or}
+use Rattle.sums.proofs.PartLaws.{adding_two, adding_one, adding_none, pair-low, pair-high, odd-byte}
 use Rattle.sums.proofs.add_part.Goals as goal
 
-pub loop-j-init : goal.loop-j-init
-loop-j-init c = adding_start _ _ _ c.requires.0 c.requires.1
+pub loop-pair-preserved : goal.loop-pair-preserved
+loop-pair-preserved c =
+    let s = c.args.s.now in
+    let i = c.loop-pair.pair-index in
+    let h : i < length s / 2 = omega (arith, c.as_chunks.ensures.front_len, c.loop-pair-test.true) in
+    let step : 2 * (i + 1) ≡ 2 * i + 2 = omega arith in
+    rw (step, pair-low (length s / 2) i s h c.as_chunks.ensures.front, pair-high (length s / 2) i s h c.as_chunks.ensures.front)
+    (adding_two c.loop-pair.invariant (omega (arith, c.type_inv.s (2 * i))) (omega (arith, c.type_inv.s (2 * i + 1))) (omega (arith, c.requires.2)) (omega arith))
 
-pub overflow_cast-w : goal.overflow_cast-w
-overflow_cast-w c = omega (arith, c.shared_slice_known-in-loop-j-1.given c.loop-j.j)
+pub returns-in-Some : goal.returns-in-Some
+returns-in-Some c =
+    let s = c.args.s.now in
+    let item = c.in-Some.ensures.item.3 in
+    let n : 2 * c.loop-pair.pair-index ≡ length s / 2 * 2 = omega (arith, c.as_chunks.ensures.front_len, c.loop-pair-test.false, c.loop-pair.auto.pair-index-end) in
+    let m : length s % 2 ≡ 1 = omega (arith, c.as_chunks.ensures.back_len, item.0) in
+    let last : c.in-Some.last.now ≡ get_or s (2 * c.loop-pair.pair-index) 0 = item.1 0 ∙ odd-byte s c.as_chunks.ensures.back ∙ ap (λ k. get_or s k 0) (sym n) in
+    c.reduce.ensures ∙ rw last (adding_one c.loop-pair.invariant (omega arith) (omega arith))
 
-pub overflow_cast-w-in-loop-j : goal.overflow_cast-w-in-loop-j
-overflow_cast-w-in-loop-j c = omega (arith, c.shared_slice_known-in-loop-j-2-1.given (c.loop-j.j + 1))
-
-pub overflow_mul-w : goal.overflow_mul-w
-overflow_mul-w c = omega (arith, c.shared_slice_known-in-loop-j-2-1.given (c.loop-j.j + 1))
-
-pub overflow_add-w-in-loop-j : goal.overflow_add-w-in-loop-j
-overflow_add-w-in-loop-j c = omega (arith, c.shared_slice_known-in-loop-j-1.given c.loop-j.j, c.shared_slice_known-in-loop-j-2-1.given (c.loop-j.j + 1))
-
-pub overflow_add-x : goal.overflow_add-x
-overflow_add-x c = omega (arith, c.shared_slice_known-in-loop-j-1.given c.loop-j.j, c.shared_slice_known-in-loop-j-2-1.given (c.loop-j.j + 1))
-
-pub overflow_add-y : goal.overflow_add-y
-overflow_add-y c = omega (arith, c.shared_slice_known-in-loop-j-1.given c.loop-j.j, c.shared_slice_known-in-loop-j-2-1.given (c.loop-j.j + 1))
-
-pub loop-j-preserved : goal.loop-j-preserved
-loop-j-preserved c = adding_two c.loop-j.invariant (omega (arith, c.shared_slice_known-in-loop-j-1.given c.loop-j.j)) (omega (arith, c.shared_slice_known-in-loop-j-2-1.given (c.loop-j.j + 1))) c.requires.2 c.loop-j-test.true
-
-pub overflow_cast-x : goal.overflow_cast-x
-overflow_cast-x c = omega (arith, c.shared_slice_known-then-j-s-1.given c.loop-j.j)
-
-pub overflow_add-x-then-j-s : goal.overflow_add-x-then-j-s
-overflow_add-x-then-j-s c = omega (arith, c.shared_slice_known-then-j-s-1.given c.loop-j.j)
-
-pub overflow_add-y-then-j-s : goal.overflow_add-y-then-j-s
-overflow_add-y-then-j-s c = omega (arith, c.shared_slice_known-then-j-s-1.given c.loop-j.j)
-
-pub returns-then-j-s : goal.returns-then-j-s
-returns-then-j-s c = c.reduce.ensures ∙ adding_one c.loop-j.invariant c.if-j-s.true c.loop-j-test.false
-
-pub returns : goal.returns
-returns c = c.reduce-2.ensures ∙ adding_none c.loop-j.invariant c.if-j-s.false
+pub returns-in-None : goal.returns-in-None
+returns-in-None c =
+    let even : length c.as_chunks.result.1.now ≡ 0 = grind (arith, c.in-None.ensures.item) in
+    c.reduce-in-None.ensures ∙ adding_none c.loop-pair.invariant (omega (arith, c.as_chunks.ensures.front_len, c.as_chunks.ensures.back_len, c.loop-pair-test.false, even))

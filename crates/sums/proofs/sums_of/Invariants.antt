@@ -1,14 +1,9 @@
--- The invariant: the words before the place are in the check words. Each part but the last has an even number of bytes.
+-- The invariant: the words of the parts before are in the check words.
 -- Assumes nothing.
-use Prim.Native.Nat.{◌-◌}
-use native.Mathlib.Omega.{arith}
-use lib.ListN.{length, length-take, length-drop}
-use Rattle.sums.proofs.PartLaws.{Before, before-start, before-next, before-end}
-use borrow.Author.Rules.{rules}
+use Rattle.std.proofs.Common.{◌≡◌}
+use Rattle.std.specs.Slice.Iter.{chunks_rest, chunks_size}
+use Rattle.sums.proofs.PartLaws.{Before}
 use Rattle.sums.proofs.sums_of.Given as goal
 
-abbrev pub invariant-loop-at : goal.invariant-loop-at
-invariant-loop-at l = Before l.s l.t l.at
-
-abbrev pub decreases-loop-at : goal.decreases-loop-at
-decreases-loop-at l = length l.s - l.at
+abbrev pub invariant-loop-part : goal.invariant-loop-part
+invariant-loop-part l = (chunks_size l.part-iterator ≡ 508) × Before l.s l.t (chunks_rest l.part-iterator)

@@ -1,5 +1,4 @@
 -- The end of the bytes where they are to be spanned. Assumes nothing.
-use borrow.Author.Rules.{rules}
 use Rattle.symbology.proofs.least_end.Goals as goal
 
 pub returns-then-spanned : goal.returns-then-spanned

@@ -1,6 +1,5 @@
 -- A cell of a row that the columns have is within the table. Assumes nothing.
 use native.Mathlib.Omega.{arith}
-use borrow.Author.Rules.{rules}
 use Rattle.table.proofs.ColumnLaws.{cell_in, cell-past, cell_beside, cell-fits}
 use Rattle.table.proofs.number_at.Goals as goal
 

@@ -1,7 +1,6 @@
 -- Six numbers, each a column further. Assumes nothing.
 use native.Mathlib.Omega.{arith}
 use lib.ListN.{length-set}
-use borrow.Author.Rules.{rules}
 use Rattle.table.specs.ReadingLaws.{columns-put, columns-not}
 use Rattle.table.proofs.put_six.Goals as goal
 

@@ -1,8 +1,6 @@
 -- Version 4 has a length; below, the section is the rest. Assumes nothing.
-use native.Mathlib.Omega.{arith}
-use native.Mathlib.Nat.{le_refl}
+use Rattle.std.proofs.Common.{arith, rules, le_refl}
 use Rattle.block.proofs.PartLaws.{within-mk, within-back}
-use borrow.Author.Rules.{rules}
 use Rattle.block.proofs.parts.section_at.Goals as goal
 
 pub returns-then-has_layout : goal.returns-then-has_layout

@@ -1,7 +1,6 @@
 -- Four bytes, or none.
 -- Assumes nothing.
 use Rattle.put.specs.OutputLaws.{left-start, left-done, left-last}
-use borrow.Author.Rules.{rules}
 use Rattle.block_writer.proofs.columns.put_length.Goals as goal
 
 pub returns-then-has : goal.returns-then-has

@@ -2,7 +2,6 @@
 -- Assumes nothing.
 use mathlib.Core.Path.{refl}
 use Rattle.put.specs.OutputLaws.{left-start, left_stored, left-all, left-rest}
-use borrow.Author.Rules.{rules}
 use Rattle.block_writer.proofs.columns.put_list.Goals as goal
 
 pub put_rows-requires : goal.put_rows-requires

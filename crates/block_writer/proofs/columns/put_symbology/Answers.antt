@@ -4,7 +4,6 @@ use native.Mathlib.Omega.{arith}
 use mathlib.Core.Path.{refl}
 use Rattle.put.specs.OutputLaws.{wrote-length, left-start, left-room, left_step, left_stored, left-all, left-rest}
 use Rattle.block_writer.specs.PutLaws.{symbology-bytes, lists-few, names-ready}
-use borrow.Author.Rules.{rules}
 use Rattle.block_writer.proofs.columns.put_symbology.Goals as goal
 
 pub put_length-a-requires : goal.put_length-a-requires

@@ -1,9 +1,7 @@
 -- The options, then the numbers, then the dataset.
 -- Assumes nothing.
 use mathlib.Core.Path.{sym, ◌∙◌}
-use borrow.Author.Tests.{not-true, not-false}
 use Rattle.block_writer.specs.Fields.{fields_fit}
-use borrow.Author.Rules.{rules}
 use Rattle.block_writer.proofs.given.are_fit.Goals as goal
 
 pub returns-then-not-options_fit : goal.returns-then-not-options_fit

@@ -2,7 +2,6 @@
 -- Assumes nothing.
 use borrow.Author.Tests.{eq-eqb, ne_eqb, le-leb, lt-leb}
 use Rattle.block_writer.specs.Fields.{fields_narrow}
-use borrow.Author.Rules.{rules}
 use Rattle.block_writer.proofs.given.are_narrow.Goals as goal
 
 pub returns-then-v-fields : goal.returns-then-v-fields

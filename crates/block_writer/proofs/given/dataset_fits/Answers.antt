@@ -3,7 +3,6 @@
 use mathlib.Core.Path.{sym}
 use native.Mathlib.Omega.{arith}
 use Rattle.block_writer.proofs.FieldLaws.{dataset-outside, dataset-inside}
-use borrow.Author.Rules.{rules}
 use Rattle.block_writer.proofs.given.dataset_fits.Goals as goal
 
 pub returns-then-text-start : goal.returns-then-text-start

@@ -1,10 +1,9 @@
 -- The tests, one after the other.
 -- Assumes nothing.
 use mathlib.Core.Path.{sym, ◌∙◌}
-use borrow.Author.Tests.{le-leb, lt-leb, not-true, not-false}
+use borrow.Author.Tests.{le-leb, lt-leb}
 use Rattle.block_writer.specs.Fields.{numbers_fit}
 use Rattle.block_writer.proofs.FieldLaws.{numbers-wide, numbers-layout, numbers-below}
-use borrow.Author.Rules.{rules}
 use Rattle.block_writer.proofs.given.numbers_fit.Goals as goal
 
 pub returns-then-fields-gt255 : goal.returns-then-fields-gt255

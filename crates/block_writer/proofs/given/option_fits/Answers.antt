@@ -1,7 +1,6 @@
 -- By whether it is present.
 -- Assumes nothing.
 use mathlib.Core.Path.{sym, ◌∙◌}
-use borrow.Author.Rules.{rules}
 use Rattle.block_writer.proofs.given.option_fits.Goals as goal
 
 pub returns-then-has : goal.returns-then-has

@@ -1,10 +1,9 @@
 -- The four that may be absent, one after the other.
 -- Assumes nothing.
 use mathlib.Core.Path.{sym, ◌∙◌}
-use borrow.Author.Tests.{lt-leb, not-true, not-false}
+use borrow.Author.Tests.{lt-leb}
 use Rattle.block_writer.specs.Fields.{options_fit}
 use Rattle.block_writer.proofs.FieldLaws.{options_schema, options_end, options_limit, options_last}
-use borrow.Author.Rules.{rules}
 use Rattle.block_writer.proofs.given.options_fit.Goals as goal
 
 pub returns-then-fields-gt15 : goal.returns-then-fields-gt15

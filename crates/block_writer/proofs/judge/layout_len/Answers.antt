@@ -2,7 +2,6 @@
 -- Assumes nothing.
 use borrow.Author.Tests.{eq-eqb, ne_eqb}
 use Rattle.block_writer.proofs.JudgeLaws.{nil_is}
-use borrow.Author.Rules.{rules}
 use Rattle.block_writer.proofs.judge.layout_len.Goals as goal
 
 pub returns-then-rows-eq0 : goal.returns-then-rows-eq0

@@ -3,7 +3,6 @@
 use native.Mathlib.Omega.{arith}
 use Rattle.put.specs.OutputLaws.{left-start, left_stored, left-done}
 use Rattle.block_writer.specs.PutLaws.{layout-bytes, layout-end, layout-wrote}
-use borrow.Author.Rules.{rules}
 use Rattle.block_writer.proofs.parts.put_layout.Goals as goal
 
 pub slice_bounds-write_layout-count : goal.slice_bounds-write_layout-count

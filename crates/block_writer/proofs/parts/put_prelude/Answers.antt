@@ -3,7 +3,6 @@
 use native.Mathlib.Omega.{arith}
 use Rattle.put.specs.OutputLaws.{left-start, left_stored, left-last}
 use Rattle.block_writer.specs.PutLaws.{prelude-bytes}
-use borrow.Author.Rules.{rules}
 use Rattle.block_writer.proofs.parts.put_prelude.Goals as goal
 
 pub returns : goal.returns

@@ -1,12 +1,9 @@
 -- The invariant: what is left to test gives the same answer.
 -- Assumes nothing.
-use Prim.Native.Nat.{◌-◌}
 use native.Mathlib.Nat.{sub-zero}
-use mathlib.Core.Path.{◌≡◌, sym, ap, ◌∙◌}
-use borrow.Author.Tests.{not-true, not-false}
+use mathlib.Core.Path.{sym, ap, ◌∙◌}
 use Rattle.columns_check.specs.Check.{every, row_fits}
 use Rattle.columns_check.proofs.WalkLaws.{every_yes, every-no, every-none}
-use borrow.Author.Rules.{rules}
 use Rattle.columns_check.proofs.rows.all_fit.Goals as goal
 
 pub loop-r-init : goal.loop-r-init

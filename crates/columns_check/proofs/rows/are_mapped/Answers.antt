@@ -1,10 +1,7 @@
 -- The invariant: what is left to walk over gives the same answer.
 -- Assumes nothing.
-use Prim.Native.Nat.{◌-◌}
-use mathlib.Core.Path.{◌≡◌, refl, sym, ◌∙◌}
-use Rattle.columns_check.specs.Check.{mapped}
+use mathlib.Core.Path.{refl, sym, ◌∙◌}
 use Rattle.columns_check.proofs.WalkLaws.{mapped-head, mapped_headless, mapped-part, mapped-other, mapped_alien, mapped-none}
-use borrow.Author.Rules.{rules}
 use Rattle.columns_check.proofs.rows.are_mapped.Goals as goal
 
 pub loop-r-init : goal.loop-r-init

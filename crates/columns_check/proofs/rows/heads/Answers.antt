@@ -1,11 +1,7 @@
 -- The invariant: what is counted, and what is left to count, give the same.
 -- Assumes nothing.
-use Prim.Native.Nat.{◌+◌, ◌-◌, ◌≤◌}
-use mathlib.Core.Path.{◌≡◌}
 use native.Mathlib.Omega.{arith}
-use Rattle.columns_check.specs.RowFaults.{heads}
 use Rattle.columns_check.proofs.WalkLaws.{heads-more, heads-none}
-use borrow.Author.Rules.{rules}
 use Rattle.columns_check.proofs.rows.heads.Goals as goal
 
 pub loop-r-init : goal.loop-r-init

@@ -2,14 +2,8 @@
 -- Assumes nothing.
 use Prim.Native.Nat.{◌+◌, ◌-◌, ◌≤◌}
 use mathlib.Core.Path.{◌≡◌}
-use native.Mathlib.Omega.{arith}
 use Rattle.columns_check.specs.RowFaults.{heads}
-use Rattle.columns_check.proofs.WalkLaws.{heads-more, heads-none}
-use borrow.Author.Rules.{rules}
 use Rattle.columns_check.proofs.rows.heads.Given as goal
 
 abbrev pub invariant-loop-r : goal.invariant-loop-r
 invariant-loop-r l = (l.m ≤ l.r) × (l.m + heads l.table l.r (l.end - l.r) ≡ heads l.table l.from (l.end - l.from))
-
-abbrev pub decreases-loop-r : goal.decreases-loop-r
-decreases-loop-r l = l.end - l.r

@@ -2,7 +2,6 @@
 -- Assumes nothing.
 use borrow.Author.Tests.{eq-eqb, ne_eqb, le-leb, lt-leb}
 use Rattle.columns_check.specs.Check.{numbers_fit}
-use borrow.Author.Rules.{rules}
 use Rattle.columns_check.proofs.rows.numbers_fit.Goals as goal
 
 pub returns-then-x-gt3652424 : goal.returns-then-x-gt3652424

@@ -1,11 +1,10 @@
 -- The numbers, then the span, then the text.
 -- Assumes nothing.
 use mathlib.Core.Path.{sym, ◌∙◌}
-use borrow.Author.Tests.{le-leb, lt-leb, not-true, not-false}
+use borrow.Author.Tests.{le-leb, lt-leb}
 use Rattle.columns_check.specs.Tree.{text_of}
 use Rattle.columns_check.specs.Check.{row_fits}
 use Rattle.columns_check.proofs.WalkLaws.{part-is}
-use borrow.Author.Rules.{rules}
 use Rattle.columns_check.proofs.rows.row_fits.Goals as goal
 
 pub returns-then-not-numbers_fit : goal.returns-then-not-numbers_fit

@@ -1,14 +1,12 @@
 -- The invariant: what is left to test gives the same answer.
 -- Assumes nothing.
-use Prim.Native.Nat.{◌-◌}
 use native.Mathlib.Nat.{sub-zero}
-use mathlib.Core.Path.{◌≡◌, sym, ap, ◌∙◌}
+use mathlib.Core.Path.{sym, ap, ◌∙◌}
 use borrow.Author.Tests.{le-leb, lt-leb}
 use lib.Dec.{leb}
 use Rattle.columns_check.specs.Tree.{len_of}
 use Rattle.columns_check.specs.Check.{every, narrow}
 use Rattle.columns_check.proofs.WalkLaws.{every_yes, every-no, every-none}
-use borrow.Author.Rules.{rules}
 use Rattle.columns_check.proofs.texts.are_narrow.Goals as goal
 
 pub loop-r-init : goal.loop-r-init

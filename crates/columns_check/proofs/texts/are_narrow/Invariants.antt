@@ -1,18 +1,11 @@
 -- The invariant: what is left to test gives the same answer.
 -- Assumes nothing.
 use Prim.Native.Nat.{◌-◌}
-use native.Mathlib.Nat.{sub-zero}
-use mathlib.Core.Path.{◌≡◌, sym, ap, ◌∙◌}
-use borrow.Author.Tests.{le-leb, lt-leb}
+use mathlib.Core.Path.{◌≡◌}
 use lib.Dec.{leb}
 use Rattle.columns_check.specs.Tree.{len_of}
 use Rattle.columns_check.specs.Check.{every, narrow}
-use Rattle.columns_check.proofs.WalkLaws.{every_yes, every-no, every-none}
-use borrow.Author.Rules.{rules}
 use Rattle.columns_check.proofs.texts.are_narrow.Given as goal
 
 abbrev pub invariant-loop-r : goal.invariant-loop-r
 invariant-loop-r l = every (λ j. leb (len_of l.table j) l.width) l.r (l.n - l.r) ≡ narrow l.width l.table l.n
-
-abbrev pub decreases-loop-r : goal.decreases-loop-r
-decreases-loop-r l = l.n - l.r

@@ -4,7 +4,6 @@ use mathlib.Core.Path.{refl}
 use Rattle.put.specs.OutputLaws.{wrote-length, left-start, left_step, left_stored, left-last}
 use Rattle.house_file.specs.PackLaws.{sealed-length}
 use Rattle.house_file.proofs.Laws.{sums_are, seal_is}
-use borrow.Author.Rules.{rules}
 use Rattle.house_file.proofs.write.put_block.Goals as goal
 
 pub slice_bounds-sums_of-count : goal.slice_bounds-sums_of-count

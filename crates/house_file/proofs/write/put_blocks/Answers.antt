@@ -1,50 +1,52 @@
 -- What is left to write is the blocks of the bytes that are left. Assumes nothing.
-use native.Mathlib.Omega.{arith}
-use Prim.Native.Nat.{◌+◌, ◌*◌, ◌≤◌, ◌<◌}
-use mathlib.Core.Path.{◌≡◌}
-use lib.ListN.{length, drop}
-use Rattle.codec.specs.Codec.{times_print}
-use Rattle.put.specs.OutputLaws.{Left, left-start, left_step, left-done}
-use Rattle.house_file.specs.House.{block, blocks_from}
+use Rattle.std.proofs.Common.{arith, ◌≡◌, ◌+◌, ◌-◌, ◌<◌, length, ap, ◌∙◌, length-append}
+use Rattle.std.specs.Slice.Iter.{chunks_rest, chunks_size}
+use Rattle.std.specs.Iterator.Adapters.{enumerate_source, enumerate_count}
+use Rattle.put.specs.OutputLaws.{left-start, left_step, left-done}
 use Rattle.house_file.specs.PackLaws.{from-length}
-use Rattle.house_file.proofs.Laws.{part-few, blocks_next, blocks_last}
+use Rattle.house_file.proofs.Laws.{blocks_next, blocks_last}
 use Rattle.house_file.proofs.write.put_blocks.Goals as goal
 
-pub loop-todo-init : goal.loop-todo-init
-loop-todo-init c = (left-start (record { fits = omega (arith, from-length c.args.n 0 c.args.s.now, c.requires.room) }), (omega arith, (omega arith, (omega (arith, c.requires.blocks), omega (arith, c.requires.blocks)))))
-
-pub part_end-requires : goal.part_end-requires
-part_end-requires c = omega (arith, c.loop-todo.invariant.1.1.0, c.loop-todo.invariant.1.1.1.0, c.loop-todo-test.true)
-
-pub slice_bounds-put_block-count : goal.slice_bounds-put_block-count
-slice_bounds-put_block-count c = omega (arith, c.part_end.ensures)
-
-pub slice_bounds-put_block-start : goal.slice_bounds-put_block-start
-slice_bounds-put_block-start c = omega (arith, c.part_end.ensures)
-
-pub slice_bounds-put_block-end : goal.slice_bounds-put_block-end
-slice_bounds-put_block-end c = omega (arith, c.part_end.ensures, c.loop-todo.invariant.1.1.0, c.loop-todo.invariant.1.1.1.0, c.loop-todo-test.true)
+pub loop-index-init : goal.loop-index-init
+loop-index-init c =
+    let it = c.into_iter-index-iterator.result in
+    let e = c.into_iter-index-iterator.ensures.into_iter_gives in
+    let r : chunks_rest (enumerate_source it) ≡ c.args.s.now = ap (λ x. chunks_rest (enumerate_source x)) e ∙ ap chunks_rest c.enumerate-index-items.ensures.source ∙ c.chunks.ensures.rest in
+    let z : enumerate_count it ≡ 0 = ap enumerate_count e ∙ c.enumerate-index-items.ensures.count in
+    let m : c.args.n - 0 ≡ c.args.n = omega arith in
+    record {
+      size = ap (λ x. chunks_size (enumerate_source x)) e ∙ ap chunks_size c.enumerate-index-items.ensures.source ∙ c.chunks.ensures.size;
+      left = rw (r, z, m) (left-start (record { fits = omega (arith, from-length c.args.n 0 c.args.s.now) }));
+      more = rw (r, z) (omega arith);
+      most = rw (r, z) (omega arith);
+    }
 
 pub put_block-at-requires : goal.put_block-at-requires
-put_block-at-requires c = (part-few c.args.s.now c.loop-todo.from c.part_end.ensures, omega (arith, from-length c.loop-todo.todo c.loop-todo.index (drop c.loop-todo.from c.args.s.now), c.loop-todo.invariant.0.ends, c.loop-todo.invariant.0.long, c.loop-todo.invariant.0.room, c.loop-todo-test.true))
+put_block-at-requires c =
+    let ((kept, (parts, len, more)), index, counted, fits) = c.in-Some.ensures.steps in
+    let n = c.args.n - enumerate_count c.loop-index.index-iterator in
+    let left = c.loop-index.invariant.left in
+    (omega (arith, len, c.loop-index.invariant.size), omega (arith, from-length n (enumerate_count c.loop-index.index-iterator) (chunks_rest (enumerate_source c.loop-index.index-iterator)), left.ends, left.long, left.room, c.loop-index.invariant.most, more))
 
-pub overflow_add-index : goal.overflow_add-index
-overflow_add-index c = omega (arith, c.loop-todo.invariant.1.0, c.loop-todo.invariant.1.1.1.1)
-
-pub overflow_add-from : goal.overflow_add-from
-overflow_add-from c = omega (arith, c.loop-todo.invariant.1.1.0, c.loop-todo.invariant.1.1.1.1, c.loop-todo-test.true)
-
-pub overflow_sub-todo : goal.overflow_sub-todo
-overflow_sub-todo c = omega (arith, c.loop-todo-test.true)
-
-pub loop-todo-smaller : goal.loop-todo-smaller
-loop-todo-smaller c = omega (arith, c.loop-todo-test.true)
-
-pub loop-todo-preserved : goal.loop-todo-preserved
-loop-todo-preserved c = (left_step c.loop-todo.invariant.0 (blocks_next c.args.s.now c.loop-todo.from c.part_end.ensures c.loop-todo.index c.loop-todo.todo c.loop-todo-test.true) c.put_block-at.ensures, (omega (arith, c.loop-todo.invariant.1.0, c.loop-todo-test.true), (omega (arith, c.loop-todo.invariant.1.1.0, c.loop-todo-test.true), (c.loop-todo.invariant.1.1.1.0, c.loop-todo.invariant.1.1.1.1))))
-
-pub shape_of-out : goal.shape_of-out
-shape_of-out c = c.loop-todo.invariant.0.long
+pub loop-index-preserved : goal.loop-index-preserved
+loop-index-preserved c =
+    let ((kept, (parts, len, more)), index, counted, fits) = c.in-Some.ensures.steps in
+    let i = enumerate_count c.loop-index.index-iterator in
+    let all = chunks_rest (enumerate_source c.loop-index.index-iterator) in
+    let size = c.loop-index.invariant.size in
+    let least : 0 < c.args.n - i = omega (arith, c.loop-index.invariant.most, more) in
+    let next = blocks_next all _ _ parts (rw size at len) i (c.args.n - i) least in
+    let step : c.args.n - i - 1 ≡ c.args.n - (i + 1) = omega arith in
+    let whole = ap length parts ∙ length-append c.in-Some.part.now _ in
+    record {
+      size = kept ∙ size;
+      left = rw counted (left_step c.loop-index.invariant.left (rw step at next) (rw index at c.put_block-at.ensures));
+      more = rw counted (omega (arith, c.loop-index.invariant.more, len, whole, size, least));
+      most = rw counted (omega (arith, c.loop-index.invariant.most, len, whole, size, least));
+    }
 
 pub returns : goal.returns
-returns c = left-done c.loop-todo.invariant.0 (blocks_last c.loop-todo.index c.loop-todo.todo (drop c.loop-todo.from c.args.s.now) (λ h. omega (arith, h, c.loop-todo-test.false)))
+returns c =
+    let n = c.args.n - enumerate_count c.loop-index.index-iterator in
+    let none : 0 < n → ⊥ = λ h. omega (arith, h, c.in-None.ensures.steps.0.1.0, c.loop-index.invariant.more) in
+    left-done c.loop-index.invariant.left (blocks_last (enumerate_count c.loop-index.index-iterator) n _ none)

@@ -3,7 +3,6 @@ use native.Mathlib.Omega.{arith}
 use mathlib.Core.Path.{refl}
 use Rattle.put.specs.OutputLaws.{left-start, left_stored, left-last}
 use Rattle.house_file.specs.PackLaws.{body-length}
-use borrow.Author.Rules.{rules}
 use Rattle.house_file.proofs.write.put_body.Goals as goal
 
 pub returns : goal.returns

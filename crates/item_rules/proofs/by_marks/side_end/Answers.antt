@@ -1,7 +1,6 @@
 -- The walk, and what it says beside the furthest end. Assumes nothing.
 use mathlib.Core.Path.{ap, ◌∙◌}
 use lib.ListN.{length}
-use borrow.Author.Rules.{rules}
 use Rattle.plain_tiling.proofs.MarkingLaws.{marked-back, end-clash, end_gap, end-fine}
 use Rattle.item_rules.proofs.by_marks.side_end.Goals as goal
 

@@ -1,10 +1,9 @@
 -- The invariant: where the entries left all end below n, all do. Assumes nothing.
 use mathlib.Core.Path.{sym}
 use native.Mathlib.Omega.{arith}
-use borrow.Author.Rules.{rules}
 use Rattle.item_rules.specs.EngineLaws.{markable_all, markable_below}
 use Rattle.codec.specs.CaseLaws.{no_true}
-use Rattle.item_rules.proofs.Painting.{Ending, ending_on, ending_end}
+use Rattle.item_rules.proofs.Painting.{ending_on, ending_end}
 use Rattle.item_rules.proofs.by_marks.too_few.Goals as goal
 
 pub returns-then-n-eq65536 : goal.returns-then-n-eq65536
@@ -13,23 +12,20 @@ returns-then-n-eq65536 c = record { markable = λ _. markable_all c.requires.pas
 pub returns-then-n-frame : goal.returns-then-n-frame
 returns-then-n-frame c = record { markable = λ e. absurd (no_true e); below_65536 = λ _. c.if-n-eq65536.false }
 
-pub loop-left-init : goal.loop-left-init
-loop-left-init c = record { room = c.requires.in_slice; all = λ h. h }
+pub loop-init : goal.loop-init
+loop-init c = (record { room = c.requires.in_slice; all = λ h. h }, omega arith)
 
 pub entry_at-e-requires : goal.entry_at-e-requires
-entry_at-e-requires c = record { in_slice = c.loop-left.invariant.room; count_nonzero = c.loop-left-test.true }
+entry_at-e-requires c = record { in_slice = c.loop.invariant.0.room; count_nonzero = (omega (arith, c.loop.invariant.1)) }
 
 pub returns-then-n-x : goal.returns-then-n-x
 returns-then-n-x c = record { markable = λ e. absurd (no_true e); below_65536 = λ _. c.if-n-eq65536.false }
 
 pub rest-left-requires : goal.rest-left-requires
-rest-left-requires c = (c.loop-left-test.true, c.loop-left.invariant.room.small)
+rest-left-requires c = ((omega (arith, c.loop.invariant.1)), c.loop.invariant.0.room.small)
 
-pub loop-left-smaller : goal.loop-left-smaller
-loop-left-smaller c = rw c.rest-left.ensures (omega (arith, c.loop-left-test.true))
-
-pub loop-left-preserved : goal.loop-left-preserved
-loop-left-preserved c = rw c.rest-left.ensures (ending_on _ _ c.loop-left.invariant c.loop-left-test.true c.entry_at-e.ensures c.extent_of-x.ensures.end (omega (arith, c.if-n-x.false)))
+pub loop-preserved : goal.loop-preserved
+loop-preserved c = rw c.rest-left.ensures (ending_on _ _ c.loop.invariant.0 (omega (arith, c.loop.invariant.1)) c.entry_at-e.ensures c.extent_of-x.ensures.end (omega (arith, c.if-n-x.false)), omega (arith, c.loop.invariant.1))
 
 pub returns : goal.returns
-returns c = record { markable = λ _. markable_below c.requires.passed (omega (arith, c.if-n-frame.false)) (ending_end _ _ c.loop-left.invariant c.loop-left-test.false); below_65536 = λ e. absurd (no_true (sym e)) }
+returns c = record { markable = λ _. markable_below c.requires.passed (omega (arith, c.if-n-frame.false)) (ending_end _ _ c.loop.invariant.0 (omega (arith, c.loop.invariant.1))); below_65536 = λ e. absurd (no_true (sym e)) }

@@ -1,10 +1,6 @@
 -- The invariant: the chase so far. Assumes nothing.
-use Prim.Native.Nat.{◌-◌, ◌≤◌, ◌<◌, zero-le}
-use mathlib.Core.Path.{sym, ◌∙◌, subst}
-use native.Mathlib.Omega.{arith}
-use borrow.Author.Rules.{rules}
-use Rattle.item_rules.proofs.Search.{ended, reach-past}
-use Rattle.item_rules.specs.Search.{Reached, begun, on, PartOf}
+use Prim.Native.Nat.{◌-◌, ◌≤◌, ◌<◌}
+use Rattle.item_rules.specs.Search.{Reached, PartOf}
 use Rattle.item_rules.specs.Entries.{entries_of}
 use Rattle.item_rules.specs.Rules.{spans}
 use Rattle.item_rules.proofs.by_search.chase.Given as goal

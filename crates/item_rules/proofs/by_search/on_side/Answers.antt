@@ -2,7 +2,6 @@
 use Rattle.item_rules.proofs.Loops.{side_other, side_this}
 use lib.Dec.{lit≤}
 use mathlib.Core.Path.{sym, ◌∙◌}
-use borrow.Author.Rules.{rules}
 use Rattle.item_rules.proofs.by_search.on_side.Goals as goal
 
 pub returns-then-x : goal.returns-then-x

@@ -1,6 +1,5 @@
 -- 81 or 82, else 83, by search. Assumes nothing.
 use native.Mathlib.Omega.{arith}
-use borrow.Author.Rules.{rules}
 use Rattle.item_rules.specs.TriedLaws.{tried_as, tried_0}
 use Rattle.item_rules.specs.Entries.{entries_of}
 use Rattle.item_rules.specs.EntryLaws.{entries-length}

@@ -1,7 +1,6 @@
 -- From rows or from bytes, as the source says. Assumes nothing.
 use native.Mathlib.Omega.{arith}
 use Rattle.item_rules.specs.EntryLaws.{first-inside, first-row, first-bytes}
-use borrow.Author.Rules.{rules}
 use Rattle.item_rules.proofs.entries.entry_at.Goals as goal
 
 pub overflow_add-end : goal.overflow_add-end

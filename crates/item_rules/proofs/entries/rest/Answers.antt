@@ -1,7 +1,6 @@
 -- One step further, one entry less. Assumes nothing.
 use Rattle.item_rules.specs.EntryLaws.{mul-step}
 use native.Mathlib.Omega.{arith}
-use borrow.Author.Rules.{rules}
 use Rattle.item_rules.proofs.entries.rest.Goals as goal
 
 pub overflow_add-result : goal.overflow_add-result

@@ -2,7 +2,6 @@
 use native.Mathlib.Omega.{arith}
 use mathlib.Core.Path.{refl, ap}
 use lib.ListN.{length}
-use borrow.Author.Rules.{rules}
 use Rattle.item_rules.specs.Tried.{answered}
 use Rattle.item_rules.specs.TriedLaws.{tried_as}
 use Rattle.item_rules.proofs.Turns.{record_61, record_62, record_63, record_64, record_is}

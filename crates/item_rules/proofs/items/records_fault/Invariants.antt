@@ -1,14 +1,9 @@
 -- The invariant: the records to come give the same number, and the owners are as they were lent. Assumes nothing.
 use mathlib.Core.Bool.{true}
-use mathlib.Core.Path.{◌≡◌, refl, ap, ◌∙◌}
-use mathlib.Core.List.{[]}
+use mathlib.Core.Path.{◌≡◌}
 use lib.ListN.{length}
-use borrow.Author.Rules.{rules}
-use Rattle.marks.specs.MarkLaws.{marks-none}
 use Rattle.item_rules.specs.Items.{seqs_from}
-use Rattle.item_rules.specs.Tried.{answered}
-use Rattle.item_rules.specs.TriedLaws.{tried_as, tried-by, tried_0}
-use Rattle.item_rules.proofs.Turns.{step-found, step_end, step_less, Recording, records-stop, records-on, records-end}
+use Rattle.item_rules.proofs.Turns.{Recording}
 use Rattle.item_rules.proofs.items.records_fault.Given as goal
 
 abbrev pub invariant-loop-item : goal.invariant-loop-item

@@ -1,10 +1,10 @@
--- The first try, or all owners where it gave up. Assumes nothing.
-use borrow.Author.Rules.{rules}
-use Rattle.item_rules.specs.TriedLaws.{tried-is}
+-- The number, told as a refusal. Assumes nothing.
+use mathlib.Core.Path.{sym, ap, ◌∙◌}
+use Rattle.codec.specs.Telling.{passed, all_passed, refuses_by}
 use Rattle.item_rules.proofs.items.rules.Goals as goal
 
-pub rules_tried-v-requires : goal.rules_tried-v-requires
-rules_tried-v-requires c = record { ready = c.requires; left_bound = c.if-task-le4096.true }
+pub returns-then-number-eq0 : goal.returns-then-number-eq0
+returns-then-number-eq0 c = all_passed _ c.if-number-eq0.true ∙ ap passed c.first_number-number.ensures
 
-pub returns-then-v-ne-GAVE_UP : goal.returns-then-v-ne-GAVE_UP
-returns-then-v-ne-GAVE_UP c = tried-is c.rules_tried-v.ensures c.if-v-ne-GAVE_UP.true
+pub returns : goal.returns
+returns c = refuses_by _ c.if-number-eq0.false ∙ ap passed c.first_number-number.ensures

@@ -3,7 +3,6 @@ use native.Mathlib.Omega.{arith}
 use mathlib.Core.Path.{sym}
 use lib.ListN.{length-take}
 use lib.Seq.{length-take-le}
-use borrow.Author.Rules.{rules}
 use Rattle.item_rules.proofs.items.rules_by.Goals as goal
 
 pub slice_bounds-rules_in-end-2 : goal.slice_bounds-rules_in-end-2

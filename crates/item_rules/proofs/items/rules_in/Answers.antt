@@ -1,5 +1,4 @@
 -- The alignments, then the structs, then the records. Assumes nothing.
-use borrow.Author.Rules.{rules}
 use Rattle.marks.specs.MarkLaws.{marks-none}
 use Rattle.item_rules.specs.TriedLaws.{tried_as, tried-by, tried_0}
 use Rattle.item_rules.proofs.Turns.{all-structs, all-records}

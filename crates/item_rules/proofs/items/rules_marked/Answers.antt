@@ -1,9 +1,9 @@
 -- With 65,536 owners every answer is the number. Assumes nothing.
+use native.Mathlib.Omega.{arith}
 use Prim.Native.Nat.{ℕ}
 use lib.ListN.{length-replicate}
 use lib.Dec.{lit≤}
 use mathlib.Core.Path.{sym}
-use borrow.Author.Rules.{rules}
 use Rattle.plain_tiling.proofs.MarkingLaws.{unowned}
 use Rattle.item_rules.specs.TriedLaws.{tried-all}
 use Rattle.item_rules.proofs.items.rules_marked.Goals as goal
@@ -17,11 +17,11 @@ rules_few-requires c = record { ready = c.requires; left_bound = c.if-task-le409
 pub returns-then-task-le4096 : goal.returns-then-task-le4096
 returns-then-task-le4096 c = tried-all c.rules_few.ensures (length-replicate {A = ℕ} 65536 0)
 
-pub slice_bounds-rules_65536-end : goal.slice_bounds-rules_65536-end
-slice_bounds-rules_65536-end c = sym (length-replicate {A = ℕ} 65536 0)
+pub slice_bounds-rules_of-end : goal.slice_bounds-rules_of-end
+slice_bounds-rules_of-end c = sym (length-replicate {A = ℕ} 65536 0)
 
-pub rules_65536-requires : goal.rules_65536-requires
-rules_65536-requires c = record { ready = c.requires; unowned = unowned 65536 (lit≤ tt) }
+pub rules_of-requires : goal.rules_of-requires
+rules_of-requires c = record { ready = c.requires; left_bound = omega arith; small = omega arith; unowned = unowned 65536 (lit≤ tt) }
 
 pub returns : goal.returns
-returns c = tried-all c.rules_65536.ensures (length-replicate {A = ℕ} 65536 0)
+returns c = tried-all c.rules_of.ensures (length-replicate {A = ℕ} 65536 0)

@@ -1,6 +1,5 @@
 -- Nobody owns a new place. Assumes nothing.
 use native.Mathlib.Omega.{arith}
-use borrow.Author.Rules.{rules}
 use Rattle.plain_tiling.proofs.MarkingLaws.{unowned}
 use Rattle.item_rules.specs.TriedLaws.{tried-none}
 use Rattle.item_rules.proofs.items.rules_near.Goals as goal

@@ -1,6 +1,5 @@
 -- No owners are lent. Assumes nothing.
 use native.Mathlib.Omega.{arith}
-use borrow.Author.Rules.{rules}
 use Rattle.plain_tiling.proofs.MarkingLaws.{unowned}
 use Rattle.item_rules.specs.TriedLaws.{tried-none}
 use Rattle.item_rules.proofs.items.rules_searched.Goals as goal

@@ -2,7 +2,6 @@
 use native.Mathlib.Omega.{arith}
 use mathlib.Core.Path.{refl, ap}
 use lib.ListN.{length}
-use borrow.Author.Rules.{rules}
 use Rattle.item_rules.specs.Tried.{answered}
 use Rattle.item_rules.specs.TriedLaws.{tried_as}
 use Rattle.item_rules.proofs.Turns.{struct_60, struct_is}

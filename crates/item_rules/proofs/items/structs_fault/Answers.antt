@@ -1,12 +1,9 @@
 -- The invariant: the structs to come give the same number, and the owners are as they were lent. Assumes nothing.
-use mathlib.Core.Bool.{false}
-use mathlib.Core.Path.{◌≡◌, refl, ap, ◌∙◌}
+use mathlib.Core.Path.{refl, ap, ◌∙◌}
 use lib.ListN.{length}
-use borrow.Author.Rules.{rules}
-use Rattle.item_rules.specs.Items.{seqs_from}
 use Rattle.item_rules.specs.Tried.{answered}
 use Rattle.item_rules.specs.TriedLaws.{tried_as, tried-by, tried_0}
-use Rattle.item_rules.proofs.Turns.{step-found, step_end, step_less, Structing, structs-stop, structs-on, structs_end}
+use Rattle.item_rules.proofs.Turns.{step-found, step_end, step_less, structs-stop, structs-on, structs_end}
 use Rattle.item_rules.proofs.items.structs_fault.Goals as goal
 
 pub loop-item-init : goal.loop-item-init
@@ -18,7 +15,7 @@ next_item-requires c = c.loop-item.invariant.0.good
 pub struct_fault-v-requires : goal.struct_fault-v-requires
 struct_fault-v-requires c =
     let inv = c.loop-item.invariant in
-    let s = step-found c.next_item.ensures c.in-Found.is in
+    let s = step-found c.next_item.ensures c.in-Some.is in
     record { in_slice = s.room; marks = inv.0.marks; base_bound = s.base; unowned = rw inv.1 c.requires.unowned }
 
 pub shape_of-owners-then-v-ne0 : goal.shape_of-owners-then-v-ne0
@@ -27,18 +24,18 @@ shape_of-owners-then-v-ne0 c = ap length (c.struct_fault-v.ensures.owners_unchan
 pub returns-then-v-ne0 : goal.returns-then-v-ne0
 returns-then-v-ne0 c =
     let inv = c.loop-item.invariant in
-    record { tried = tried_as (λ e. structs-stop _ _ _ _ _ _ inv.0 (step-found c.next_item.ensures c.in-Found.is) e c.if-v-ne0.true) (tried-by inv.1 c.struct_fault-v.ensures.tried); clean = λ z. absurd (c.if-v-ne0.true z); owners_unchanged = c.struct_fault-v.ensures.owners_unchanged ∙ inv.1 }
+    record { tried = tried_as (λ e. structs-stop _ _ _ _ _ _ inv.0 (step-found c.next_item.ensures c.in-Some.is) e c.if-v-ne0.true) (tried-by inv.1 c.struct_fault-v.ensures.tried); clean = λ z. absurd (c.if-v-ne0.true z); owners_unchanged = c.struct_fault-v.ensures.owners_unchanged ∙ inv.1 }
 
 pub loop-item-smaller : goal.loop-item-smaller
-loop-item-smaller c = step_less (step-found c.next_item.ensures c.in-Found.is)
+loop-item-smaller c = step_less (step-found c.next_item.ensures c.in-Some.is)
 
 pub loop-item-preserved : goal.loop-item-preserved
 loop-item-preserved c =
     let inv = c.loop-item.invariant in
-    (structs-on _ _ _ _ _ _ inv.0 (step-found c.next_item.ensures c.in-Found.is) (tried_0 c.struct_fault-v.ensures.tried c.if-v-ne0.false) c.if-v-ne0.false c.struct_fault-v.ensures.clean, c.struct_fault-v.ensures.owners_unchanged ∙ inv.1)
+    (structs-on _ _ _ _ _ _ inv.0 (step-found c.next_item.ensures c.in-Some.is) (tried_0 c.struct_fault-v.ensures.tried c.if-v-ne0.false) c.if-v-ne0.false c.struct_fault-v.ensures.clean, c.struct_fault-v.ensures.owners_unchanged ∙ inv.1)
 
-pub shape_of-owners-in-End : goal.shape_of-owners-in-End
-shape_of-owners-in-End c = ap length c.loop-item.invariant.1
+pub shape_of-owners : goal.shape_of-owners
+shape_of-owners c = ap length c.loop-item.invariant.1
 
-pub returns-in-End : goal.returns-in-End
-returns-in-End c = record { tried = answered (structs_end _ _ _ _ _ _ c.loop-item.invariant.0 (step_end c.next_item.ensures c.in-End.is)); clean = λ _. c.loop-item.invariant.0.marks; owners_unchanged = c.loop-item.invariant.1 }
+pub returns : goal.returns
+returns c = record { tried = answered (structs_end _ _ _ _ _ _ c.loop-item.invariant.0 (step_end c.next_item.ensures c.in_default.is)); clean = λ _. c.loop-item.invariant.0.marks; owners_unchanged = c.loop-item.invariant.1 }

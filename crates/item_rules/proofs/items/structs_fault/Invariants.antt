@@ -1,12 +1,9 @@
 -- The invariant: the structs to come give the same number, and the owners are as they were lent. Assumes nothing.
 use mathlib.Core.Bool.{false}
-use mathlib.Core.Path.{◌≡◌, refl, ap, ◌∙◌}
+use mathlib.Core.Path.{◌≡◌}
 use lib.ListN.{length}
-use borrow.Author.Rules.{rules}
 use Rattle.item_rules.specs.Items.{seqs_from}
-use Rattle.item_rules.specs.Tried.{answered}
-use Rattle.item_rules.specs.TriedLaws.{tried_as, tried-by, tried_0}
-use Rattle.item_rules.proofs.Turns.{step-found, step_end, step_less, Structing, structs-stop, structs-on, structs_end}
+use Rattle.item_rules.proofs.Turns.{Structing}
 use Rattle.item_rules.proofs.items.structs_fault.Given as goal
 
 abbrev pub invariant-loop-item : goal.invariant-loop-item

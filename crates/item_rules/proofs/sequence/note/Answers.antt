@@ -1,7 +1,6 @@
 -- Padding has no id to mark. Assumes nothing.
 use Rattle.item_rules.proofs.Loops.{note_skip, note_set}
 use mathlib.Core.Path.{sym, ◌∙◌}
-use borrow.Author.Rules.{rules}
 use Rattle.item_rules.proofs.sequence.note.Goals as goal
 
 pub returns-then-c : goal.returns-then-c

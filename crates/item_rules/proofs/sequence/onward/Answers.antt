@@ -1,6 +1,5 @@
 -- An extension goes on from the extensions, an entry of the base from the base. Assumes nothing.
 use mathlib.Core.Path.{sym, ◌∙◌}
-use borrow.Author.Rules.{rules}
 use Rattle.item_rules.proofs.InOrder.{onward_past, onward_base}
 use Rattle.item_rules.proofs.sequence.onward.Goals as goal
 

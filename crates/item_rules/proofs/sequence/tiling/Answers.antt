@@ -1,7 +1,6 @@
 -- By search, or by marks where it gives up and there are enough owners. Assumes nothing.
 use mathlib.Core.Path.{refl, ap}
 use lib.ListN.{length}
-use borrow.Author.Rules.{rules}
 use Rattle.item_rules.specs.Tried.{answered, gave_up}
 use Rattle.item_rules.specs.TriedLaws.{tried-is}
 use Rattle.item_rules.proofs.sequence.tiling.Goals as goal

@@ -1,7 +1,6 @@
 -- The count is one of the nine numbers of the row. Assumes nothing.
 use native.Mathlib.Omega.{arith}
 use Rattle.item_rules.proofs.Walks.{row-columns, row_bounds}
-use borrow.Author.Rules.{rules}
 use Rattle.item_rules.proofs.walk.fields_in.Goals as goal
 
 pub cell-requires : goal.cell-requires

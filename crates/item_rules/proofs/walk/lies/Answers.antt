@@ -1,5 +1,4 @@
 -- A row, or a section. Assumes nothing.
-use borrow.Author.Rules.{rules}
 use Rattle.item_rules.proofs.walk.lies.Goals as goal
 
 pub returns-then-in_rows : goal.returns-then-in_rows

@@ -1,7 +1,6 @@
 -- What is left lies within its slice. Assumes nothing.
 use native.Mathlib.Omega.{arith}
 use Rattle.item_rules.proofs.Walks.{item-end, item-inside, item-step}
-use borrow.Author.Rules.{rules}
 use Rattle.item_rules.proofs.walk.next_item.Goals as goal
 
 pub returns-then-place-eq0 : goal.returns-then-place-eq0

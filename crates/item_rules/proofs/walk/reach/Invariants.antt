@@ -1,12 +1,7 @@
--- The invariant: what is left stands and ends as all do. Assumes nothing.
-use native.Mathlib.Omega.{arith}
-use mathlib.Core.Path.{refl, sym, ◌∙◌}
-use Rattle.item_rules.proofs.Walks.{Reaching, reach-on, reach-inside, reach-out, reach-done, reached_out, reached_all}
-use borrow.Author.Rules.{rules}
+-- What is left stands and ends as all do. Assumes nothing.
+use Rattle.std.specs.Prelude.{◌-◌}
+use Rattle.item_rules.proofs.Walks.{Reaching}
 use Rattle.item_rules.proofs.walk.reach.Given as goal
 
-abbrev pub invariant-loop-left : goal.invariant-loop-left
-invariant-loop-left l = Reaching l.layout l.rows l.is_record l.in_rows l.initial.at l.initial.left l.at l.left
-
-abbrev pub decreases-loop-left : goal.decreases-loop-left
-decreases-loop-left l = l.left
+abbrev pub invariant-loop : goal.invariant-loop
+invariant-loop l = Reaching l.layout l.rows l.is_record l.in_rows l.fn.place.at l.fn.place.left l.at (l.fn.place.left - l.counter)

@@ -1,7 +1,6 @@
 -- Every number of the row lies within the table. Assumes nothing.
 use native.Mathlib.Omega.{arith}
 use Rattle.item_rules.proofs.Walks.{row-columns, row_bounds, row-item-is}
-use borrow.Author.Rules.{rules}
 use Rattle.item_rules.proofs.walk.row_item.Goals as goal
 
 pub cell-base-requires : goal.cell-base-requires

@@ -1,7 +1,6 @@
 -- The row is one of the table, and so are its numbers. Assumes nothing.
 use native.Mathlib.Omega.{arith}
 use Rattle.item_rules.proofs.Walks.{row-columns, row_out, row-rtype, row-base, row_is}
-use borrow.Author.Rules.{rules}
 use Rattle.item_rules.proofs.walk.row_lies.Goals as goal
 
 pub returns-then-n-q : goal.returns-then-n-q

@@ -1,5 +1,4 @@
 -- A struct has rtype 0. Assumes nothing.
-use borrow.Author.Rules.{rules}
 use Rattle.item_rules.proofs.walk.rtype_at.Goals as goal
 
 pub returns-then-is_record : goal.returns-then-is_record

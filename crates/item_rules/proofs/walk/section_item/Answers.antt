@@ -3,7 +3,6 @@ use Rattle.item_rules.proofs.Walks.{section_bounds, section-item-is}
 use Rattle.layout.specs.LayoutOf.{D-is}
 use native.Mathlib.Omega.{arith}
 use mathlib.Core.Path.{sym}
-use borrow.Author.Rules.{rules}
 use Rattle.item_rules.proofs.walk.section_item.Goals as goal
 
 pub overflow_add-at : goal.overflow_add-at

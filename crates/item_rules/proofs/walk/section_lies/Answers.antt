@@ -3,7 +3,6 @@ use native.Mathlib.Omega.{arith}
 use mathlib.Core.Path.{sym}
 use Rattle.layout.specs.LayoutOf.{D-is}
 use Rattle.item_rules.proofs.Walks.{wider, section-over, section_under, section-room, section-short, section-is}
-use borrow.Author.Rules.{rules}
 use Rattle.item_rules.proofs.walk.section_lies.Goals as goal
 
 pub returns-then-left-size : goal.returns-then-left-size

@@ -1,4 +1,7 @@
 -- The invariant: the labels left, after the codes that are marked, give what all give. Assumes nothing.
+use Rattle.std.specs.Prelude.{◌-◌, ◌<◌}
+use Rattle.codec.specs.CaseLaws.{left_all, left_next}
+use Rattle.codec.specs.Telling.{handed_on}
 use native.Mathlib.Omega.{arith}
 use borrow.Author.Rules.{rules}
 use mathlib.Core.Path.{sym, ◌∙◌}
@@ -10,75 +13,51 @@ use Rattle.marks.specs.MarkLaws.{marks-more}
 use Rattle.layout.proofs.Labelling.{Labelling, label-place, trail, trail-next, trail-end}
 use Rattle.layout.proofs.labels.labels.Goals as goal
 
-pub loop-todo-init : goal.loop-todo-init
-loop-todo-init c = record { seen = []; going = going _ c.requires.0; marks = c.requires.1; trail = trail _ _ _ }
-
-pub overflow_cast-x : goal.overflow_cast-x
-overflow_cast-x c = omega (arith, past-at c.u16_at.ensures.1 c.in-Value.is)
-
-pub shape_of-table-then-is_marked : goal.shape_of-table-then-is_marked
-shape_of-table-then-is_marked c = c.loop-todo.invariant.going.wide
+pub loop-init : goal.loop-init
+loop-init c = rw (left_all c.args.count) (record { seen = []; going = going _ c.requires.0; marks = c.requires.1; trail = trail _ _ _ })
 
 pub returns-then-is_marked : goal.returns-then-is_marked
 returns-then-is_marked c =
-    let inv = c.loop-todo.invariant in
+    let inv = c.loop.invariant in
     let u16-at = c.u16_at.ensures in
-    record { ran = going-no inv.going (labels_55 _ _ _ _ _ _ c.loop-todo-test.true (sym u16-at.0 ∙ c.in-Value.is) (sym c.name_in.ensures.0 ∙ c.in-Value-name_in.is) (sym (inv.marks.right _ (past-at u16-at.1 c.in-Value.is).2) ∙ sym c.is_marked.ensures ∙ c.if-is_marked.true)); cleared = tt }
-
-pub overflow_cast-x-in-Value-name_in : goal.overflow_cast-x-in-Value-name_in
-overflow_cast-x-in-Value-name_in c = omega (arith, past-at c.u16_at.ensures.1 c.in-Value.is)
+    rw c.refuse.ensures (record { ran = going-no inv.going (labels_55 _ _ _ _ _ _ (omega (arith, c.loop-test.true)) (sym u16-at.0 ∙ c.in_ok-code.was) (sym c.name_in.ensures.0 ∙ c.in_ok-len.was) (sym (inv.marks.right _ (past-at u16-at.1 c.in_ok-code.was).2) ∙ sym c.is_marked.ensures ∙ c.if-is_marked.true)); cleared = tt })
 
 pub overflow_add-q : goal.overflow_add-q
-overflow_add-q c = omega (arith, past-at c.name_in.ensures.1 c.in-Value-name_in.is)
+overflow_add-q c = omega (arith, past-at c.name_in.ensures.1 c.in_ok-len.was)
 
 pub overflow_add-base : goal.overflow_add-base
-overflow_add-base c = omega (arith, past-at c.name_in.ensures.1 c.in-Value-name_in.is)
+overflow_add-base c = omega (arith, past-at c.name_in.ensures.1 c.in_ok-len.was)
 
 pub label_row-row-requires : goal.label_row-row-requires
-label_row-row-requires c = omega (arith, past-at c.name_in.ensures.1 c.in-Value-name_in.is, past-at c.u16_at.ensures.1 c.in-Value.is)
+label_row-row-requires c = omega (arith, past-at c.name_in.ensures.1 c.in_ok-len.was, past-at c.u16_at.ensures.1 c.in_ok-code.was)
 
 pub overflow_add-k : goal.overflow_add-k
-overflow_add-k c = omega (arith, past-at c.name_in.ensures.1 c.in-Value-name_in.is, c.loop-todo.invariant.going, c.requires.0)
+overflow_add-k c = omega (arith, past-at c.name_in.ensures.1 c.in_ok-len.was, c.loop.invariant.going, c.requires.0)
 
-pub overflow_sub-todo : goal.overflow_sub-todo
-overflow_sub-todo c = omega arith
-
-pub loop-todo-smaller : goal.loop-todo-smaller
-loop-todo-smaller c = omega arith
-
-pub loop-todo-preserved : goal.loop-todo-preserved
-loop-todo-preserved c =
-    let inv = c.loop-todo.invariant in
-    let loop-test = c.loop-todo-test in
+pub loop-preserved : goal.loop-preserved
+loop-preserved c =
+    let inv = c.loop.invariant in
+    let more : 0 < c.args.count - c.loop.counter = omega (arith, c.loop-test.true) in
     let u16-at = c.u16_at.ensures in
     let name-at = c.name_in.ensures in
-    let w = label-place _ _ _ (sym u16-at.0 ∙ c.in-Value.is) (sym name-at.0 ∙ c.in-Value-name_in.is) (past-at name-at.1 c.in-Value-name_in.is).1 in
-    let free = sym (inv.marks.right _ (past-at u16-at.1 c.in-Value.is).2) ∙ sym c.is_marked.ensures ∙ c.if-is_marked.false in
-    record {
+    let w = label-place _ _ _ (sym u16-at.0 ∙ c.in_ok-code.was) (sym name-at.0 ∙ c.in_ok-len.was) (past-at name-at.1 c.in_ok-len.was).1 in
+    let free = sym (inv.marks.right _ (past-at u16-at.1 c.in_ok-code.was).2) ∙ sym c.is_marked.ensures ∙ c.if-is_marked.false in
+    rw (left_next c.args.count c.loop.counter) (record {
       seen = _;
-      going = going-row inv.going (labels-row _ _ _ _ _ _ loop-test.true (sym u16-at.0 ∙ c.in-Value.is) (sym name-at.0 ∙ c.in-Value-name_in.is) free)
-          (put-row_as c.label_row-row.ensures c.put_row.ensures) c.put_row.auto.table (omega (arith, past-at u16-at.1 c.in-Value.is, past-at name-at.1 c.in-Value-name_in.is, inv.going));
-      marks = rw c.mark.ensures (marks-more _ _ _ (past-at u16-at.1 c.in-Value.is).2 inv.marks);
-      trail = trail-next _ inv.trail loop-test.true w.0 w.1 (past-at name-at.1 c.in-Value-name_in.is).1;
-    }
+      going = going-row inv.going (labels-row _ _ _ _ _ _ more (sym u16-at.0 ∙ c.in_ok-code.was) (sym name-at.0 ∙ c.in_ok-len.was) free)
+          (put-row_as c.label_row-row.ensures c.put_row.ensures) c.put_row.auto.table (omega (arith, past-at u16-at.1 c.in_ok-code.was, past-at name-at.1 c.in_ok-len.was, inv.going));
+      marks = rw c.mark.ensures (marks-more _ _ _ (past-at u16-at.1 c.in_ok-code.was).2 inv.marks);
+      trail = trail-next _ inv.trail more w.0 w.1 (past-at name-at.1 c.in_ok-len.was).1;
+    })
 
-pub shape_of-table-in-Refused-name_in : goal.shape_of-table-in-Refused-name_in
-shape_of-table-in-Refused-name_in c = c.loop-todo.invariant.going.wide
+pub returns-in_err-len : goal.returns-in_err-len
+returns-in_err-len c = rw (handed_on c.from_residual-in_err-len.ensures) (record { ran = going-no c.loop.invariant.going (labels_no2 _ _ _ _ _ _ (omega (arith, c.loop-test.true)) (sym c.u16_at.ensures.0 ∙ c.in_ok-code.was) (sym c.name_in.ensures.0 ∙ c.in_err-len.was)); cleared = tt })
 
-pub returns-in-Refused-name_in : goal.returns-in-Refused-name_in
-returns-in-Refused-name_in c = record { ran = going-no c.loop-todo.invariant.going (labels_no2 _ _ _ _ _ _ c.loop-todo-test.true (sym c.u16_at.ensures.0 ∙ c.in-Value.is) (sym c.name_in.ensures.0 ∙ c.in-Refused-name_in.is)); cleared = tt }
-
-pub shape_of-table-in-Refused : goal.shape_of-table-in-Refused
-shape_of-table-in-Refused c = c.loop-todo.invariant.going.wide
-
-pub returns-in-Refused : goal.returns-in-Refused
-returns-in-Refused c = record { ran = going-no c.loop-todo.invariant.going (labels-no _ _ _ _ _ _ c.loop-todo-test.true (sym c.u16_at.ensures.0 ∙ c.in-Refused.is)); cleared = tt }
+pub returns-in_err-code : goal.returns-in_err-code
+returns-in_err-code c = rw (handed_on c.from_residual.ensures) (record { ran = going-no c.loop.invariant.going (labels-no _ _ _ _ _ _ (omega (arith, c.loop-test.true)) (sym c.u16_at.ensures.0 ∙ c.in_err-code.was)); cleared = tt })
 
 pub unmark-requires : goal.unmark-requires
-unmark-requires c = trail-end c.loop-todo.invariant.trail c.loop-todo-test.false c.loop-todo.invariant.marks
-
-pub shape_of-table : goal.shape_of-table
-shape_of-table c = c.loop-todo.invariant.going.wide
+unmark-requires c = trail-end c.loop.invariant.trail (omega (arith, c.loop-test.false)) c.loop.invariant.marks
 
 pub returns : goal.returns
-returns c = record { ran = going_end c.loop-todo.invariant.going (labels-end _ _ _ _ _ _ c.loop-todo-test.false); cleared = c.unmark.ensures }
+returns c = record { ran = going_end c.loop.invariant.going (labels-end _ _ _ _ _ _ (omega (arith, c.loop-test.false))); cleared = c.unmark.ensures }

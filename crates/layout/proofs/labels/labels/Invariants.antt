@@ -1,4 +1,5 @@
 -- The invariant: the labels left, after the codes that are marked, give what all give. Assumes nothing.
+use Rattle.std.specs.Prelude.{◌-◌}
 use native.Mathlib.Omega.{arith}
 use borrow.Author.Rules.{rules}
 use mathlib.Core.Path.{sym, ◌∙◌}
@@ -10,8 +11,5 @@ use Rattle.marks.specs.MarkLaws.{marks-more}
 use Rattle.layout.proofs.Labelling.{Labelling, label-place, trail, trail-next, trail-end}
 use Rattle.layout.proofs.labels.labels.Given as goal
 
-abbrev pub invariant-loop-todo : goal.invariant-loop-todo
-invariant-loop-todo l = Labelling l.light l.base l.s l.at l.count l.n l.initial.table l.marks l.todo l.p l.k l.table
-
-abbrev pub decreases-loop-todo : goal.decreases-loop-todo
-decreases-loop-todo l = l.todo
+abbrev pub invariant-loop : goal.invariant-loop
+invariant-loop l = Labelling l.light l.base l.s l.at l.count l.n l.initial.table l.marks (l.count - l.counter) l.p l.k l.table

@@ -1,4 +1,6 @@
 -- The invariant: the entries left, written from row n on, fill the table as all do. Assumes nothing.
+use Rattle.codec.specs.CaseLaws.{left_all, left_next}
+use Rattle.codec.specs.Telling.{handed_on}
 use borrow.Author.Rules.{rules}
 use native.Mathlib.Omega.{arith}
 use Prim.Native.Nat.{ℕ}
@@ -13,27 +15,21 @@ use Rattle.layout.proofs.Laws.{entries-row, entries-no, entries-end}
 use Rattle.table.specs.ReadingLaws.{put-row_as, Going, going, going-row, going-no, going_end}
 use Rattle.layout.proofs.members.entries.Goals as goal
 
-pub loop-todo-init : goal.loop-todo-init
-loop-todo-init c = going _ c.requires
+pub loop-init : goal.loop-init
+loop-init c = rw (left_all c.args.count) (going _ c.requires)
 
 pub overflow_add-k : goal.overflow_add-k
-overflow_add-k c = omega (arith, past-at c.take.ensures.1 c.in-Value.is)
+overflow_add-k c = omega (arith, past-at c.take.ensures.1 c.in_ok-next.was)
 
-pub loop-todo-preserved : goal.loop-todo-preserved
-loop-todo-preserved c =
+pub loop-preserved : goal.loop-preserved
+loop-preserved c =
     let take = c.take.ensures in
-    going-row c.loop-todo.invariant (entries-row _ _ _ _ _ (sym D-is) c.loop-todo-test.true (sym take.0 ∙ c.in-Value.is))
-    (put-row_as (c.entry_row-row.ensures ∙ ap (λ (b : List ℕ). head_row b) c.entry_bytes-b.ensures) c.put_row.ensures) c.put_row.auto.table (omega (arith, past-at take.1 c.in-Value.is))
+    rw (left_next c.args.count c.loop.counter) (going-row c.loop.invariant (entries-row _ _ _ _ _ (sym D-is) (omega (arith, c.loop-test.true)) (sym take.0 ∙ c.in_ok-next.was))
+    (put-row_as (c.entry_row-row.ensures ∙ ap (λ (b : List ℕ). head_row b) c.entry_bytes.ensures) c.put_row.ensures) c.put_row.auto.table (omega (arith, past-at take.1 c.in_ok-next.was)))
 
-pub shape_of-table-in-Refused : goal.shape_of-table-in-Refused
-shape_of-table-in-Refused c = c.loop-todo.invariant.wide
-
-pub returns-in-Refused : goal.returns-in-Refused
-returns-in-Refused c =
-    going-no c.loop-todo.invariant (entries-no _ _ _ _ _ (sym D-is) c.loop-todo-test.true (sym c.take.ensures.0 ∙ c.in-Refused.is))
-
-pub shape_of-table : goal.shape_of-table
-shape_of-table c = c.loop-todo.invariant.wide
+pub returns-in_err-next : goal.returns-in_err-next
+returns-in_err-next c =
+    rw (handed_on c.from_residual.ensures) (going-no c.loop.invariant (entries-no _ _ _ _ _ (sym D-is) (omega (arith, c.loop-test.true)) (sym c.take.ensures.0 ∙ c.in_err-next.was)))
 
 pub returns : goal.returns
-returns c = going_end c.loop-todo.invariant (entries-end _ _ _ _ _ c.loop-todo-test.false)
+returns c = going_end c.loop.invariant (entries-end _ _ _ _ _ (omega (arith, c.loop-test.false)))

@@ -1,4 +1,5 @@
 -- The invariant: the names left, written from row n on, fill the table as all do. Assumes nothing.
+use Rattle.std.specs.Prelude.{◌-◌}
 use borrow.Author.Rules.{rules}
 use native.Mathlib.Omega.{arith}
 use mathlib.Core.Path.{sym, ◌∙◌}
@@ -9,8 +10,5 @@ use Rattle.layout.proofs.Laws.{names-row, names-no, names-end}
 use Rattle.table.specs.ReadingLaws.{put-row_as, Going, going, going-row, going-no, going_end}
 use Rattle.layout.proofs.members.names.Given as goal
 
-abbrev pub invariant-loop-todo : goal.invariant-loop-todo
-invariant-loop-todo l = Going (put_row 9) l.base l.s (names_at l.light l.base l.count l.s l.at) l.n l.initial.table (names_at l.light l.base l.todo l.s l.p) l.p l.k l.table
-
-abbrev pub decreases-loop-todo : goal.decreases-loop-todo
-decreases-loop-todo l = l.todo
+abbrev pub invariant-loop : goal.invariant-loop
+invariant-loop l = Going (put_row 9) l.base l.s (names_at l.light l.base l.count l.s l.at) l.n l.initial.table (names_at l.light l.base (l.count - l.counter) l.s l.p) l.p l.k l.table

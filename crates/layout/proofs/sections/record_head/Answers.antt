@@ -11,13 +11,13 @@ pub returns-then-n-ge14 : goal.returns-then-n-ge14
 returns-then-n-ge14 c = (head_ok _ (omega arith), past-mk (omega arith) (omega arith) (omega arith))
 
 pub returns-then-n-lt2 : goal.returns-then-n-lt2
-returns-then-n-lt2 c = (c.cut.ensures ∙ head_0 _ (omega arith), rw c.cut.ensures refused)
+returns-then-n-lt2 c = (c.refuse.ensures ∙ head_0 _ (omega arith), rw c.refuse.ensures refused)
 
 pub returns-then-n-lt4 : goal.returns-then-n-lt4
-returns-then-n-lt4 c = (c.cut-then-n-lt4.ensures ∙ head_2 _ (omega arith) (omega arith), rw c.cut-then-n-lt4.ensures refused)
+returns-then-n-lt4 c = (c.refuse-then-n-lt4.ensures ∙ head_2 _ (omega arith) (omega arith), rw c.refuse-then-n-lt4.ensures refused)
 
 pub returns-then-n-lt6 : goal.returns-then-n-lt6
-returns-then-n-lt6 c = (c.cut-then-n-lt6.ensures ∙ head_4 _ (omega arith) (omega arith), rw c.cut-then-n-lt6.ensures refused)
+returns-then-n-lt6 c = (c.refuse-then-n-lt6.ensures ∙ head_4 _ (omega arith) (omega arith), rw c.refuse-then-n-lt6.ensures refused)
 
 pub returns : goal.returns
-returns c = (c.cut-2.ensures ∙ head_6 _ (omega arith) (omega arith), rw c.cut-2.ensures refused)
+returns c = (c.refuse-2.ensures ∙ head_6 _ (omega arith) (omega arith), rw c.refuse-2.ensures refused)

@@ -1,4 +1,6 @@
 -- The invariant: the sections left give what all give; each body is its own part of the layout. Assumes nothing.
+use Rattle.layout.specs.Kinds.{number_of}
+use Rattle.std.specs.Prelude.{◌-◌}
 use native.Mathlib.Omega.{arith}
 use borrow.Author.Rules.{rules}
 use mathlib.Core.Path.{refl, sym, ◌∙◌}
@@ -14,8 +16,5 @@ use Rattle.layout.specs.Reader.{sections_at}
 use Rattle.marks.specs.Marks.{Marks}
 use Rattle.layout.proofs.sections.sections.Given as goal
 
-abbrev pub invariant-loop-todo : goal.invariant-loop-todo
-invariant-loop-todo l = Going (put_row 9) 0 l.s (sections_at l.light l.kind l.count l.s l.at) l.n l.initial.table (sections_at l.light l.kind l.todo l.s l.p) l.p l.k l.table × Marks l.marks []
-
-abbrev pub decreases-loop-todo : goal.decreases-loop-todo
-decreases-loop-todo l = l.todo
+abbrev pub invariant-loop : goal.invariant-loop
+invariant-loop l = Going (put_row 9) 0 l.s (sections_at l.light (number_of l.kind) l.count l.s l.at) l.n l.initial.table (sections_at l.light (number_of l.kind) (l.count - l.counter) l.s l.p) l.p l.k l.table × Marks l.marks []

@@ -2,7 +2,6 @@
 -- Assumes nothing.
 use borrow.Author.Tests.{eq-eqb, ne_eqb}
 use Rattle.rows_check.specs.Tree.{count_of}
-use borrow.Author.Rules.{rules}
 use Rattle.rows_check.proofs.cells.count_of.Goals as goal
 
 pub returns-then-kind-eq-RECORD : goal.returns-then-kind-eq-RECORD

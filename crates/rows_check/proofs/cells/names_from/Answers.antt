@@ -3,7 +3,6 @@
 use native.Mathlib.Omega.{arith}
 use borrow.Author.Tests.{eq-eqb, ne_eqb}
 use Rattle.rows_check.specs.Tree.{names_from}
-use borrow.Author.Rules.{rules}
 use Rattle.rows_check.proofs.cells.names_from.Goals as goal
 
 pub returns-then-kind-eq-RECORD : goal.returns-then-kind-eq-RECORD

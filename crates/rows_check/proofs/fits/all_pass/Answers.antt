@@ -1,7 +1,6 @@
 -- What each row has passed, or the test.
 -- Assumes nothing.
 use mathlib.Core.Path.{sym}
-use borrow.Author.Rules.{rules}
 use Rattle.rows_check.proofs.fits.all_pass.Goals as goal
 
 pub returns-then-good : goal.returns-then-good

@@ -3,7 +3,6 @@
 use mathlib.Core.Path.{sym, ◌∙◌}
 use Rattle.rows_check.specs.Check.{both, clean}
 use Rattle.rows_check.proofs.WalkLaws.{clean-plain}
-use borrow.Author.Rules.{rules}
 use Rattle.rows_check.proofs.fits.is_clean.Goals as goal
 
 pub returns-then-is_plain : goal.returns-then-is_plain

@@ -2,7 +2,6 @@
 -- Assumes nothing.
 use mathlib.Core.Path.{◌∙◌}
 use Rattle.rows_check.specs.Check.{limit_of}
-use borrow.Author.Rules.{rules}
 use Rattle.rows_check.proofs.fits.limit_of.Goals as goal
 
 pub returns : goal.returns

@@ -3,7 +3,6 @@
 use borrow.Author.Tests.{eq-eqb, ne_eqb, le-leb, lt-leb}
 use Rattle.rows_check.specs.Check.{name_clean}
 use Rattle.rows_check.specs.SectionLaws.{part_end}
-use borrow.Author.Rules.{rules}
 use Rattle.rows_check.proofs.fits.name_clean.Goals as goal
 
 pub returns-then-kind-eq-FIELD : goal.returns-then-kind-eq-FIELD

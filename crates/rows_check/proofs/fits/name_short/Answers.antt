@@ -2,7 +2,6 @@
 -- Assumes nothing.
 use borrow.Author.Tests.{eq-eqb, ne_eqb}
 use Rattle.rows_check.specs.Check.{name_short}
-use borrow.Author.Rules.{rules}
 use Rattle.rows_check.proofs.fits.name_short.Goals as goal
 
 pub returns-then-kind-eq-FIELD : goal.returns-then-kind-eq-FIELD

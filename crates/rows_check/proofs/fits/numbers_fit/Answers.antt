@@ -1,9 +1,7 @@
 -- The invariant: what was tested, and what is left, give the same.
 -- Assumes nothing.
-use Prim.Native.Nat.{◌-◌, ◌≤◌}
-use mathlib.Core.Path.{◌≡◌, refl, sym, ◌∙◌}
-use mathlib.Core.Bool.{◌&&◌}
-use Rattle.rows_check.specs.Check.{every, number_fits}
+use mathlib.Core.Path.{refl, sym, ◌∙◌}
+use Rattle.rows_check.specs.Check.{number_fits}
 use Rattle.rows_check.proofs.WalkLaws.{fit_next, fit_none}
 use borrow.Author.Rules.{rules}
 use Rattle.rows_check.proofs.fits.numbers_fit.Goals as goal

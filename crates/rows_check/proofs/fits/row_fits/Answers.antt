@@ -1,9 +1,8 @@
 -- The kind, then the numbers, then the span.
 -- Assumes nothing.
 use mathlib.Core.Path.{sym, ◌∙◌}
-use borrow.Author.Tests.{eq-eqb, ne_eqb, le-leb, lt-leb, not-true, not-false}
+use borrow.Author.Tests.{eq-eqb, ne_eqb, le-leb, lt-leb}
 use Rattle.rows_check.specs.Check.{both, row_fits}
-use borrow.Author.Rules.{rules}
 use Rattle.rows_check.proofs.fits.row_fits.Goals as goal
 
 pub returns-then-kind-lt-RECORD : goal.returns-then-kind-lt-RECORD

@@ -1,10 +1,8 @@
 -- The four tests, one after the other.
 -- Assumes nothing.
 use mathlib.Core.Path.{sym, ◌∙◌}
-use borrow.Author.Tests.{not-true, not-false}
 use Rattle.rows_check.specs.Check.{both}
 use Rattle.rows_check.specs.Answers.{row_good}
-use borrow.Author.Rules.{rules}
 use Rattle.rows_check.proofs.fits.row_good.Goals as goal
 
 pub returns-then-not-row_fits : goal.returns-then-not-row_fits

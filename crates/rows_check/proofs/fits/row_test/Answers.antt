@@ -3,7 +3,6 @@
 use mathlib.Core.Path.{◌∙◌}
 use borrow.Author.Tests.{eq-eqb, ne_eqb}
 use Rattle.rows_check.specs.Check.{row_test}
-use borrow.Author.Rules.{rules}
 use Rattle.rows_check.proofs.fits.row_test.Goals as goal
 
 pub returns-then-which-eq90 : goal.returns-then-which-eq90

@@ -1,6 +1,5 @@
 -- The span's two numbers.
 -- Assumes nothing.
-use borrow.Author.Rules.{rules}
 use Rattle.rows_check.proofs.fits.span_fits.Goals as goal
 
 pub returns : goal.returns

@@ -1,9 +1,7 @@
 -- The rows' counts, then those of the groups.
 -- Assumes nothing.
-use mathlib.Core.Path.{sym, ◌∙◌}
-use borrow.Author.Tests.{not-true, not-false}
+use Rattle.std.proofs.Common.{sym, ◌∙◌}
 use Rattle.rows_check.specs.Check.{both, counts_fit}
-use borrow.Author.Rules.{rules}
 use Rattle.rows_check.proofs.order.counts_fit.Goals as goal
 
 pub returns-then-not-all_pass : goal.returns-then-not-all_pass
@@ -14,4 +12,4 @@ pub returns : goal.returns
 unfolding counts_fit both
 returns c =
     let counts = c.requires.counts in
-    c.groups_fit.ensures ∙ rw (counts.0, counts.1.0, counts.1.1, sym c.all_pass.ensures ∙ c.if-not-all_pass.false)
+    c.groups_fit.ensures ∙ rw (counts.records, counts.structs, counts.labels, sym c.all_pass.ensures ∙ c.if-not-all_pass.false)

@@ -1,30 +1,22 @@
--- The invariant: what is left to test gives the same answer.
+-- What is left to test gives the same answer.
 -- Assumes nothing.
-use Prim.Native.Nat.{◌-◌, ◌≤◌}
-use native.Mathlib.Nat.{zero-add}
-use native.Mathlib.Omega.{arith}
-use mathlib.Core.Path.{◌≡◌, sym, ◌∙◌}
-use borrow.Author.Tests.{not-true, not-false}
+use Rattle.std.proofs.Common.{◌-◌, sym, ◌∙◌, arith}
 use Rattle.rows_check.specs.Tree.{row_count}
-use Rattle.rows_check.specs.Check.{every, rises_at}
-use Rattle.rows_check.specs.CheckLaws.{every-none, every_yes, every-no, every-past}
-use borrow.Author.Rules.{rules}
+use Rattle.rows_check.specs.Check.{rises_at}
+use Rattle.rows_check.specs.CheckLaws.{upto-end, upto_yes, upto-no, every-past}
+use native.Mathlib.Nat.{zero-add}
 use Rattle.rows_check.proofs.order.labels_rise.Goals as goal
 
-pub loop-todo-init : goal.loop-todo-init
-loop-todo-init c =
+pub loop-p-init : goal.loop-p-init
+loop-p-init c =
     let rows = c.args.rows.now in
-    let left : c.one_less-todo.result ≡ row_count rows - 1 - c.args.from = c.one_less-todo.ensures ∙ omega arith in
-    (c.requires.from_bound, left, rw left (sym (rw (zero-add _) at (every-past (rises_at rows) 0 c.args.from (row_count rows - 1) c.requires.risen))))
-
-pub rises_at-requires : goal.rises_at-requires
-rises_at-requires c = omega arith
+    sym (rw (zero-add _) at (every-past (rises_at rows) 0 c.args.from (row_count rows - 1) c.requires.risen))
 
 pub returns-then-not-rises_at : goal.returns-then-not-rises_at
-returns-then-not-rises_at c = sym (every-no _ _ _ c.loop-todo-test.true (sym c.rises_at.ensures ∙ c.if-not-rises_at.true)) ∙ c.loop-todo.invariant.2
+returns-then-not-rises_at c = sym (upto-no (rises_at c.args.rows.now) c.loop-p.p (row_count c.args.rows.now - 1) (omega arith) (sym c.rises_at.ensures ∙ c.if-not-rises_at.true)) ∙ c.loop-p.invariant
 
-pub loop-todo-preserved : goal.loop-todo-preserved
-loop-todo-preserved c = (search rules, search rules, sym (every_yes _ _ _ c.loop-todo-test.true (sym c.rises_at.ensures ∙ c.if-not-rises_at.false)) ∙ c.loop-todo.invariant.2)
+pub loop-p-preserved : goal.loop-p-preserved
+loop-p-preserved c = sym (upto_yes (rises_at c.args.rows.now) c.loop-p.p (row_count c.args.rows.now - 1) (omega arith) (sym c.rises_at.ensures ∙ c.if-not-rises_at.false)) ∙ c.loop-p.invariant
 
 pub returns : goal.returns
-returns c = sym (every-none _ _ _ c.loop-todo-test.false) ∙ c.loop-todo.invariant.2
+returns c = sym (upto-end (rises_at c.args.rows.now) c.loop-p.p (row_count c.args.rows.now - 1) (omega arith)) ∙ c.loop-p.invariant

@@ -2,7 +2,6 @@
 -- Assumes nothing.
 use borrow.Author.Tests.{eq-eqb, ne_eqb}
 use Rattle.rows_check.specs.Check.{rises_at}
-use borrow.Author.Rules.{rules}
 use Rattle.rows_check.proofs.order.rises_at.Goals as goal
 
 pub returns-then-a-ne-LABEL : goal.returns-then-a-ne-LABEL

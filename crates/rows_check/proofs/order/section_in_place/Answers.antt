@@ -3,10 +3,9 @@
 use Prim.Native.Nat.{◌+◌}
 use native.Mathlib.Omega.{arith}
 use mathlib.Core.Path.{sym, ◌∙◌}
-use borrow.Author.Tests.{eq-eqb, ne_eqb, le-leb, lt-leb, not-true, not-false}
+use borrow.Author.Tests.{eq-eqb, ne_eqb, le-leb, lt-leb}
 use Rattle.rows_check.specs.Tree.{row_count}
 use Rattle.rows_check.specs.Check.{both, section_in_place}
-use borrow.Author.Rules.{rules}
 use Rattle.rows_check.proofs.order.section_in_place.Goals as goal
 
 pub returns-then-nr-q : goal.returns-then-nr-q

@@ -1,13 +1,8 @@
 -- The invariant: what is left to walk over ends where the whole does.
 -- Assumes nothing.
 use Prim.Native.Nat.{◌-◌}
-use native.Mathlib.Omega.{arith}
-use mathlib.Core.Path.{sym, ◌∙◌}
-use borrow.Author.Tests.{not-true, not-false}
 use Rattle.rows_check.specs.Tree.{row_count}
-use Rattle.rows_check.specs.CheckLaws.{next_more}
-use Rattle.rows_check.proofs.OrderLaws.{Going, going_start, going_next, going-ends, going_fails}
-use borrow.Author.Rules.{rules}
+use Rattle.rows_check.proofs.OrderLaws.{Going}
 use Rattle.rows_check.proofs.order.walk_sections.Given as goal
 
 abbrev pub invariant-loop-p : goal.invariant-loop-p

@@ -2,7 +2,6 @@
 -- Assumes nothing.
 use borrow.Author.Tests.{le-leb, lt-leb}
 use Rattle.rows_check.specs.Answers.{size_of}
-use borrow.Author.Rules.{rules}
 use Rattle.rows_check.proofs.sizes.add_section.Goals as goal
 
 pub returns-then-x-le65535 : goal.returns-then-x-le65535

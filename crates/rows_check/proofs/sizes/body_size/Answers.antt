@@ -3,7 +3,6 @@
 use native.Mathlib.Omega.{arith}
 use mathlib.Core.Path.{◌∙◌}
 use Rattle.rows_check.proofs.SizeLaws.{body-length}
-use borrow.Author.Rules.{rules}
 use Rattle.rows_check.proofs.sizes.body_size.Goals as goal
 
 pub names_size-requires : goal.names_size-requires

@@ -4,7 +4,6 @@ use native.Mathlib.Omega.{arith}
 use borrow.Author.Tests.{eq-eqb, ne_eqb}
 use Rattle.layout.specs.LayoutOf.{D-is}
 use Rattle.rows_check.specs.Answers.{nameless_size}
-use borrow.Author.Rules.{rules}
 use Rattle.rows_check.proofs.sizes.nameless_size.Goals as goal
 
 pub returns-then-kind-eq-RECORD : goal.returns-then-kind-eq-RECORD

@@ -1,7 +1,6 @@
 -- A row of a symbol has the length without trailing NULs. Assumes nothing.
 use native.Mathlib.Omega.{arith}
 use mathlib.Core.Path.{ap}
-use borrow.Author.Rules.{rules}
 use Rattle.text.specs.TrimLaws.{trimmed-le}
 use Rattle.table.specs.ReadingLaws.{put_as, columns-not}
 use Rattle.symbology_format.specs.SymbologyRows.{row6}

@@ -2,7 +2,6 @@
 use native.Mathlib.Omega.{arith}
 use mathlib.Core.Path.{sym, ◌∙◌, ap₂, subst}
 use Prim.Native.Nat.{◌/◌}
-use borrow.Author.Rules.{rules}
 use Rattle.dates.specs.Months.{Right, months_after}
 use Rattle.dates.specs.MonthLaws.{day-right, right-after}
 use Rattle.table.specs.ReadingLaws.{put_as, columns-not}

@@ -1,10 +1,7 @@
 -- `by_sixteen` meets its contract. The loop keeps: `end` is no shorter than the length without zeros.
 -- Assumes nothing.
-use Prim.Native.Nat.{◌≤◌}
 use native.Mathlib.Omega.{arith}
 use borrow.Author.Rules.{rules}
-use lib.ListN.{length}
-use Rattle.text.specs.Trim.{trimmed_len}
 use Rattle.text.specs.TrimLaws.{trimmed-le}
 use Rattle.text.proofs.Nears.{not-kept, some-kept}
 use Rattle.text.proofs.trim.by_sixteen.Goals as goal

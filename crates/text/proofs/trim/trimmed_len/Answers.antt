@@ -1,7 +1,6 @@
 -- `trimmed_len` meets its contract: what is less than one too long is the length.
 -- Assumes nothing.
 use native.Mathlib.Omega.{arith}
-use borrow.Author.Rules.{rules}
 use Rattle.text.proofs.trim.trimmed_len.Goals as goal
 
 pub without-b-requires : goal.without-b-requires

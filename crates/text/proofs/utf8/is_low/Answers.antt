@@ -6,7 +6,6 @@ use native.Mathlib.Omega.{arith}
 use lib.ListN.{length}
 use borrow.Author.Tests.{ltb-true}
 use Rattle.text.proofs.Or.{run-below}
-use borrow.Author.Rules.{rules}
 use Rattle.text.proofs.utf8.is_low.Goals as goal
 
 pub returns-then-from-s : goal.returns-then-from-s

@@ -9,7 +9,6 @@ use lib.ListN.{drop}
 use Rattle.text.specs.Utf8.{goes, utf8}
 use Rattle.text.specs.Runs.{Skipped}
 use Rattle.text.proofs.Goes.{goes-skipped, goes_end}
-use borrow.Author.Rules.{rules}
 use Rattle.text.proofs.utf8.is_utf8.Goals as goal
 
 module _ (s : List ℕ) {a b : ℕ} (first : Skipped s 0 a) (second : Skipped s a b) where

@@ -1,14 +1,11 @@
 -- `letters` meets its contract. The loop keeps: what is left is judged as the whole is.
 -- Assumes nothing.
 use Prim.Native.Nat.{◌-◌, ◌≤◌}
-use mathlib.Core.Path.{◌≡◌, refl, sym, ◌∙◌}
+use mathlib.Core.Path.{◌≡◌}
 use mathlib.Core.List.{[]}
 use mathlib.Core.Option.{some}
 use lib.ListN.{length, drop}
-use borrow.Author.Tests.{not-false}
 use Rattle.text.specs.Utf8.{goes}
-use Rattle.text.proofs.Goes.{goes-letter, goes-low-one}
-use borrow.Author.Rules.{rules}
 use Rattle.text.proofs.utf8.letters.Given as goal
 
 abbrev pub invariant-loop-i : goal.invariant-loop-i

@@ -1,11 +1,9 @@
 -- The loop keeps: the bits so far, or-ed with what is left, are those of all the bytes.
 -- Assumes nothing.
 use mathlib.Core.Path.{◌≡◌, ◌∙◌, sym}
-use Prim.Native.Nat.{ℕ, ◌≤◌, ◌+◌, ◌-◌}
+use Prim.Native.Nat.{◌-◌}
 use native.Mathlib.Nat.{add-zero, sub-zero}
 use native.Mathlib.Omega.{arith}
-use lib.ListN.{take, drop}
-use Rattle.text.specs.Runs.{ored}
 use Rattle.text.proofs.Or.{ored-one}
 use borrow.Author.Rules.{rules}
 use Rattle.text.proofs.utf8.or_all.Goals as goal

@@ -4,7 +4,6 @@ use native.Mathlib.Omega.{arith}
 use lib.ListN.{length, get_or}
 use borrow.Author.Tests.{le-leb, lt-leb}
 use Rattle.text.proofs.Goes.{letter-is}
-use borrow.Author.Rules.{rules}
 use Rattle.text.proofs.utf8.pair_at.Goals as goal
 
 pub returns-then-s-i-lt2 : goal.returns-then-s-i-lt2

@@ -1,9 +1,6 @@
 -- The loop keeps: all bytes passed are below 128, each run because its bits together are.
 -- Assumes nothing.
-use Prim.Native.Nat.{◌≤◌, ◌-◌}
 use native.Mathlib.Omega.{arith}
-use lib.ListN.{length}
-use Rattle.text.specs.Runs.{Below}
 use Rattle.text.proofs.Or.{run-below, below_join}
 use borrow.Author.Rules.{rules}
 use Rattle.text.proofs.utf8.skip.Goals as goal

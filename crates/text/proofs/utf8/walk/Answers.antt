@@ -1,14 +1,9 @@
 -- The loop keeps: what is expected after the bytes passed decides the rest as the start decides the whole.
 -- Assumes nothing.
-use mathlib.Core.Path.{◌≡◌, ◌∙◌, refl, sym, ap}
-use mathlib.Core.List.{[]}
-use mathlib.Core.Option.{some}
-use Prim.Native.Nat.{ℕ, ◌≤◌, ◌+◌, ◌-◌}
-use native.Mathlib.Omega.{arith}
-use lib.ListN.{length, drop}
+use mathlib.Core.Path.{◌∙◌, refl, sym, ap}
 use lib.Seq.{drop-length}
 use Rattle.text.specs.Utf8.{goes}
-use Rattle.text.specs.States.{State, meaning}
+use Rattle.text.specs.States.{meaning}
 use borrow.Author.Rules.{rules}
 use Rattle.text.proofs.States.{state-zero, ended_at}
 use Rattle.text.proofs.utf8.walk.Goals as goal

@@ -1,16 +1,12 @@
 -- The loop keeps: what is expected after the bytes passed decides the rest as the start decides the whole.
 -- Assumes nothing.
-use mathlib.Core.Path.{◌≡◌, ◌∙◌, refl, sym, ap}
+use mathlib.Core.Path.{◌≡◌}
 use mathlib.Core.List.{[]}
 use mathlib.Core.Option.{some}
-use Prim.Native.Nat.{ℕ, ◌≤◌, ◌+◌, ◌-◌}
-use native.Mathlib.Omega.{arith}
+use Prim.Native.Nat.{◌≤◌, ◌-◌}
 use lib.ListN.{length, drop}
-use lib.Seq.{drop-length}
 use Rattle.text.specs.Utf8.{goes}
 use Rattle.text.specs.States.{State, meaning}
-use borrow.Author.Rules.{rules}
-use Rattle.text.proofs.States.{state-zero, ended_at}
 use Rattle.text.proofs.utf8.walk.Given as goal
 
 abbrev pub invariant-loop-i : goal.invariant-loop-i

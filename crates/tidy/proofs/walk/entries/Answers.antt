@@ -1,33 +1,31 @@
 -- The entries that are left give what all give. Assumes nothing.
 use native.Mathlib.Omega.{arith}
-use Prim.Native.Nat.{◌+◌, ◌*◌, ◌≤◌}
-use mathlib.Core.Path.{◌≡◌, refl, sym, ◌∙◌}
+use mathlib.Core.Path.{sym, ap, ◌∙◌}
+use Rattle.std.proofs.lemmas.Result.{err_from_is_err_and}
 use Rattle.layout.specs.LayoutOf.{D-is}
 use Rattle.tidy.specs.Walk.{nowhere, entries_from}
-use Rattle.tidy.proofs.Laws.{near-at, near_clear, entries-end, entries-on}
-use borrow.Author.Rules.{rules}
+use Rattle.tidy.proofs.Laws.{near-at, near_clear, entries-end, entries-on, one_fewer}
 use Rattle.tidy.proofs.walk.entries.Goals as goal
 
-pub loop-todo-init : goal.loop-todo-init
-loop-todo-init c = (refl, omega arith)
-
-pub overflow_add-p : goal.overflow_add-p
-overflow_add-p c = omega (arith, c.loop-todo.invariant.1, c.requires)
+pub loop-init : goal.loop-init
+loop-init c = (ap (entries_from _ _) (omega arith), omega arith)
 
 pub zeros-requires : goal.zeros-requires
-zeros-requires c = (omega (arith, c.loop-todo.invariant.1, c.requires), omega arith)
+zeros-requires c = (omega (arith, c.loop.invariant.1, c.requires), omega arith)
 
-pub overflow_sub-todo : goal.overflow_sub-todo
-overflow_sub-todo c = omega arith
+pub overflow_add-p : goal.overflow_add-p
+overflow_add-p c = omega (arith, c.loop.invariant.1, c.requires)
 
-pub loop-todo-smaller : goal.loop-todo-smaller
-loop-todo-smaller c = omega arith
+pub loop-preserved : goal.loop-preserved
+loop-preserved c = (
+  c.loop.invariant.0 ∙ entries-on _ _ _ (sym D-is) (omega arith) (sym c.zeros.ensures.0 ∙ c.in_ok-p.was) ∙ ap (entries_from _ _) (one_fewer c.args.count c.loop.counter),
+  omega (arith, c.loop.invariant.1, near_clear c.zeros.ensures.1 c.in_ok-p.was),
+)
 
-pub loop-todo-preserved : goal.loop-todo-preserved
-loop-todo-preserved c = (c.loop-todo.invariant.0 ∙ entries-on _ _ _ (sym D-is) c.loop-todo-test.true (sym c.zeros.ensures.0 ∙ c.in-Clear.is), omega (arith, c.loop-todo.invariant.1, c.loop-todo-test.true, near_clear c.zeros.ensures.1 c.in-Clear.is))
-
-pub returns-in-Untidy : goal.returns-in-Untidy
-returns-in-Untidy c = (sym (c.loop-todo.invariant.0 ∙ entries-on _ _ _ (sym D-is) c.loop-todo-test.true (sym c.zeros.ensures.0 ∙ c.in-Untidy.is)), nowhere)
+pub returns-in_err-p : goal.returns-in_err-p
+returns-in_err-p c =
+    let p = err_from_is_err_and c.from_residual.result c.from_residual.ensures.1 in
+    rw (p.1, p.2) (sym (c.loop.invariant.0 ∙ entries-on _ _ _ (sym D-is) (omega arith) (sym c.zeros.ensures.0 ∙ c.in_err-p.was)), nowhere)
 
 pub returns : goal.returns
-returns c = (sym (c.loop-todo.invariant.0 ∙ entries-end _ _ _ c.loop-todo-test.false), near-at (omega (arith, c.loop-todo.invariant.1)))
+returns c = (sym (c.loop.invariant.0 ∙ entries-end _ _ _ (omega arith)), near-at (omega (arith, c.loop.invariant.1)))

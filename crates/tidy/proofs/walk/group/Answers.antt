@@ -2,7 +2,6 @@
 use native.Mathlib.Omega.{arith}
 use mathlib.Core.Path.{sym, ◌∙◌}
 use Rattle.tidy.proofs.Laws.{near-more, group_is}
-use borrow.Author.Rules.{rules}
 use Rattle.tidy.proofs.walk.group.Goals as goal
 
 pub overflow_add-at : goal.overflow_add-at

@@ -1,29 +1,24 @@
 -- The names that are left end where all end. Assumes nothing.
 use native.Mathlib.Omega.{arith}
-use Prim.Native.Nat.{◌+◌, ◌*◌, ◌≤◌}
-use mathlib.Core.Path.{◌≡◌, refl, sym, ◌∙◌}
+use mathlib.Core.Path.{sym, ap, ◌∙◌}
 use Rattle.tidy.specs.Walk.{names_from}
-use Rattle.tidy.proofs.Laws.{names-none, names-on}
-use borrow.Author.Rules.{rules}
+use Rattle.tidy.proofs.Laws.{names-none, names-on, one_fewer, step_on}
 use Rattle.tidy.proofs.walk.names_end.Goals as goal
 
-pub loop-todo-init : goal.loop-todo-init
-loop-todo-init c = (refl, omega arith)
+pub loop-init : goal.loop-init
+loop-init c = (ap (names_from _ _) (omega arith), omega arith)
 
 pub overflow_add-p : goal.overflow_add-p
-overflow_add-p c = omega (arith, c.loop-todo.invariant.1, c.requires, c.u8_of.ensures.1)
+overflow_add-p c = omega (arith, c.loop.invariant.1, c.requires, c.u8_of.ensures.1)
 
-pub overflow_add-p-in-loop-todo : goal.overflow_add-p-in-loop-todo
-overflow_add-p-in-loop-todo c = omega (arith, c.loop-todo.invariant.1, c.requires, c.u8_of.ensures.1)
+pub overflow_add-p-in-loop : goal.overflow_add-p-in-loop
+overflow_add-p-in-loop c = omega (arith, c.loop.invariant.1, c.requires, c.u8_of.ensures.1)
 
-pub overflow_sub-todo : goal.overflow_sub-todo
-overflow_sub-todo c = omega arith
-
-pub loop-todo-smaller : goal.loop-todo-smaller
-loop-todo-smaller c = omega arith
-
-pub loop-todo-preserved : goal.loop-todo-preserved
-loop-todo-preserved c = (c.loop-todo.invariant.0 ∙ names-on _ _ _ c.loop-todo-test.true ∙ rw c.u8_of.ensures.0, omega (arith, c.loop-todo.invariant.1, c.loop-todo-test.true, c.u8_of.ensures.1))
+pub loop-preserved : goal.loop-preserved
+loop-preserved c = (
+  c.loop.invariant.0 ∙ names-on _ _ _ (omega arith) ∙ rw (c.u8_of.ensures.0, one_fewer c.args.count c.loop.counter, step_on c.loop.p _ 2),
+  omega (arith, c.loop.invariant.1, c.u8_of.ensures.1),
+)
 
 pub returns : goal.returns
-returns c = sym (c.loop-todo.invariant.0 ∙ names-none _ _ _ c.loop-todo-test.false)
+returns c = sym (c.loop.invariant.0 ∙ names-none _ _ _ (omega arith))

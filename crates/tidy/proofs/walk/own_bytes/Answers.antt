@@ -1,17 +1,16 @@
 -- By kind. Assumes nothing.
 use native.Mathlib.Omega.{arith}
-use borrow.Author.Tests.{eq-eqb, ne_eqb}
 use Rattle.tidy.specs.Walk.{own_bytes}
 use Rattle.tidy.proofs.walk.own_bytes.Goals as goal
 
-pub returns-then-kind-eq0 : goal.returns-then-kind-eq0
+pub returns-in-Record : goal.returns-in-Record
 unfolding own_bytes
-returns-then-kind-eq0 c = (rw (eq-eqb _ 0 c.if-kind-eq0.true), omega arith)
+returns-in-Record c = (rw c.in-Record.is, omega arith)
 
-pub returns-then-kind-eq1 : goal.returns-then-kind-eq1
+pub returns-in-Struct : goal.returns-in-Struct
 unfolding own_bytes
-returns-then-kind-eq1 c = (rw (ne_eqb _ 0 c.if-kind-eq0.false, eq-eqb _ 1 c.if-kind-eq1.true), omega arith)
+returns-in-Struct c = (rw c.in-Struct.is, omega arith)
 
-pub returns : goal.returns
+pub returns-in-LabelDef : goal.returns-in-LabelDef
 unfolding own_bytes
-returns c = (rw (ne_eqb _ 0 c.if-kind-eq0.false, ne_eqb _ 1 c.if-kind-eq1.false), omega arith)
+returns-in-LabelDef c = (rw c.in-LabelDef.is, omega arith)

@@ -3,7 +3,6 @@
 use mathlib.Core.Path.{sym, ◌∙◌}
 use borrow.Author.Tests.{ne_eqb}
 use Rattle.rows_check.specs.SectionLaws.{count-is}
-use borrow.Author.Rules.{rules}
 use Rattle.writer.proofs.cells.count_of.Goals as goal
 
 pub returns-then-kind-eq-RECORD : goal.returns-then-kind-eq-RECORD

@@ -4,7 +4,6 @@ use Prim.Native.Nat.{◌+◌, ◌-◌, ◌*◌}
 use native.Mathlib.Omega.{arith}
 use mathlib.Core.Path.{◌≡◌, ◌∙◌}
 use Rattle.entry.specs.EntryLaws.{row-bytes-alone}
-use borrow.Author.Rules.{rules}
 use Rattle.writer.proofs.cells.entry_of.Goals as goal
 
 pub returns : goal.returns

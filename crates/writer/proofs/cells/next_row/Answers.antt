@@ -2,7 +2,6 @@
 -- Assumes nothing.
 use mathlib.Core.Path.{sym, ◌∙◌}
 use Rattle.rows_check.specs.SectionLaws.{names-after, names-first}
-use borrow.Author.Rules.{rules}
 use Rattle.writer.proofs.cells.next_row.Goals as goal
 
 pub returns-then-has_fields : goal.returns-then-has_fields

@@ -9,7 +9,6 @@ use Rattle.layout.specs.LayoutOf.{D, D-is}
 use Rattle.layout.specs.PrintLaws.{entry-print}
 use Rattle.rows_check.specs.Tree.{entry_with_zeros}
 use Rattle.put.specs.OutputLaws.{left-start, left_stored, left-last}
-use borrow.Author.Rules.{rules}
 use Rattle.writer.proofs.parts.put_entry.Goals as goal
 
 pub returns : goal.returns

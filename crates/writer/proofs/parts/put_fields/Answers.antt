@@ -5,7 +5,6 @@ use mathlib.Core.Path.{refl}
 use Rattle.rows_check.specs.SectionLaws.{fields-is}
 use Rattle.put.specs.OutputLaws.{left-start, left_step, left_stored, left-room, left-all, left-rest}
 use Rattle.writer.specs.Write.{printed_part}
-use borrow.Author.Rules.{rules}
 use Rattle.writer.proofs.parts.put_fields.Goals as goal
 
 pub put_parts-b-requires : goal.put_parts-b-requires

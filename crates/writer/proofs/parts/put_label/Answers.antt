@@ -4,7 +4,6 @@ use Rattle.wire.specs.Reader.{all_tests}
 use Rattle.layout.specs.PrintLaws.{label-print}
 use Rattle.rows_check.specs.Tree.{label_of}
 use Rattle.put.specs.OutputLaws.{left-start, left_stored, left-all, left-rest}
-use borrow.Author.Rules.{rules}
 use Rattle.writer.proofs.parts.put_label.Goals as goal
 
 pub put_name-requires : goal.put_name-requires

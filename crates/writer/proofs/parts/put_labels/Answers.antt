@@ -3,7 +3,6 @@
 use mathlib.Core.Path.{refl}
 use Rattle.put.specs.OutputLaws.{left-start, left_stored, left-all, left-rest}
 use Rattle.writer.specs.Write.{printed_part}
-use borrow.Author.Rules.{rules}
 use Rattle.writer.proofs.parts.put_labels.Goals as goal
 
 pub put_parts-requires : goal.put_parts-requires

@@ -9,7 +9,6 @@ use Rattle.rows_check.specs.Tree.{cell}
 use Rattle.rows_check.specs.Sections.{printed_name}
 use Rattle.rows_check.specs.SectionLaws.{name-is, part_end}
 use Rattle.put.specs.OutputLaws.{left-start, left_stored, left-last}
-use borrow.Author.Rules.{rules}
 use Rattle.writer.proofs.parts.put_name.Goals as goal
 
 name-parts : (rows text : List ℕ) (q : ℕ) {s l : ℕ} → s ≡ cell rows q 1 → l ≡ cell rows q 2 → cell rows q 1 + cell rows q 2 ≤ length text

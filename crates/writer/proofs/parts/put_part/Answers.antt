@@ -4,7 +4,6 @@ use native.Mathlib.Omega.{arith}
 use borrow.Author.Tests.{eq-eqb, ne_eqb}
 use Rattle.writer.specs.Write.{printed_part}
 use Rattle.put.specs.OutputLaws.{wrote-is}
-use borrow.Author.Rules.{rules}
 use Rattle.writer.proofs.parts.put_part.Goals as goal
 
 pub put_entry-requires : goal.put_entry-requires

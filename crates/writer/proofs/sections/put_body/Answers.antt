@@ -5,7 +5,6 @@ use mathlib.Core.Path.{sym, ap}
 use lib.ListN.{length, length-append}
 use Rattle.rows_check.specs.SectionLaws.{body_is}
 use Rattle.put.specs.OutputLaws.{wrote_then, wrote-is, wrote-filled}
-use borrow.Author.Rules.{rules}
 use Rattle.writer.proofs.sections.put_body.Goals as goal
 
 pub put_numbers-a-requires : goal.put_numbers-a-requires

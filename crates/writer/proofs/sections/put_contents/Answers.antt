@@ -3,7 +3,6 @@
 use mathlib.Core.Path.{sym, ◌∙◌}
 use Rattle.rows_check.specs.SectionLaws.{names-after, names-first}
 use Rattle.put.specs.OutputLaws.{wrote-is}
-use borrow.Author.Rules.{rules}
 use Rattle.writer.proofs.sections.put_contents.Goals as goal
 
 pub put_fields-requires : goal.put_fields-requires

@@ -2,7 +2,6 @@
 -- Assumes nothing.
 use Rattle.rows_check.specs.SectionLaws.{group_is}
 use Rattle.put.specs.OutputLaws.{left-start, left_stored, left-all, left-rest}
-use borrow.Author.Rules.{rules}
 use Rattle.writer.proofs.sections.put_group.Goals as goal
 
 pub put_sections-requires : goal.put_sections-requires

@@ -2,7 +2,6 @@
 -- Assumes nothing.
 use mathlib.Core.Path.{refl}
 use Rattle.put.specs.OutputLaws.{left-start, left_stored, left-last}
-use borrow.Author.Rules.{rules}
 use Rattle.writer.proofs.sections.put_head.Goals as goal
 
 pub returns : goal.returns

@@ -9,7 +9,6 @@ use Rattle.rows_check.specs.Check.{printed}
 use Rattle.rows_check.specs.Sections.{printed_group}
 use Rattle.rows_check.specs.SectionLaws.{layout_is}
 use Rattle.put.specs.OutputLaws.{room-front, wrote-filled, left-start, left_step, left_stored, left-room, left-all, left-rest}
-use borrow.Author.Rules.{rules}
 use Rattle.writer.proofs.sections.put_layout.Goals as goal
 
 layout-parts : (version : ℕ) (rows text : List ℕ) {r s l : ℕ} → (r ≡ kinds rows 10) × ((s ≡ kinds rows 13) × (l ≡ kinds rows 14))

@@ -2,7 +2,6 @@
 -- Assumes nothing.
 use borrow.Author.Tests.{ne_eqb}
 use Rattle.put.specs.OutputLaws.{stored_wrote, wrote-is, left-start, left-done}
-use borrow.Author.Rules.{rules}
 use Rattle.writer.proofs.sections.put_numbers.Goals as goal
 
 pub put_head-requires : goal.put_head-requires

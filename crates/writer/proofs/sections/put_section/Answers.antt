@@ -7,7 +7,6 @@ use lib.ListN.{length}
 use Rattle.codec.specs.Codec.{little}
 use Rattle.rows_check.specs.SectionLaws.{section-is}
 use Rattle.put.specs.OutputLaws.{wrote-is, lent_length, lent_wrote, stored_before}
-use borrow.Author.Rules.{rules}
 use Rattle.writer.proofs.sections.put_section.Goals as goal
 
 pub slice_bounds-put_body-count : goal.slice_bounds-put_body-count
