@@ -17,11 +17,12 @@ use type_sheet::LoadError;
 // Where the status goes, if it is asked for: file descriptor 3.
 const STATUS_FILE: &str = "/dev/fd/3";
 
-// What can be wrong with an argument: no such option, and a name that is missing after --sheet.
+// What can be wrong with an argument: no such option, a name that is missing after --sheet, or a fault of the program's own.
 #[derive(Clone, Copy)]
 pub enum Fault {
     Unknown,
     NoSheet,
+    Own(u64),
 }
 
 // A fault, and the argument that it is about.

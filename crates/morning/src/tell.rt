@@ -44,6 +44,8 @@ pub(crate) fn wrong_argument(rt: &impl Env, err: &mut impl Write, wrong: BadArgu
     let text = match wrong.fault {
         Fault::Unknown => ": no such option, morning --help says which there are",
         Fault::NoSheet => "--sheet: the file's name is missing",
+        // This program has no fault of its own.
+        Fault::Own(_) => "",
     };
     let _ = command_line::say_wrong_argument(rt, err, &NAME, wrong.at, text);
 }
