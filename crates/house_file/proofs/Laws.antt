@@ -1,7 +1,6 @@
 -- What the code meets, step by step. Assumes nothing.
 use Prim.Native.Nat.{ℕ, zero, suc, ◌+◌, ◌-◌, ◌*◌, ◌≤◌, ◌<◌, min}
-use Rattle.std.specs.Prelude.{Result, Ok, Err}
-use Rattle.refusal.specs.declared.Refusal.{Refusal}
+use Rattle.std.specs.Prelude.{Ok, Err}
 use native.Mathlib.Omega.{arith}
 use mathlib.Core.Path.{◌≡◌, refl, sym, ap, ap₂, ◌∙◌}
 use mathlib.Core.Bool.{true, false, ◌&&◌}
@@ -21,7 +20,7 @@ use Rattle.numbers.specs.Numbers.{le16}
 use Rattle.numbers.specs.NumberLaws.{u16-is}
 use Rattle.sums.specs.Sums.{sums_of}
 use Rattle.sums.specs.declared.Sums.{Sums}
-use Rattle.house_file.specs.House.{told, sound, zeros, filled, block_fault, file_fault, payload_of, Block, block, is_length, blocks_of, unpacked_in, store_in, Unpacking, sealed, blocks_from, count, is_count, packed_in, output_in, Packing}
+use Rattle.house_file.specs.House.{sound, zeros, filled, block_fault, file_fault, payload_of, Block, block, is_length, blocks_of, unpacked_in, store_in, Unpacking, sealed, blocks_from, count, is_count, packed_in, output_in, Packing}
 use Rattle.house_file.specs.BlockLaws.{block_at, blocks_at, number, is-length, blocks_refused}
 use Rattle.house_file.specs.PackLaws.{body, sealed-print, from-length, file-print}
 use Rattle.house_file.specs.FaultLaws.{sound-is, fault-on, fault-stop, fine-few, fine-step, fine-length}
@@ -160,19 +159,6 @@ blocks_last i zero s h = refl
 blocks_last i (suc n) s h = absurd (h (omega arith))
 
 -- ---- the answers
-
--- nothing is told where the number is 0, and the refusal by it where it is not
-pub told_none : {k : ℕ} {r : Result (Unit {0}) Refusal} → r ≡ told k → r ≡ Ok tt → k ≡ 0
-told_none {k = zero} e f = refl
-told_none {k = suc k} e f = let z : ◌≡◌ {A = ℕ} 0 1 = cc in absurd (omega arith)
-
-pub told_some : {k : ℕ} {r : Result (Unit {0}) Refusal} {x : Refusal} → r ≡ told k → r ≡ Err x → k ≡ 0 → ⊥
-told_some {k = zero} e f z = let z : ◌≡◌ {A = ℕ} 0 1 = cc in absurd (omega arith)
-told_some {k = suc k} e f z = omega arith
-
-pub told_is : (k : ℕ) → (k ≡ 0 → ⊥) → told k ≡ Err (refusal k 0)
-told_is zero z = absurd (z refl)
-told_is (suc k) z = refl
 
 pub blocks_told : (s : List ℕ) → is_length (length s) ≡ true → (k : ℕ) → k ≡ file_fault 0 (blocks_at (number s) 0 s) → (k ≡ 0 → ⊥) → blocks_of s ≡ refuse (refusal k 0)
 blocks_told s e zero f z = absurd (z refl)

@@ -49,11 +49,6 @@ filled true x = leb 1 x.used && (leb x.used 504 && zeros (drop x.used x.payload)
 unfoldable pub block_fault : ℕ → Bool → Block → ℕ
 block_fault i last x = first (unless (sound x) 131) (first (unless (eqb x.index i) 132) (unless (filled last x) 133))
 
--- what judging answers where a number is what refuses, 0 for nothing: a refusal is about no byte
-abbrev pub told : ℕ → Result (Unit {0}) Refusal
-told zero = Ok tt
-told (suc k) = Err (refusal (suc k) 0)
-
 -- ---- a file
 
 -- what refuses blocks, the first of which has index i; in order

@@ -2,7 +2,8 @@
 ghost use Rattle.std.specs.Prelude.{◌≡◌, ◌+◌, ◌*◌, ◌≤◌, ◌==◌, length};
 ghost use Rattle.std.specs.List.{list_all};
 ghost use Rattle.put.specs.Output.{Wrote};
-ghost use Rattle.house_file.specs.House.{told, sound, filled, block_fault, file_fault, payload_of};
+ghost use Rattle.codec.specs.Telling.{passed};
+ghost use Rattle.house_file.specs.House.{sound, filled, block_fault, file_fault, payload_of};
 ghost use Rattle.house_file.specs.BlockLaws.{block_at, blocks_at};
 ghost use Rattle.house_file.specs.PayloadLaws.{Sound};
 
@@ -11,7 +12,7 @@ use refusal::Refusal;
 // Judges n blocks: the refusal of the first that something refuses.
 pub(crate) fn judge(file: &[u8], n: usize) -> Result<(), Refusal>
     requires { (length file.now ≡ 512 * n) × (n ≤ 65536) }
-    ensures { result ≡ told (file_fault 0 (blocks_at n 0 file.now)) }
+    ensures { result ≡ passed (file_fault 0 (blocks_at n 0 file.now)) }
 {
     for index in 0..n {
         judge_block(file, 512 * index, index, n - index == 1)?;
@@ -22,7 +23,7 @@ pub(crate) fn judge(file: &[u8], n: usize) -> Result<(), Refusal>
 // Judges the block at a place, which is to have this index.
 fn judge_block(file: &[u8], at: usize, index: usize, last: bool) -> Result<(), Refusal>
     requires { at + 512 ≤ length file.now }
-    ensures { result ≡ told (block_fault index last (block_at at file.now)) }
+    ensures { result ≡ passed (block_fault index last (block_at at file.now)) }
 {
     if !is_sound(file, at) {
         return refusal::refuse(refusal::HOUSE_CHECK, 0);
