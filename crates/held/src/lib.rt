@@ -1,7 +1,7 @@
 // Held bytes: what comes in pieces is held in a store that the caller lends, until it is whole. Feeding and frames stand on this.
 #![tactic(auto)]
 
-ghost use Rattle.std.specs.Prelude.{◌≡◌, Result, Err};
+ghost use Rattle.std.specs.Prelude.{◌≡◌, ◌-◌, ◌≤◌, length, Result, Err};
 ghost use Rattle.std.proofs.Math.Seq.{paste};
 ghost use Rattle.codec.specs.Codec.{refusal};
 ghost use Rattle.held.specs.Held.{bounded, need_of, put_of};
@@ -55,8 +55,19 @@ pub fn pour(held: usize, store: &mut [u8], piece: &[u8], stage: Result<Holding, 
         return 0;
     }
     let n = need(stage).min(piece.len()).min(room - held);
-    store[held..held + n].copy_from_slice(&piece[..n]);
+    copy(store, held, piece, n);
     n
+}
+
+// Puts the first n bytes of the piece into the store, from place `at` on. A loop and not a copied slice: that is a call of `memmove`, which
+// a caller in C would have to bring, and records of 56 bytes took longer by it.
+fn copy(store: &mut [u8], at: usize, piece: &[u8], n: usize)
+    requires { (n ≤ length store.old - at) × (n ≤ length piece.now) }
+    ensures { store.new ≡ paste store.old at piece.now n }
+{
+    for j in 0..n {
+        store[at + j] = piece[j];
+    }
 }
 
 // How many bytes are still needed.

@@ -368,13 +368,14 @@ module _ (isRecord : Bool) (base : ℕ) (ext : Bool) (e : List ℕ) where
   unfolding on_side
   side_this h = rw h
 
-  pub starts_other : (c : ℕ) → differs ext (past_base isRecord base e) ≡ true → false ≡ starts_here isRecord base ext c e
+  pub starts_off : (c : ℕ) → eqb (off_of e) c ≡ false → false ≡ starts_here isRecord base ext c e
   unfolding starts_here
-  starts_other c h = rw h
+  starts_off c q = by_bool (differs ext (past_base isRecord base e)) (λ h. rw h) (λ h. rw (h, q))
 
-  pub starts_this : (c : ℕ) (r : Bool) → differs ext (past_base isRecord base e) ≡ false → r ≡ eqb (off_of e) c → r ≡ starts_here isRecord base ext c e
+  pub starts_at : (c : ℕ) (other : Bool) → other ≡ differs ext (past_base isRecord base e) → off_of e ≡ c → not other ≡ starts_here isRecord base ext c e
   unfolding starts_here
-  starts_this c r h q = rw h q
+  starts_at c true p q = rw (sym p)
+  starts_at c false p q = rw (sym p, eq-eqb (off_of e) c q)
 
 module _ (sheet ws e : List ℕ) where
   pub note_skip : is_padding sheet e ≡ true → ws ≡ noted_marks sheet ws e

@@ -12,7 +12,10 @@ pub fn put_row(table: &mut [u32], n: usize, row: &[u32])
     let w = row.len();
     if 0 < w && n < table.len() / w {
         let at = w * n;
-        table[at..at + w].copy_from_slice(row);
+        // One number at a time and not a copied slice: for that the row is first put together on the stack, in the pass without a table too.
+        for j in 0..w {
+            table[at + j] = row[j];
+        }
     }
 }
 

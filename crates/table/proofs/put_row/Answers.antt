@@ -1,17 +1,14 @@
--- A row that the table has is copied into its part. Assumes nothing.
-use Rattle.std.proofs.Common.{◌∙◌, lt-ltb}
-use Rattle.table.specs.Table.{put_row}
+-- The loop stores the row's numbers one after the other. Assumes nothing.
 use Rattle.table.specs.ReadingLaws.{put-not, put-none}
-use Rattle.table.proofs.TableLaws.{row_fits_lem}
-use Rattle.table.proofs.Putting.{put_part}
+use Rattle.table.proofs.Putting.{put_next, put-done}
 use Rattle.table.proofs.put_row.Goals as goal
 use Rattle.table.proofs.put_row.Goals.{else-w-gt0-via-then-w-gt0+else-n-table, else-w-gt0-via-else-w-gt0}
 
-pub returns-then-n-table : goal.returns-then-n-table
-unfolding put_row
-returns-then-n-table c = record {
-  is = put_part _ _ _ c.copy_from_slice.ensures.after (row_fits_lem c.if-w-gt0.true c.if-n-table.true) ∙ rw (lt-ltb c.args.n _ c.if-n-table.true);
-}
+pub loop-j-preserved : goal.loop-j-preserved
+loop-j-preserved c = put_next c.loop-j.invariant c.loop-j-test.true
+
+pub returns-after-loop-j : goal.returns-after-loop-j
+returns-after-loop-j c = record { is = put-done c.loop-j.invariant c.loop-j-test.false c.if-n-table.true }
 
 pub returns-else-w-gt0 : goal.returns-else-w-gt0
 returns-else-w-gt0 c = elim c.else-w-gt0.branch [
