@@ -42,6 +42,7 @@ pub fn read_piece(
     let mut held = state.held;
     let mut ended = state.ended;
     let mut at = 0;
+    // A while: each turn moves the place by what a feed takes. The turns are a bound on them.
     let mut turns = piece.len() + 1;
     while 0 < turns {
         if piece.len() <= at {

@@ -62,6 +62,7 @@ fn store_bytes(out: &mut [u8], at: usize, src: &[u8]) -> usize
     }
     let last = src.len() - 4;
     let mut a = store_four(out, at, src[0], src[1], src[2], src[3]);
+    // A while: each step is four bytes.
     let mut j = 4;
     while j < last {
         a = store_four(out, a, src[j], src[j + 1], src[j + 2], src[j + 3]);
@@ -83,6 +84,7 @@ fn store_each(out: &mut [u8], at: usize, src: &[u8]) -> usize
     ensures { Wrote at src.now out.old out.new result }
 {
     let mut a = at;
+    // A while here and in `store_little`: a range was not measured yet, and the writers spend their time here.
     let mut j = 0;
     while j < src.len() {
         a = store_one(out, a, src[j]);
