@@ -5,6 +5,7 @@
 pub mod escape;
 
 ghost use Rattle.std.specs.Prelude.{◌≡◌, ◌≢◌, ◌≤◌, ◌⊎◌, length, take, true, false, None, Some, MatchResult};
+ghost use Rattle.std.specs.Option.{unwrap_or};
 ghost use Rattle.command_line.specs.declared.Fault.TheVariants as Fault';
 
 use std::env::{Env, FillError};
@@ -92,14 +93,14 @@ pub fn wrong(asked: Asked, fault: Fault, i: usize) -> Asked
     asked
 }
 
-// What is asked for with argument i, before the argument `next`. The word after --sheet is the name of a sheet, whatever it is. A word that
-// is none of the three options is a fault.
+// What is asked for with argument i, before the argument `next`. The word after --sheet is the name of a sheet, whatever it is, and argument 0
+// the program's own where no sheet is asked for. A word that is none of the three options is a fault.
 pub fn taken(rt: &impl Env, asked: Asked, i: usize, next: usize) -> Asked
-    ensures name { asked.sheet ≡ Some i → result ≡ asked }
-    ensures word { asked.sheet ≢ Some i → (result ≡ record asked { help = true }) ⊎ ((result ≡ record asked { status = true }) ⊎ ((result ≡ record asked { sheet = Some next }) ⊎ (result ≡ record asked { wrong = Some (record { fault = Fault'.Unknown; at = i }) }))) }
+    ensures name { unwrap_or asked.sheet 0 ≡ i → result ≡ asked }
+    ensures word { unwrap_or asked.sheet 0 ≢ i → (result ≡ record asked { help = true }) ⊎ ((result ≡ record asked { status = true }) ⊎ ((result ≡ record asked { sheet = Some next }) ⊎ (result ≡ record asked { wrong = Some (record { fault = Fault'.Unknown; at = i }) }))) }
 {
     let mut asked = asked;
-    if asked.sheet == Some(i) {
+    if asked.sheet.unwrap_or(0) == i {
         return asked;
     }
     if is_word(rt, i, b"--help") {
@@ -114,12 +115,12 @@ pub fn taken(rt: &impl Env, asked: Asked, i: usize, next: usize) -> Asked
     asked
 }
 
-// What all n words ask for, the program's own name among them: no name is missing after the last.
+// What all n words ask for, the program's own name among them: no name is missing after the last. One is where there is no word at all.
 pub fn complete(asked: Asked, n: usize) -> Asked
-    ensures missing { asked.sheet ≡ Some n → result ≡ record asked { wrong = Some (record { fault = Fault'.NoSheet; at = n }) } }
-    ensures whole { asked.sheet ≢ Some n → result ≡ asked }
+    ensures missing { unwrap_or asked.sheet 0 ≡ n → result ≡ record asked { wrong = Some (record { fault = Fault'.NoSheet; at = n }) } }
+    ensures whole { unwrap_or asked.sheet 0 ≢ n → result ≡ asked }
 {
-    if asked.sheet == Some(n) {
+    if asked.sheet.unwrap_or(0) == n {
         return wrong(asked, Fault::NoSheet, n);
     }
     asked
@@ -188,9 +189,10 @@ fn reason(text: &[u8], why: io::Error) -> &[u8] {
 }
 
 // Says on standard error what is wrong with the named thing.
-pub fn say_wrong(err: &mut impl Write, program: &[u8], name: &[u8], text: &str) -> io::Result<()> {
+pub fn say_wrong(err: &mut impl Write, program: &[u8], name: &[u8], text: &[u8]) -> io::Result<()> {
     named(err, program, name)?;
-    writeln!(err, "{text}")
+    err.write_all(text)?;
+    err.write_all(b"\n")
 }
 
 // The same of argument i.
@@ -199,7 +201,7 @@ pub fn say_wrong_argument(
     err: &mut impl Write,
     program: &[u8],
     i: usize,
-    text: &str,
+    text: &[u8],
 ) -> io::Result<()> {
     let mut word = [0u8; 4096];
     let n = argument(rt, i, &mut word);

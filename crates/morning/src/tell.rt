@@ -47,5 +47,5 @@ pub(crate) fn wrong_argument(rt: &impl Env, err: &mut impl Write, wrong: BadArgu
         // This program has no fault of its own.
         Fault::Own(_) => "",
     };
-    let _ = command_line::say_wrong_argument(rt, err, &NAME, wrong.at, text);
+    let _ = command_line::say_wrong_argument(rt, err, &NAME, wrong.at, text.as_bytes());
 }
