@@ -11,6 +11,7 @@ mod records;
 mod refusals;
 mod sheet;
 mod start;
+mod store;
 mod symbols;
 mod tell;
 mod tidiness;
@@ -23,7 +24,6 @@ use options::{Options, Stream};
 use refusal::Refusal;
 use sheet::{Origin, Sheet};
 use start::Start;
-use std::alloc::Global;
 use std::env::Env;
 use std::io;
 use std::io::{Read, Write};
@@ -33,54 +33,64 @@ use tell::{Status, Trouble};
 fn main(rt: HostRuntime) {
     let asked = options::read(&rt);
     let status = match run(&rt, &mut io::writer(&rt), &mut rt.stderr(), asked) {
-        Ok(status) => status,
+        Ok(written) => tell::ended(&mut rt.stderr(), written),
         Err(trouble) => {
             tell::tell(&rt, &mut rt.stderr(), asked, trouble);
-            Status::Unusable
+            Status::Unusable.number()
         }
     };
-    command_line::end(&rt, asked.common, u64::from(status));
+    command_line::end(&rt, asked.common, status);
 }
 
-// Does what is asked.
-fn run<R: Env + Files + Input + AllocGlobal>(
+// Does what is asked. What goes to standard output can fail by itself.
+fn run<R: Env + Files + Input>(
     rt: &R,
     out: &mut impl Write,
     err: &mut impl Write,
     asked: Options,
-) -> Result<Status, Trouble> {
-    if let Some(wrong) = asked.wrong {
+) -> Result<io::Result<Status>, Trouble> {
+    let common = asked.common;
+    if let Some(wrong) = common.wrong {
         return Err(Trouble::Argument(wrong));
     }
-    let common = asked.common;
     if common.help {
-        tell::help(out)?;
-        return Ok(Status::Accepted);
+        return Ok(tell::help(out).map(|()| Status::Accepted));
     }
     let sheet = sheet::load(rt, err, common).ok_or(Trouble::Sheet)?;
     if let Some(Stream::File(i)) = asked.stream {
         let mut space = [0u8; 4096];
         let path = options::argument(rt, i, &mut space);
         let mut file = reading::open(rt, path).map_err(Trouble::Input)?;
-        return show(rt.alloc(), &mut file, out, asked, &sheet);
+        return show(&mut file, out, asked, &sheet);
     }
-    show(rt.alloc(), &mut rt.reader(), out, asked, &sheet)
+    show(&mut rt.reader(), out, asked, &sheet)
 }
 
 // Shows an open file: a layout where it is asked whether that is tidy, else a stream.
 fn show(
-    alloc: Global,
     input: &mut impl Read,
     out: &mut impl Write,
     asked: Options,
     sheet: &Sheet,
-) -> Result<Status, Trouble> {
+) -> Result<io::Result<Status>, Trouble> {
     if asked.tidy {
-        return tidiness::show(alloc, input, out, asked, sheet);
+        return tidiness::show(input, out, asked, sheet);
     }
-    let mut start = Start::new(alloc).map_err(io::Error::from)?;
+    show_stream(input, out, sheet)
+}
+
+// Shows the stream of an open file. The store and the tables are in this function's frame: show needs no heap.
+fn show_stream(
+    input: &mut impl Read,
+    out: &mut impl Write,
+    sheet: &Sheet,
+) -> Result<io::Result<Status>, Trouble> {
+    let mut store = store::space();
+    let mut symbology = store::symbology_table();
+    let mut layout = store::layout_table();
+    let mut start = Start::new(&mut store, &mut symbology, &mut layout);
     let answer = start.read(input, sheet).map_err(Trouble::Input)?;
-    Ok(report(out, &start, answer, sheet.origin)?)
+    Ok(report(out, &start, answer, sheet.origin))
 }
 
 // Writes what the answer on the held bytes says.
@@ -117,8 +127,8 @@ const TABLE_SHORT: Refusal = Refusal {
 fn accepted(out: &mut impl Write, start: &Start, fields: Fields, origin: Origin) -> io::Result<()> {
     if let Some((prelude, block)) = start.held().split_first_chunk::<8>() {
         header::show(out, fields, prelude[3], block, origin)?;
-        symbols::show(out, block, &start.symbology, fields.symbology_rows)?;
-        records::show(out, block, &start.layout, fields.layout_rows)?;
+        symbols::show(out, block, start.symbology(), fields.symbology_rows)?;
+        records::show(out, block, start.layout(), fields.layout_rows)?;
     }
     Ok(())
 }

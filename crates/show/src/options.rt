@@ -1,36 +1,44 @@
 // What the arguments ask for.
+ghost use Rattle.std.specs.Prelude.{◌≡◌, Some};
+ghost use Rattle.std.specs.Option.{unwrap_or};
+ghost use Rattle.command_line.specs.declared.Fault.TheVariants as Fault';
+ghost use Rattle.show.specs.Faults.{own};
+
 use crate::width;
-use command_line::Asked;
+use command_line::{Asked, Fault};
 use std::env::Env;
-use std::fmt;
 
-// What is wrong with the arguments, and which argument that is; none where one is missing after the last.
+// What can be wrong with an argument, besides the faults of `command_line`.
 #[derive(Clone, Copy)]
-pub(crate) struct Wrong {
-    pub(crate) fault: Fault,
-    pub(crate) at: Option<usize>,
-}
-
-#[derive(Clone, Copy)]
-pub(crate) enum Fault {
-    UnknownOption,
-    SheetMissing,
+pub(crate) enum OwnFault {
     SecondStream,
     WidthMissing,
     NoWidth,
     IdleWidth,
 }
 
-impl fmt::Display for Fault {
-    fn fmt<W: fmt::Write>(&self, f: &mut fmt::Formatter<W>) -> fmt::Result {
-        f.write_str(match self {
-            Fault::UnknownOption => "no such option, show --help says which there are",
-            Fault::SheetMissing => "--sheet: the file's name is missing",
-            Fault::SecondStream => "a second stream, show takes one",
-            Fault::WidthMissing => "--width: the number is missing",
-            Fault::NoWidth => "no symbol width, which is a number from 0 to 65535",
-            Fault::IdleWidth => "only --tidy takes a symbol width",
+impl OwnFault {
+    // The fault as `command_line` has it, by a number of this program's own.
+    fn fault(self) -> Fault
+        ensures { result ≡ own self }
+    {
+        Fault::Own(match self {
+            OwnFault::SecondStream => 1,
+            OwnFault::WidthMissing => 2,
+            OwnFault::NoWidth => 3,
+            OwnFault::IdleWidth => 4,
         })
+    }
+
+    // The fault of such a number.
+    pub(crate) fn of(number: u64) -> Option<OwnFault> {
+        match number {
+            1 => Some(OwnFault::SecondStream),
+            2 => Some(OwnFault::WidthMissing),
+            3 => Some(OwnFault::NoWidth),
+            4 => Some(OwnFault::IdleWidth),
+            _ => None,
+        }
     }
 }
 
@@ -46,7 +54,6 @@ pub(crate) enum Stream {
 #[derive(Clone, Copy)]
 pub(crate) struct Options {
     pub(crate) common: Asked,
-    pub(crate) wrong: Option<Wrong>,
     pub(crate) tidy: bool,
     pub(crate) width: Option<u16>,
     width_at: Option<usize>,
@@ -58,7 +65,6 @@ pub(crate) fn read(rt: &impl Env) -> Options {
     let n = command_line::argument_count(rt);
     let mut options = Options {
         common: command_line::nothing(),
-        wrong: None,
         tidy: false,
         width: None,
         width_at: None,
@@ -94,50 +100,45 @@ impl Options {
             Word::Width => self.width_at = Some(next),
             Word::Dash => self.take_stream(i, Stream::StandardInput),
             Word::Name => self.take_stream(i, Stream::File(i)),
-            Word::Other => self.take_common(i, command_line::taken(rt, common, i, next)),
+            Word::Other => self.common = command_line::taken(rt, common, i, next),
         }
     }
 
     fn take_width(&mut self, i: usize, word: &[u8]) {
         match width::of(word) {
             Some(width) => self.width = Some(width),
-            None => self.fail(Fault::NoWidth, Some(i)),
+            None => self.fail(OwnFault::NoWidth, i),
         }
     }
 
     fn take_stream(&mut self, i: usize, stream: Stream) {
         match self.stream {
             None => self.stream = Some(stream),
-            Some(_) => self.fail(Fault::SecondStream, Some(i)),
-        }
-    }
-
-    // Argument i is one that other programs take, or a fault.
-    fn take_common(&mut self, i: usize, common: Asked) {
-        self.common = common;
-        if let Some(wrong) = common.wrong {
-            if wrong.at == i {
-                self.fail(Fault::UnknownOption, Some(i));
-            }
+            Some(_) => self.fail(OwnFault::SecondStream, i),
         }
     }
 
     // All n words are taken, the program's own among them: nothing is missing after the last, and a width is given to --tidy alone.
-    fn complete(&mut self, n: usize) {
-        let common = self.common;
-        if common.sheet == Some(n) {
-            self.fail(Fault::SheetMissing, None);
-        } else if let Some(at) = self.width_at {
+    fn complete(&mut self, n: usize)
+        ensures { unwrap_or self.old.common.sheet 0 ≡ n → self.new.common.wrong ≡ Some (record { fault = Fault'.NoSheet; at = n }) }
+    {
+        if let Some(at) = self.width_at {
             if at == n {
-                self.fail(Fault::WidthMissing, None);
+                self.fail(OwnFault::WidthMissing, n);
             } else if !self.tidy {
-                self.fail(Fault::IdleWidth, Some(at.saturating_sub(1)));
+                self.fail(OwnFault::IdleWidth, at.saturating_sub(1));
             }
         }
+        let common = self.common;
+        self.common = command_line::complete(common, n);
     }
 
-    fn fail(&mut self, fault: Fault, at: Option<usize>) {
-        self.wrong = Some(Wrong { fault, at });
+    // A fault of argument i.
+    fn fail(&mut self, fault: OwnFault, i: usize)
+        ensures { self.new.common ≡ record self.old.common { wrong = Some (record { fault = own fault; at = i }) } }
+    {
+        let common = self.common;
+        self.common = command_line::wrong(common, fault.fault(), i);
     }
 }
 

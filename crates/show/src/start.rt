@@ -1,40 +1,47 @@
 // The start of a stream as it is read: what is held of it, and the tables of its rows.
-ghost use Rattle.std.specs.Prelude.{◌≡◌, IfOk, vec_len};
-
 use crate::sheet::Sheet;
 use block::ReadError;
 use feed::{Answer, State};
-use std::alloc::{AllocError, Global};
 use std::io;
 use std::io::Read;
 
-// The first `held` bytes of the store are those that were read.
+// The first `held` bytes of the lent store are those that were read.
 #[derive(Drop)]
-pub(crate) struct Start {
-    store: Vec<u8>,
+pub(crate) struct Start<'a> {
+    store: &'a mut [u8],
     held: usize,
-    pub(crate) symbology: Vec<u32>,
-    pub(crate) layout: Vec<u32>,
+    symbology: &'a mut [u32],
+    layout: &'a mut [u32],
 }
 
-impl Start {
-    // Room for 1,048,576 bytes, and for 16,384 rows in each table: six numbers by column, nine by row.
-    pub(crate) fn new(alloc: Global) -> Result<Start, AllocError>
-        ensures store { IfOk result (λ start. 1048576 ≡ vec_len start.store) }
-        ensures symbology { IfOk result (λ start. 98304 ≡ vec_len start.symbology) }
-        ensures layout { IfOk result (λ start. 147456 ≡ vec_len start.layout) }
-    {
-        Ok(Start {
-            store: vec![in alloc; 0; 1048576]?,
+impl<'a> Start<'a> {
+    // Nothing is read yet. The tables have six numbers a row by column, and nine a row.
+    pub(crate) fn new(
+        store: &'a mut [u8],
+        symbology: &'a mut [u32],
+        layout: &'a mut [u32],
+    ) -> Start<'a> {
+        Start {
+            store,
             held: 0,
-            symbology: vec![in alloc; 0; 98304]?,
-            layout: vec![in alloc; 0; 147456]?,
-        })
+            symbology,
+            layout,
+        }
     }
 
     // What was read.
     pub(crate) fn held(&self) -> &[u8] {
-        command_line::front(&self.store, self.held)
+        command_line::front(self.store, self.held)
+    }
+
+    // The table of the symbology's rows.
+    pub(crate) fn symbology(&self) -> &[u32] {
+        self.symbology
+    }
+
+    // The table of the layout's rows.
+    pub(crate) fn layout(&self) -> &[u32] {
+        self.layout
     }
 
     // Reads a file until the answer is done or a refusal, or the file ends. Each turn but the last takes a byte at least, so there are no
@@ -59,11 +66,11 @@ impl Start {
     fn feed(&mut self, piece: &[u8], sheet: &Sheet) -> Result<Answer, ReadError> {
         let fed = feed::feed(
             State { held: self.held },
-            &mut self.store,
+            self.store,
             piece,
             &sheet.numbers,
-            &mut self.symbology,
-            &mut self.layout,
+            self.symbology,
+            self.layout,
         );
         let state = fed.state;
         self.held = state.held;

@@ -1,9 +1,11 @@
 // What is told besides the report: the help, and on standard error what cannot be done.
+ghost use Rattle.std.specs.Prelude.{◌≡◌, MatchResult};
+ghost use Rattle.show.specs.Statuses.{number};
+
 use crate::options;
-use crate::options::{Options, Stream, Wrong};
-use command_line::escape;
+use crate::options::{Options, OwnFault, Stream};
+use command_line::{BadArgument, Fault};
 use std::env::Env;
-use std::fmt::Display;
 use std::io;
 use std::io::Write;
 
@@ -18,9 +20,11 @@ pub(crate) enum Status {
     Unusable,
 }
 
-impl From<Status> for u64 {
-    fn from(status: Status) -> u64 {
-        match status {
+impl Status {
+    pub(crate) fn number(self) -> u64
+        ensures { result ≡ number self }
+    {
+        match self {
             Status::Accepted => 0,
             Status::Refused => 1,
             Status::Unusable => 2,
@@ -31,18 +35,10 @@ impl From<Status> for u64 {
 // Why nothing can be shown. Where it is the type sheet, that has been told.
 #[derive(Clone, Copy)]
 pub(crate) enum Trouble {
-    Argument(Wrong),
+    Argument(BadArgument),
     Sheet,
     Input(io::Error),
     LongLayout,
-    Output(io::Error),
-}
-
-// What is written goes to standard output.
-impl From<io::Error> for Trouble {
-    fn from(why: io::Error) -> Trouble {
-        Trouble::Output(why)
-    }
 }
 
 // How the program is called.
@@ -72,6 +68,13 @@ the bytes end there.
     )
 }
 
+// The status that goes with what was written to standard output; where that failed it is 2, and why is said.
+pub(crate) fn ended(err: &mut impl Write, written: io::Result<Status>) -> u64
+    ensures { MatchResult written (λ status. result ≡ number status) (λ why. result ≡ 2) }
+{
+    command_line::ended(err, &NAME, written.map(|status| status.number()))
+}
+
 // Says on standard error why nothing can be shown. What standard error does not take is lost.
 pub(crate) fn tell(rt: &impl Env, err: &mut impl Write, asked: Options, trouble: Trouble) {
     let mut space = [0u8; 4096];
@@ -81,12 +84,12 @@ pub(crate) fn tell(rt: &impl Env, err: &mut impl Write, asked: Options, trouble:
         Trouble::Input(why) => {
             command_line::failed(err, &NAME, input_name(rt, asked, &mut space), why)
         }
-        Trouble::LongLayout => say(
+        Trouble::LongLayout => command_line::say_wrong(
             err,
+            &NAME,
             input_name(rt, asked, &mut space),
-            &"more than 1,048,576 bytes, show takes no longer layout",
+            b": more than 1,048,576 bytes, show takes no longer layout",
         ),
-        Trouble::Output(why) => command_line::failed(err, &NAME, b"standard output", why),
     };
 }
 
@@ -98,17 +101,22 @@ fn input_name<'a>(rt: &impl Env, asked: Options, space: &'a mut [u8; 4096]) -> &
     }
 }
 
-fn wrong_argument(rt: &impl Env, err: &mut impl Write, wrong: Wrong) -> io::Result<()> {
-    let mut space = [0u8; 4096];
-    match wrong.at {
-        Some(i) => say(err, options::argument(rt, i, &mut space), &wrong.fault),
-        None => writeln!(err, "show: {}", wrong.fault),
-    }
+fn wrong_argument(rt: &impl Env, err: &mut impl Write, wrong: BadArgument) -> io::Result<()> {
+    let text = match wrong.fault {
+        Fault::Unknown => ": no such option, show --help says which there are",
+        Fault::NoSheet => "--sheet: the file's name is missing",
+        Fault::Own(number) => own_text(number),
+    };
+    command_line::say_wrong_argument(rt, err, &NAME, wrong.at, text.as_bytes())
 }
 
-// A line about the named thing.
-fn say(err: &mut impl Write, name: &[u8], what: &impl Display) -> io::Result<()> {
-    err.write_all(b"show: ")?;
-    escape::escaped(err, name)?;
-    writeln!(err, ": {what}")
+// What is said of a fault of this program's own.
+fn own_text(number: u64) -> &'static str {
+    match OwnFault::of(number) {
+        Some(OwnFault::SecondStream) => ": a second stream, show takes one",
+        Some(OwnFault::WidthMissing) => "--width: the number is missing",
+        Some(OwnFault::NoWidth) => ": no symbol width, which is a number from 0 to 65535",
+        Some(OwnFault::IdleWidth) => ": only --tidy takes a symbol width",
+        None => "",
+    }
 }

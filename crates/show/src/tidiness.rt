@@ -2,28 +2,40 @@
 use crate::options::Options;
 use crate::sheet::Sheet;
 use crate::tell::{Status, Trouble};
-use crate::{refusals, width};
-use std::alloc::Global;
+use crate::{refusals, store, width};
 use std::io;
 use std::io::{Read, Write};
 
-// One byte more than a layout may have.
-const ROOM: usize = 1048577;
-
 // Shows whether the layout of an open file is tidy, and answers the status.
 pub(crate) fn show(
-    alloc: Global,
     input: &mut impl Read,
     out: &mut impl Write,
     asked: Options,
     sheet: &Sheet,
-) -> Result<Status, Trouble> {
-    let mut store = vec![in alloc; 0; 1048577].map_err(io::Error::from)?;
-    let n = reading::read_full(input, &mut store).map_err(Trouble::Input)?;
-    if n == ROOM {
-        return Err(Trouble::LongLayout);
+) -> Result<io::Result<Status>, Trouble> {
+    let mut store = store::space();
+    let n = read_all(input, &mut store).map_err(Trouble::Input)?;
+    let n = n.ok_or(Trouble::LongLayout)?;
+    Ok(report(out, command_line::front(&store, n), asked, sheet))
+}
+
+// Reads a layout to its end, in pieces of 4,096 bytes, and answers how long it is; nothing where the store has no room for a piece. Each
+// turn takes a byte at least, so after as many turns as the store has bytes there is room for no more.
+fn read_all(input: &mut impl Read, store: &mut [u8]) -> io::Result<Option<usize>> {
+    let mut held = 0;
+    for _ in 0..=store.len() {
+        let mut piece = [0u8; 4096];
+        let n = input.read(&mut piece)?;
+        if n == 0 {
+            return Ok(Some(held));
+        }
+        let next = put::put_bytes(store, held, &piece[..n]);
+        if next == held {
+            return Ok(None);
+        }
+        held = next;
     }
-    Ok(report(out, &store[..n], asked, sheet)?)
+    Ok(None)
 }
 
 // Writes whether a layout is tidy, else the refusal, and then what it was judged with.
