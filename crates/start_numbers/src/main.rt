@@ -8,14 +8,12 @@ mod rule_numbers;
 mod start;
 
 use start::{Change, Field, Start, cell, row};
-use std::alloc::Global;
 use std::io;
 use std::io::Write;
 
 fn main(rt: HostRuntime) -> io::Result<()> {
     let cases = &mut Cases {
         out: io::writer(&rt),
-        alloc: rt.alloc(),
     };
     written(cases)?;
     written_otherwise(cases)?;
@@ -42,18 +40,21 @@ fn main(rt: HostRuntime) -> io::Result<()> {
     large::long_block(cases)
 }
 
-// Where the lines of the cases go, and where starts are made.
+// Where the lines of the cases go.
 #[derive(Drop)]
 pub(crate) struct Cases<W> {
     out: W,
-    alloc: Global,
 }
 
 impl<W: Write> Cases<W> {
     // The good start of a version with these changes.
     fn show(&mut self, words: &str, version: u8, changes: &[Change]) -> io::Result<()> {
-        let start = Start::good(self.alloc, version)?;
-        self.show_changed(words, start, changes)
+        let (mut table, mut rows, mut text) = (start::TABLE, start::ROWS, start::TEXT);
+        self.show_changed(
+            words,
+            Start::of(version, &mut table, &mut rows, &mut text),
+            changes,
+        )
     }
 
     // A start with these changes.

@@ -1,6 +1,6 @@
 // One layout for each rule: a good one of a record, a struct and a label def, with up to three changes.
-use crate::Cases;
 use crate::start::{Change, Start, row};
+use crate::{Cases, start};
 use std::io;
 use std::io::Write;
 
@@ -37,7 +37,8 @@ fn sheet() -> [u16; 520] {
 impl<W: Write> Cases<W> {
     // The good layout of version 4 with these changes.
     fn show_rules(&mut self, words: &str, changes: &[Change]) -> io::Result<()> {
-        let mut start = Start::with_rows(self.alloc, 4, &ROWS, ROWS.len())?;
+        let (mut table, mut rows, mut text) = (start::TABLE, ROWS, start::TEXT);
+        let mut start = Start::of(4, &mut table, &mut rows, &mut text);
         start.sheet = sheet();
         self.show_changed(words, start, changes)
     }

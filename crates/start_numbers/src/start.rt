@@ -1,18 +1,18 @@
 // A start that every version writes, and the changes that make others of it.
-use std::alloc::{AllocError, Global};
 use std::io;
 use std::io::Write;
 
-// What the writer is given: of the layout rows the first `layout` numbers, and `room` bytes of output, 512 at the most.
+// What the writer is given: of the layout rows the first `layout` numbers, and `room` bytes of output, 512 at the most. The tables and the
+// text are lent, so that no heap is needed.
 #[derive(Drop)]
-pub(crate) struct Start {
+pub(crate) struct Start<'a> {
     pub(crate) version: u8,
     pub(crate) fields: [u64; 16],
-    pub(crate) table: Vec<u32>,
+    pub(crate) table: &'a mut [u32],
     pub(crate) count: usize,
-    pub(crate) rows: Vec<u32>,
+    pub(crate) rows: &'a mut [u32],
     pub(crate) layout: usize,
-    pub(crate) text: Vec<u8>,
+    pub(crate) text: &'a mut [u8],
     pub(crate) room: usize,
     pub(crate) sheet: [u16; 520],
 }
@@ -80,7 +80,7 @@ pub(crate) fn good_fields(version: u8) -> [u64; 16] {
 }
 
 // ES, NQ, CL in the lists; ESU mapped to ESH4 from the first day of year 1 to the last of year 9999. By column.
-const TABLE: [u32; 30] = [
+pub(crate) const TABLE: [u32; 30] = [
     0, 1, 2, 3, 4, // kinds
     4, 6, 8, 10, 13, // starts
     2, 2, 2, 3, 4, // lengths
@@ -90,7 +90,7 @@ const TABLE: [u32; 30] = [
 ];
 
 // A record `trade` with the field `size`, and the label def `side` with `buy` and `sell`.
-const ROWS: [u32; 54] = [
+pub(crate) const ROWS: [u32; 54] = [
     10, 17, 5, 1, 2, 8, 1, 3, 4, // record
     11, 7, 0, 8, 1, 0, 0, 0, 0, // field
     12, 22, 4, 0, 0, 0, 0, 0, 0, // name
@@ -100,42 +100,37 @@ const ROWS: [u32; 54] = [
 ];
 
 // The text of all of them, and two dots more.
-const TEXT: [u8; 39] = *b"TESTESNQCLESUESH4tradesizesidebuysell..";
+pub(crate) const TEXT: [u8; 39] = *b"TESTESNQCLESUESH4tradesizesidebuysell..";
 
-impl Start {
-    // The good start of a version; the layout rows are for version 4 alone.
-    pub(crate) fn good(alloc: Global, version: u8) -> Result<Start, AllocError> {
-        let layout = if version == 4 { ROWS.len() } else { 0 };
-        Start::with_rows(alloc, version, &ROWS, layout)
-    }
-
-    // The same with the first `layout` numbers of other layout rows.
-    pub(crate) fn with_rows(
-        alloc: Global,
+impl<'a> Start<'a> {
+    // A start with the good fields of a version; all of the layout rows are for version 4 alone.
+    pub(crate) fn of(
         version: u8,
-        rows: &[u32],
-        layout: usize,
-    ) -> Result<Start, AllocError> {
-        Ok(Start {
+        table: &'a mut [u32],
+        rows: &'a mut [u32],
+        text: &'a mut [u8],
+    ) -> Start<'a> {
+        let layout = if version == 4 { rows.len() } else { 0 };
+        Start {
             version,
             fields: good_fields(version),
-            table: Vec::from_slice(alloc, &TABLE)?,
+            table,
             count: 5,
-            rows: Vec::from_slice(alloc, rows)?,
+            rows,
             layout,
-            text: Vec::from_slice(alloc, &TEXT)?,
+            text,
             room: 512,
             sheet: [0; 520],
-        })
+        }
     }
 
     // Makes a change; none where there is no such place.
     pub(crate) fn change(&mut self, change: Change) {
         match change {
             Change::Field(field, x) => self.fields[field as usize] = x,
-            Change::Cell { row, column, x } => put(&mut self.table, place(5, column, row), x),
-            Change::Row { row, column, x } => put(&mut self.rows, place(9, row, column), x),
-            Change::Byte(at, x) => put(&mut self.text, at, x),
+            Change::Cell { row, column, x } => put(self.table, place(5, column, row), x),
+            Change::Row { row, column, x } => put(self.rows, place(9, row, column), x),
+            Change::Byte(at, x) => put(self.text, at, x),
             Change::Count(n) => self.count = n,
             Change::Layout(n) => self.layout = n,
             Change::Room(n) => self.room = n,
@@ -146,15 +141,15 @@ impl Start {
     pub(crate) fn show(&self, out: &mut impl Write, words: &str) -> io::Result<()> {
         let mut block = [7u8; 512];
         let room = &mut block[..self.room.min(512)];
-        let rows = self.rows.get(..self.layout).unwrap_or(&self.rows);
+        let rows = self.rows.get(..self.layout).unwrap_or(self.rows);
         write!(out, "{words}: ")?;
         match block_writer::write_block(
             self.version,
             &self.fields,
-            &self.table,
+            self.table,
             self.count,
             rows,
-            &self.text,
+            self.text,
             &self.sheet,
             room,
         ) {
