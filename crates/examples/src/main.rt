@@ -152,20 +152,20 @@ fn sheet_of(s: &[u8]) -> [u16; 520] {
     sheet
 }
 
-// How many bytes the text has in hexadecimal; they are put into the room, as many as it has place for.
+// How many bytes the text has in hexadecimal; they are put into the room, as many as it has place for. A character that begins no pair of
+// digits is passed over, so how far a step goes depends on the text.
 fn unhex(text: &[u8], room: &mut [u8]) -> usize {
     let mut n = 0;
-    let mut high = None;
-    for x in text {
-        let low = digit(*x);
-        high = match (high, low) {
+    let mut i = 0;
+    while i + 1 < text.len() {
+        match (digit(text[i]), digit(text[i + 1])) {
             (Some(high), Some(low)) => {
                 bytes::put(room, n, high * 16 + low);
                 n += 1;
-                None
+                i += 2;
             }
-            _ => low,
-        };
+            _ => i += 1,
+        }
     }
     n
 }

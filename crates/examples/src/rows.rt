@@ -28,7 +28,7 @@ pub(crate) fn load(alloc: Global, s: &[u8], n: usize) -> Result<Vec<u32>, AllocE
         return space(alloc);
     }
     let (numbers, _) = s.as_chunks::<4>();
-    let mut table = Vec::new(alloc);
+    let mut table = Vec::with_capacity(alloc, 9 * n)?;
     // A number may be that of the row above, so they come by their places.
     for i in 0..9 * n {
         let x = match numbers.get(i) {
