@@ -26,7 +26,7 @@ use sheet::{Origin, Sheet};
 use start::Start;
 use std::env::Env;
 use std::io;
-use std::io::{Read, Write};
+use std::io::Write;
 use std::rt::Files;
 use tell::{Status, Trouble};
 
@@ -57,31 +57,42 @@ fn run<R: Env + Files + Input>(
         return Ok(tell::help(out).map(|()| Status::Accepted));
     }
     let sheet = sheet::load(rt, err, common).ok_or(Trouble::Sheet)?;
-    if let Some(Stream::File(i)) = asked.stream {
-        let mut space = [0u8; 4096];
-        let path = options::argument(rt, i, &mut space);
-        let mut file = reading::open(rt, path).map_err(Trouble::Input)?;
-        return show(&mut file, out, asked, &sheet);
+    let mut space = [0u8; 4096];
+    let file = match asked.stream {
+        Some(Stream::File(i)) => {
+            let path = options::argument(rt, i, &mut space);
+            Some(reading::open(rt, path).map_err(Trouble::Input)?)
+        }
+        _ => None,
+    };
+    if asked.tidy {
+        return show_layout(rt, file, out, asked, &sheet);
     }
-    show(&mut rt.reader(), out, asked, &sheet)
+    show_stream(rt, file, out, &sheet)
 }
 
-// Shows an open file: a layout where it is asked whether that is tidy, else a stream.
-fn show(
-    input: &mut impl Read,
+// Shows whether the layout of a file, or of standard input where there is none, is tidy. The store is in this function's frame, one for both.
+fn show_layout<R: Files + Input>(
+    rt: &R,
+    file: Option<R::File>,
     out: &mut impl Write,
     asked: Options,
     sheet: &Sheet,
 ) -> Result<io::Result<Status>, Trouble> {
-    if asked.tidy {
-        return tidiness::show(input, out, asked, sheet);
-    }
-    show_stream(input, out, sheet)
+    let mut store = store::space();
+    let n = match file {
+        Some(mut file) => tidiness::read_all(&mut file, &mut store),
+        None => tidiness::read_all(&mut rt.reader(), &mut store),
+    };
+    let n = n.map_err(Trouble::Input)?.ok_or(Trouble::LongLayout)?;
+    Ok(tidiness::report(out, command_line::front(&store, n), asked, sheet))
 }
 
-// Shows the stream of an open file. The store and the tables are in this function's frame: show needs no heap.
-fn show_stream(
-    input: &mut impl Read,
+// Shows the stream of a file, or of standard input where there is none. The store and the tables are in this function's frame, one for both:
+// show needs no heap.
+fn show_stream<R: Files + Input>(
+    rt: &R,
+    file: Option<R::File>,
     out: &mut impl Write,
     sheet: &Sheet,
 ) -> Result<io::Result<Status>, Trouble> {
@@ -89,7 +100,11 @@ fn show_stream(
     let mut symbology = store::symbology_table();
     let mut layout = store::layout_table();
     let mut start = Start::new(&mut store, &mut symbology, &mut layout);
-    let answer = start.read(input, sheet).map_err(Trouble::Input)?;
+    let answer = match file {
+        Some(mut file) => start.read(&mut file, sheet),
+        None => start.read(&mut rt.reader(), sheet),
+    };
+    let answer = answer.map_err(Trouble::Input)?;
     Ok(report(out, &start, answer, sheet.origin))
 }
 

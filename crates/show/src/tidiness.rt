@@ -1,27 +1,14 @@
 // Whether a layout, given by itself, is in the plain form that the writer gives.
 use crate::options::Options;
 use crate::sheet::Sheet;
-use crate::tell::{Status, Trouble};
-use crate::{refusals, store, width};
+use crate::tell::Status;
+use crate::{refusals, width};
 use std::io;
 use std::io::{Read, Write};
 
-// Shows whether the layout of an open file is tidy, and answers the status.
-pub(crate) fn show(
-    input: &mut impl Read,
-    out: &mut impl Write,
-    asked: Options,
-    sheet: &Sheet,
-) -> Result<io::Result<Status>, Trouble> {
-    let mut store = store::space();
-    let n = read_all(input, &mut store).map_err(Trouble::Input)?;
-    let n = n.ok_or(Trouble::LongLayout)?;
-    Ok(report(out, command_line::front(&store, n), asked, sheet))
-}
-
 // Reads a layout to its end, in pieces of 4,096 bytes, and answers how long it is; nothing where the store has no room for a piece. Each
 // turn takes a byte at least, so after as many turns as the store has bytes there is room for no more.
-fn read_all(input: &mut impl Read, store: &mut [u8]) -> io::Result<Option<usize>> {
+pub(crate) fn read_all(input: &mut impl Read, store: &mut [u8]) -> io::Result<Option<usize>> {
     let mut held = 0;
     for _ in 0..=store.len() {
         let mut piece = [0u8; 4096];
@@ -39,7 +26,7 @@ fn read_all(input: &mut impl Read, store: &mut [u8]) -> io::Result<Option<usize>
 }
 
 // Writes whether a layout is tidy, else the refusal, and then what it was judged with.
-fn report(
+pub(crate) fn report(
     out: &mut impl Write,
     layout: &[u8],
     asked: Options,
