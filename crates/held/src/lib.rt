@@ -60,7 +60,7 @@ pub fn pour(held: usize, store: &mut [u8], piece: &[u8], stage: Result<Holding, 
 }
 
 // Puts the first n bytes of the piece into the store, from place `at` on. A loop and not a copied slice: that is a call of `memmove`, which
-// a caller in C would have to bring, and records of 56 bytes took longer by it.
+// a caller in C would have to bring, and a record that comes a byte at a time took 1.4 of the time by it.
 fn copy(store: &mut [u8], at: usize, piece: &[u8], n: usize)
     requires { (n ≤ length store.old - at) × (n ≤ length piece.now) }
     ensures { store.new ≡ paste store.old at piece.now n }
