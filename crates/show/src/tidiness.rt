@@ -1,4 +1,7 @@
 // Whether a layout, given by itself, is in the plain form that the writer gives.
+ghost use Rattle.std.specs.Prelude.{IfOk, IfSome};
+ghost use Rattle.std.specs.Io.KnownBytes.{IsAtEnd};
+
 use crate::options::Options;
 use crate::sheet::Sheet;
 use crate::tell::Status;
@@ -8,7 +11,9 @@ use std::io::{Read, Write};
 
 // Reads a layout to its end, in pieces of 4,096 bytes, and answers how long it is; nothing where the store has no room for a piece. Each
 // turn takes a byte at least, so after as many turns as the store has bytes there is room for no more.
-pub(crate) fn read_all(input: &mut impl Read, store: &mut [u8]) -> io::Result<Option<usize>> {
+pub(crate) fn read_all<R: Read>(input: &mut R, store: &mut [u8]) -> io::Result<Option<usize>>
+    ensures { IfOk result (λ read. IfSome read (λ _. IsAtEnd (R.remaining input.new))) }
+{
     let mut held = 0;
     for _ in 0..=store.len() {
         let mut piece = [0u8; 4096];
