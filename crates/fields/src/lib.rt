@@ -67,36 +67,28 @@ pub fn check_field(
     ensures { result ≡ fault (field_fault sheet.now frame.width frame.labels aligns.now frame.is_record frame.base seen e) }
 {
     if breaks_71(sheet, seen, e) {
-        return Some(refusal::ID_TWICE);
+        Some(refusal::ID_TWICE)
+    } else if breaks_72(sheet, frame, e) {
+        Some(refusal::STRUCT_IN_STRUCT)
+    } else if breaks_73(sheet, aligns, frame, e) {
+        Some(refusal::DEF_INDEX)
+    } else if breaks_74(sheet, aligns, e) {
+        Some(refusal::MISALIGNED)
+    } else if size_of(e) == 0 {
+        Some(refusal::SIZE_ZERO)
+    } else if breaks_76(sheet, e) {
+        Some(refusal::DECIMAL_SCALE)
+    } else if breaks_77(sheet, frame, e) {
+        Some(refusal::SYMBOL_WIDTH)
+    } else if 65535 < end_of(e) {
+        Some(refusal::FIELD_END)
+    } else if breaks_79(sheet, frame, e) {
+        Some(refusal::EXTENSION_MARK)
+    } else if breaks_80(frame, e) {
+        Some(refusal::PAST_BASE)
+    } else {
+        None
     }
-    if breaks_72(sheet, frame, e) {
-        return Some(refusal::STRUCT_IN_STRUCT);
-    }
-    if breaks_73(sheet, aligns, frame, e) {
-        return Some(refusal::DEF_INDEX);
-    }
-    if breaks_74(sheet, aligns, e) {
-        return Some(refusal::MISALIGNED);
-    }
-    if size_of(e) == 0 {
-        return Some(refusal::SIZE_ZERO);
-    }
-    if breaks_76(sheet, e) {
-        return Some(refusal::DECIMAL_SCALE);
-    }
-    if breaks_77(sheet, frame, e) {
-        return Some(refusal::SYMBOL_WIDTH);
-    }
-    if 65535 < end_of(e) {
-        return Some(refusal::FIELD_END);
-    }
-    if breaks_79(sheet, frame, e) {
-        return Some(refusal::EXTENSION_MARK);
-    }
-    if breaks_80(frame, e) {
-        return Some(refusal::PAST_BASE);
-    }
-    None
 }
 
 // ---- numbers

@@ -99,8 +99,8 @@ returns-then-breaks_80 c =
     (sym c.breaks_79.ensures ∙ c.if-breaks_79.false)
     (sym c.breaks_80.ensures ∙ c.if-breaks_80.true)
 
-pub returns : goal.returns
-returns c =
+pub returns-else-breaks_80 : goal.returns-else-breaks_80
+returns-else-breaks_80 c =
     fault-none _ _ _ _ _ _ _ _
     (sym c.breaks_71.ensures ∙ c.if-breaks_71.false)
     (sym c.breaks_72.ensures ∙ c.if-breaks_72.false)
